@@ -1,0 +1,243 @@
+//! An operand before and after an edit.
+ghost use Rattle.std.specs.Prelude.{◌≡◌, ◌<◌, ◌≤◌, [], slice_index_or, replicate, None};
+ghost use Rattle.map_nums.specs.Grids.{IsSize, cells_in};
+ghost use Rattle.layer_tiles.specs.Tiles.{ChangeState, tile_block, tiles_in, patched, window_of, span_of, tiles_lent};
+ghost use Rattle.layer_tiles.specs.Tallies.{looked, picked};
+ghost use Rattle.layer_tiles.specs.Changes.{HoldsAll, change_of, IsChangeBody, IsRowOfOne, same_change, patched_change, fresh_change, constant_change};
+
+use crate::cells::Cell;
+use crate::extents::Extent;
+use crate::layers::Layer;
+use crate::patches::Patch;
+use crate::tallies::Tally;
+use crate::views::TileView;
+use crate::windows::{Window, span};
+use std::marker::Model;
+
+/// An operand before and after an edit.
+#[derive(Drop)]
+pub struct Change<'a> {
+    body: Body<'a>,
+}
+
+/// What a change is made of.
+#[derive(Drop)]
+pub(crate) enum Body<'a> {
+    Same(&'a Layer),
+    Patched(&'a Layer, &'a Patch),
+    Fresh(&'a Patch),
+    Constant(Extent, [Cell; 32]),
+}
+
+impl<'a> Model for Change<'a> {
+    ghost use Rattle.layer_tiles.specs.Tiles.{ChangeState};
+
+    ghost Value = { ChangeState };
+
+    ghost use Rattle.layer_tiles.specs.Changes.{change_of, IsChangeBody};
+
+    ghost view = { λ c. change_of c.body };
+
+    ghost invariant = { λ c. IsChangeBody c.body };
+}
+
+impl<'a> Body<'a> {
+    /// A cell after the edit, uncounted.
+    pub(crate) fn cell(&self, at: u32) -> Cell
+        requires body { IsChangeBody self.now }
+        requires within { at < cells_in (change_of self.now).size }
+        ensures { result ≡ slice_index_or (change_of self.now).cells at None }
+    {
+        match self {
+            Body::Same(layer) => layer.peek(at),
+            Body::Patched(layer, patch) => patched_cell(layer, patch, at),
+            Body::Fresh(patch) => fresh_cell(patch, at),
+            Body::Constant(_, row) => row[0],
+        }
+    }
+}
+
+/// A cell of a layer after tiles were replaced.
+fn patched_cell(layer: &Layer, patch: &Patch, at: u32) -> Cell
+    requires within { at < cells_in layer.now.size }
+    requires same { patch.now.size ≡ layer.now.size }
+    ensures { result ≡ slice_index_or (patched layer.now.size layer.now.cells patch.now.tiles) at None }
+{
+    let extent = patch.extent();
+    match patch.find(extent.tile_of(at)) {
+        Some(tile) => tile.cell(extent.place_in(at)),
+        None => layer.peek(at),
+    }
+}
+
+/// A cell of a patch that holds every tile.
+fn fresh_cell(patch: &Patch, at: u32) -> Cell
+    requires within { at < cells_in patch.now.size }
+    requires all { HoldsAll patch.now }
+    ensures { result ≡ slice_index_or (patched patch.now.size [] patch.now.tiles) at None }
+{
+    let extent = patch.extent();
+    let place = extent.place_in(at);
+    match patch.find(extent.tile_of(at)) {
+        Some(tile) => tile.cell(place),
+        None => unreachable!(),
+    }
+}
+
+impl<'a> Change<'a> {
+    /// A layer that stays as it is.
+    pub fn same(layer: &'a Layer) -> Change<'a>
+        ensures { result ≡ same_change layer.now }
+    {
+        let _extent = layer.extent();
+        Change {
+            body: Body::Same(layer),
+        }
+    }
+
+    /// A layer and the tiles that are to replace some of its own.
+    pub fn patched(layer: &'a Layer, patch: &'a Patch) -> Change<'a>
+        requires { patch.now.size ≡ layer.now.size }
+        ensures { result ≡ patched_change layer.now patch.now }
+    {
+        let _extent = layer.extent();
+        let _same = patch.extent();
+        Change {
+            body: Body::Patched(layer, patch),
+        }
+    }
+
+    /// The tiles of a layer that was not there.
+    pub fn fresh(patch: &'a Patch) -> Change<'a>
+        requires { HoldsAll patch.now }
+        ensures { result ≡ fresh_change patch.now }
+    {
+        let _extent = patch.extent();
+        Change {
+            body: Body::Fresh(patch),
+        }
+    }
+
+    /// One cell everywhere.
+    pub fn constant(extent: Extent, cell: Cell) -> Change<'a>
+        ensures { result ≡ constant_change extent cell }
+    {
+        let _rows = extent.rows();
+        Change {
+            body: Body::Constant(extent, [cell; 32]),
+        }
+    }
+
+    pub fn extent(&self) -> Extent
+        ensures extent { result ≡ self.now.size }
+        ensures size { IsSize self.now.size }
+    {
+        match &self.body {
+            Body::Same(layer) => layer.extent(),
+            Body::Patched(layer, _) => layer.extent(),
+            Body::Fresh(patch) => patch.extent(),
+            Body::Constant(extent, _) => *extent,
+        }
+    }
+
+    /// The tiles that meet a tile's square grown by a reach, after the edit. One look each.
+    pub fn window<M: Tally>(&self, tile: u32, reach: u32, tally: &mut M) -> Window<'a>
+        requires within { tile < tiles_in self.now.size }
+        requires reach { reach ≤ 64 }
+        ensures window { result ≡ window_of self.now.size self.now.cells tile reach }
+        ensures looks { M.counts tally.new ≡ looked (tiles_lent (span_of self.now.size tile reach)) (M.counts tally.old) }
+    {
+        let lent = span(self.extent(), tile, reach, tally);
+        match &self.body {
+            Body::Same(layer) => return Window::of_layer(layer, lent),
+            Body::Patched(layer, patch) => return Window::of_patched(layer, patch, lent),
+            Body::Fresh(patch) => return Window::of_patch(patch, lent),
+            Body::Constant(extent, row) => return Window::of_cell(*extent, *row, lent),
+        }
+    }
+
+    /// One cell after the edit. One pick.
+    pub fn cell<M: Tally>(&self, at: u32, tally: &mut M) -> Cell
+        requires { at < cells_in self.now.size }
+        ensures cell { result ≡ slice_index_or self.now.cells at None }
+        ensures pick { M.counts tally.new ≡ picked 1 (M.counts tally.old) }
+    {
+        tally.pick();
+        self.body.cell(at)
+    }
+
+    /// A tile after the edit. One look.
+    pub fn view<M: Tally>(&self, tile: u32, tally: &mut M) -> TileView<'_>
+        requires { tile < tiles_in self.now.size }
+        ensures tile { result ≡ tile_block self.now.size self.now.cells tile }
+        ensures look { M.counts tally.new ≡ looked 1 (M.counts tally.old) }
+    {
+        match &self.body {
+            Body::Same(layer) => return layer.view(tile, tally),
+            Body::Patched(layer, patch) => return view_patched(layer, patch, tile, tally),
+            Body::Fresh(patch) => return view_fresh(patch, tile, tally),
+            Body::Constant(extent, row) => return view_constant(*extent, row, tile, tally),
+        }
+    }
+}
+
+/// A tile of a layer after tiles were replaced.
+fn view_patched<'b, M: Tally>(
+    layer: &'b Layer,
+    patch: &'b Patch,
+    tile: u32,
+    tally: &mut M,
+) -> TileView<'b>
+    requires within { tile < tiles_in layer.now.size }
+    requires same { patch.now.size ≡ layer.now.size }
+    ensures tile { result ≡ tile_block layer.now.size (patched layer.now.size layer.now.cells patch.now.tiles) tile }
+    ensures look { M.counts tally.new ≡ looked 1 (M.counts tally.old) }
+{
+    let _extent = patch.extent();
+    match patch.find(tile) {
+        Some(cells) => {
+            tally.look();
+            cells.view()
+        }
+        None => layer.view(tile, tally),
+    }
+}
+
+/// A tile of a patch that holds every tile.
+fn view_fresh<'b, M: Tally>(patch: &'b Patch, tile: u32, tally: &mut M) -> TileView<'b>
+    requires within { tile < tiles_in patch.now.size }
+    requires all { HoldsAll patch.now }
+    ensures tile { result ≡ tile_block patch.now.size (patched patch.now.size [] patch.now.tiles) tile }
+    ensures look { M.counts tally.new ≡ looked 1 (M.counts tally.old) }
+{
+    let _extent = patch.extent();
+    tally.look();
+    match patch.find(tile) {
+        Some(cells) => cells.view(),
+        None => unreachable!(),
+    }
+}
+
+/// A tile of one cell everywhere.
+fn view_constant<'b, M: Tally>(
+    extent: Extent,
+    row: &'b [Cell; 32],
+    tile: u32,
+    tally: &mut M,
+) -> TileView<'b>
+    requires within { tile < tiles_in extent }
+    requires one { IsRowOfOne row.now }
+    ensures tile { result ≡ tile_block extent (replicate (cells_in extent) (slice_index_or row.now 0 None)) tile }
+    ensures look { M.counts tally.new ≡ looked 1 (M.counts tally.old) }
+{
+    tally.look();
+    let place = extent.place(tile);
+    TileView::lend(row, 0, 0, place.height as usize, place.width as usize)
+}
+
+impl<'a> Default for Change<'a> {
+    /// Null in one cell.
+    fn default() -> Self {
+        Change::constant(Extent::one(), Cell::null())
+    }
+}

@@ -1,0 +1,140 @@
+//! The size of a grid, and its tiles.
+ghost use Rattle.std.specs.Prelude.{◌≡◌, ◌↔◌, ◌<◌, ◌≤◌, ℕ, IsSome, IfSome};
+ghost use Rattle.map_nums.specs.Grids.{Size, IsSize, cells_in};
+ghost use Rattle.layer_tiles.specs.Tiles.{tiles_in, tile_of, tile_size, place_in, tiles_across, tiles_down, IsPlaced};
+ghost use Rattle.layer_tiles.specs.Places.{IsPlaceOf};
+
+use std::marker::Model;
+
+/// The rows and columns of a grid.
+#[derive(Clone, Copy)]
+pub struct Extent {
+    rows: u32,
+    columns: u32,
+}
+
+impl Model for Extent {
+    ghost use Rattle.map_nums.specs.Grids.{Size, IsSize};
+
+    ghost Value = { Size };
+
+    ghost view = { λ e. record { rows = e.rows; columns = e.columns } };
+
+    ghost invariant = { λ e. IsSize (record { rows = e.rows; columns = e.columns }) };
+
+    ghost inverse = { λ s. record { rows = s.rows; columns = s.columns } };
+}
+
+impl Extent {
+    pub fn new(rows: u32, columns: u32) -> Option<Extent>
+        ensures fits { IsSome result ↔ IsSize (record { rows = rows; columns = columns }) }
+        ensures size { IfSome result (λ e. e ≡ record { rows = rows; columns = columns }) }
+    {
+        if rows < 1 || rows > 4096 || columns < 1 || columns > 4096 || rows * columns > 1_500_000 {
+            return None;
+        }
+        Some(Extent { rows, columns })
+    }
+
+    /// One cell.
+    pub(crate) fn one() -> Extent {
+        Extent { rows: 1, columns: 1 }
+    }
+
+    pub fn rows(&self) -> u32
+        ensures rows { result ≡ self.now.rows }
+        ensures size { IsSize self.now }
+    {
+        self.rows
+    }
+
+    pub fn columns(&self) -> u32
+        ensures columns { result ≡ self.now.columns }
+        ensures size { IsSize self.now }
+    {
+        self.columns
+    }
+
+    pub fn cells(&self) -> u32
+        ensures cells { result ≡ cells_in self.now }
+        ensures size { IsSize self.now }
+    {
+        self.rows * self.columns
+    }
+
+    /// How many tiles lie side by side.
+    #[tactic(auto, unfolding(crate::specs::Tiles::tiles_across))]
+    pub fn tiles_across(&self) -> u32
+        ensures across { result ≡ tiles_across self.now }
+        ensures size { IsSize self.now }
+    {
+        (self.columns + 31) / 32
+    }
+
+    #[tactic(auto, unfolding(crate::specs::Tiles::tiles_down))]
+    pub fn tiles_down(&self) -> u32
+        ensures down { result ≡ tiles_down self.now }
+        ensures size { IsSize self.now }
+    {
+        (self.rows + 31) / 32
+    }
+
+    /// How many tiles there are.
+    #[tactic(auto, unfolding(crate::specs::Tiles::tiles_in, crate::specs::Tiles::tiles_across, crate::specs::Tiles::tiles_down))]
+    pub fn tiles(&self) -> u32
+        ensures tiles { result ≡ tiles_in self.now }
+        ensures size { IsSize self.now }
+    {
+        (self.rows + 31) / 32 * ((self.columns + 31) / 32)
+    }
+
+    /// The tile of a cell.
+    #[tactic(auto, unfolding(crate::specs::Tiles::tile_of, crate::specs::Tiles::tiles_across))]
+    pub fn tile_of(&self, at: u32) -> u32
+        requires { at < cells_in self.now }
+        ensures { result ≡ tile_of self.now at }
+    {
+        at / self.columns / 32 * ((self.columns + 31) / 32) + at % self.columns / 32
+    }
+
+    /// The place of a cell within its tile.
+    pub(crate) fn place_in(&self, at: u32) -> usize
+        requires { at < cells_in self.now }
+        ensures place { result ≡ place_in self.now at }
+        ensures within { result < tile_size self.now (tile_of self.now at) }
+        ensures tile { tile_of self.now at < tiles_in self.now }
+    {
+        let columns = self.columns();
+        let width = self.place(self.tile_of(at)).width as usize;
+        (at / columns % 32) as usize * width + (at % columns % 32) as usize
+    }
+
+    /// Where a tile lies.
+    pub fn place(&self, tile: u32) -> Place
+        requires { tile < tiles_in self.now }
+        ensures place { IsPlaceOf self.now tile result }
+        ensures placed { IsPlaced self.now tile }
+        ensures size { IsSize self.now }
+    {
+        let across = self.tiles_across();
+        let rows = self.rows();
+        let columns = self.columns();
+        let top = tile / across * 32;
+        let left = tile % across * 32;
+        Place {
+            top,
+            left,
+            height: (rows - top).min(32),
+            width: (columns - left).min(32),
+        }
+    }
+}
+
+/// Where a tile lies: its first row and column, from 0, and its size.
+#[derive(Clone, Copy)]
+pub struct Place {
+    pub top: u32,
+    pub left: u32,
+    pub height: u32,
+    pub width: u32,
+}

@@ -1,0 +1,122 @@
+//! A whole grid of cells, with a stamp for each tile.
+ghost use Rattle.std.specs.Prelude.{◌≡◌, ◌<◌, ◌≤◌, length, replicate, slice_index, slice_index_or, IfOk, None};
+ghost use Rattle.map_nums.specs.Grids.{cells_in};
+ghost use Rattle.layer_tiles.specs.Tiles.{LayerState, IsLayer, tiles_in, tile_block, window_of, span_of, tiles_lent, IsCommitted};
+ghost use Rattle.layer_tiles.specs.Tallies.{looked, picked};
+
+use crate::cells::Cell;
+use crate::extents::Extent;
+use crate::patches::Patch;
+use crate::tallies::Tally;
+use crate::views::TileView;
+use crate::windows::{Window, span};
+use crate::writes::{stamp_tiles, write_tiles};
+use map_nums::NoMemory;
+use std::alloc::Global;
+use std::marker::Model;
+
+/// A whole grid of cells, with a stamp for each tile.
+#[derive(Drop)]
+pub struct Layer {
+    extent: Extent,
+    cells: Vec<Cell>,
+    stamps: Vec<u64>,
+}
+
+impl Model for Layer {
+    ghost use Rattle.layer_tiles.specs.Tiles.{LayerState, IsLayer};
+
+    ghost Value = { LayerState };
+
+    ghost view = { λ l. record { size = l.extent; cells = l.cells.items; stamps = l.stamps.items } };
+
+    ghost invariant = { λ l. IsLayer (record { size = l.extent; cells = l.cells.items; stamps = l.stamps.items }) };
+}
+
+impl Layer {
+    pub fn extent(&self) -> Extent
+        ensures extent { result ≡ self.now.size }
+        ensures layer { IsLayer self.now }
+    {
+        self.extent
+    }
+
+    /// A layer of cells, row by row, with one stamp for all tiles.
+    pub fn from_cells(alloc: Global, extent: Extent, cells: &[Cell], stamp: u64) -> Result<Layer, NoMemory>
+        requires { length cells.now ≡ cells_in extent }
+        ensures { IfOk result (λ layer. layer ≡ record { size = extent; cells = cells.now; stamps = replicate (tiles_in extent) stamp }) }
+    {
+        let count = extent.tiles() as usize;
+        let kept = Vec::from_slice(alloc, cells)?;
+        let stamps = vec![in alloc; stamp; count]?;
+        Ok(Layer {
+            extent,
+            cells: kept,
+            stamps,
+        })
+    }
+
+    /// A tile of the layer. One look.
+    pub fn view<'a, M: Tally>(&'a self, tile: u32, tally: &mut M) -> TileView<'a>
+        requires { tile < tiles_in self.now.size }
+        ensures tile { result ≡ tile_block self.now.size self.now.cells tile }
+        ensures look { M.counts tally.new ≡ looked 1 (M.counts tally.old) }
+    {
+        tally.look();
+        let place = self.extent.place(tile);
+        let columns = self.extent.columns() as usize;
+        TileView::lend(
+            &self.cells,
+            place.top as usize * columns + place.left as usize,
+            columns,
+            place.height as usize,
+            place.width as usize,
+        )
+    }
+
+    /// One cell. One pick.
+    pub fn cell<M: Tally>(&self, at: u32, tally: &mut M) -> Cell
+        requires { at < cells_in self.now.size }
+        ensures cell { result ≡ slice_index_or self.now.cells at None }
+        ensures pick { M.counts tally.new ≡ picked 1 (M.counts tally.old) }
+    {
+        tally.pick();
+        self.cells[at as usize]
+    }
+
+    /// The stamp of a tile.
+    pub fn stamp(&self, tile: u32) -> u64
+        requires { tile < tiles_in self.now.size }
+        ensures { result ≡ slice_index self.now.stamps tile }
+    {
+        self.stamps[tile as usize]
+    }
+
+    /// Puts each tile of a patch in place of the layer's own. A tile whose cells differ gets the stamp.
+    pub fn commit(&mut self, patch: Patch, stamp: u64)
+        requires { patch.size ≡ self.old.size }
+        ensures { IsCommitted self.old patch stamp self.new }
+    {
+        stamp_tiles(self.extent, &patch, &self.cells, &mut self.stamps, stamp);
+        write_tiles(self.extent, &patch, &mut self.cells);
+    }
+
+    /// The tiles that meet a tile's square grown by a reach. One look each.
+    pub fn window<M: Tally>(&self, tile: u32, reach: u32, tally: &mut M) -> Window<'_>
+        requires within { tile < tiles_in self.now.size }
+        requires reach { reach ≤ 64 }
+        ensures window { result ≡ window_of self.now.size self.now.cells tile reach }
+        ensures looks { M.counts tally.new ≡ looked (tiles_lent (span_of self.now.size tile reach)) (M.counts tally.old) }
+    {
+        let lent = span(self.extent(), tile, reach, tally);
+        Window::of_layer(self, lent)
+    }
+
+    /// One cell, uncounted.
+    pub(crate) fn peek(&self, at: u32) -> Cell
+        requires { at < cells_in self.now.size }
+        ensures { result ≡ slice_index_or self.now.cells at None }
+    {
+        self.cells[at as usize]
+    }
+}

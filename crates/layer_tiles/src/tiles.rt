@@ -1,0 +1,94 @@
+//! One tile of cells.
+ghost use Rattle.std.specs.Prelude.{◌≡◌, ◌+◌, ◌*◌, ◌<◌, length, replicate, slice_set, slice_index_or, IfOk, None, IsTrue, ◌↔◌};
+ghost use Rattle.layer_tiles.specs.Tiles.{Block, row_of, tiles_in, tile_size, tile_height, tile_width};
+
+use crate::cells::Cell;
+use crate::extents::Extent;
+use crate::views::TileView;
+use map_nums::NoMemory;
+use std::alloc::Global;
+use std::marker::Model;
+
+/// A rectangle of cells, of the size of a tile.
+#[derive(Drop)]
+pub struct Tile {
+    height: usize,
+    width: usize,
+    cells: Vec<Cell>,
+}
+
+impl Model for Tile {
+    ghost use Rattle.layer_tiles.specs.Tiles.{Block, IsBlock};
+
+    ghost Value = { Block };
+
+    ghost view = { λ t. record { height = t.height; width = t.width; cells = t.cells.items } };
+
+    ghost invariant = { λ t. IsBlock (record { height = t.height; width = t.width; cells = t.cells.items }) };
+}
+
+impl Tile {
+    /// A tile of one cell everywhere.
+    pub fn new(alloc: Global, extent: Extent, tile: u32, fill: Cell) -> Result<Tile, NoMemory>
+        requires { tile < tiles_in extent }
+        ensures { IfOk result
+            (λ t. t ≡ record { height = tile_height extent tile; width = tile_width extent tile; cells = replicate (tile_size extent tile) fill }) }
+    {
+        let place = extent.place(tile);
+        let height = place.height as usize;
+        let width = place.width as usize;
+        Ok(Tile {
+            height,
+            width,
+            cells: vec![in alloc; fill; height * width]?,
+        })
+    }
+
+    /// Sets the cell of a row and a column, counted from 0 within the tile.
+    pub fn set(&mut self, r: u32, c: u32, cell: Cell)
+        requires row { r < self.old.height }
+        requires column { c < self.old.width }
+        ensures { self.new ≡ record self.old { cells = slice_set self.old.cells (r * self.old.width + c) cell } }
+    {
+        let at = r as usize * self.width + c as usize;
+        self.cells[at] = cell;
+    }
+
+    /// A row of the tile, counted from 0 within it.
+    pub fn row(&self, r: u32) -> &[Cell]
+        requires { r < self.now.height }
+        ensures row { result.now ≡ row_of self.now r }
+        ensures width { length result.now ≡ self.now.width }
+    {
+        let first = r as usize * self.width;
+        &self.cells[first..first + self.width]
+    }
+
+    /// The tile, lent.
+    pub(crate) fn view(&self) -> TileView<'_>
+        ensures { result ≡ self.now }
+    {
+        TileView::lend(&self.cells, 0, self.width, self.height, self.width)
+    }
+
+    /// The cell at a place, row by row.
+    pub(crate) fn cell(&self, k: usize) -> Cell
+        requires { k < length self.now.cells }
+        ensures { result ≡ slice_index_or self.now.cells k None }
+    {
+        self.cells[k]
+    }
+}
+
+/// Whether two lists hold the same cells.
+pub(crate) fn same_cells(one: &[Cell], other: &[Cell]) -> bool
+    requires { length one.now ≡ length other.now }
+    ensures { IsTrue result ↔ (one.now ≡ other.now) }
+{
+    for k in 0..one.len() {
+        if !one[k].same(&other[k]) {
+            return false;
+        }
+    }
+    true
+}
