@@ -1,6 +1,6 @@
 //! Words that are numbers.
 
-ghost use Rattle.std.specs.Prelude.{◌≡◌, ◌-◌, ◌^◌, Some};
+ghost use Rattle.std.specs.Prelude.{◌≡◌, ◌-◌, ◌^◌, ◌≤ℤ◌, Some, IfSome};
 ghost use Rattle.std.specs.List.{list_all};
 ghost use Rattle.std.specs.Char.{is_ascii_digit};
 ghost use Rattle.map_words.specs.Numbers as spec;
@@ -40,7 +40,8 @@ fn with_sign(negative: bool, magnitude: u64) -> i128
 
 /// A number from `low` to `high`.
 fn between(low: i64, high: i64, value: i128) -> Option<i64>
-    ensures { result ≡ spec.if_between low high (Some value) }
+    ensures value { result ≡ spec.if_between low high (Some value) }
+    ensures within { IfSome result (λ z. (low ≤ℤ z) × (z ≤ℤ high)) }
 {
     if value < low as i128 {
         return None;
@@ -53,7 +54,8 @@ fn between(low: i64, high: i64, value: i128) -> Option<i64>
 
 /// The number that digits write, with its sign, where it is from `low` to `high`.
 fn signed(negative: bool, digits: &[u8], low: i64, high: i64) -> Option<i64>
-    ensures { result ≡ spec.if_between low high (spec.signed_text negative digits.now) }
+    ensures value { result ≡ spec.if_between low high (spec.signed_text negative digits.now) }
+    ensures within { IfSome result (λ z. (low ≤ℤ z) × (z ≤ℤ high)) }
 {
     match unsigned(digits) {
         None => None,
@@ -64,7 +66,8 @@ fn signed(negative: bool, digits: &[u8], low: i64, high: i64) -> Option<i64>
 /// The number that a word is, where it is one from `low` to `high`.
 #[tactic(auto, unfolding(crate::specs::Numbers::number_text))]
 pub fn number_in(low: i64, high: i64, text: &[u8]) -> Option<i64>
-    ensures { result ≡ spec.number_in low high text.now }
+    ensures value { result ≡ spec.number_in low high text.now }
+    ensures within { IfSome result (λ z. (low ≤ℤ z) × (z ≤ℤ high)) }
 {
     match text {
         [] => None,
