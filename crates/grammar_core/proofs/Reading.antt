@@ -1,9 +1,9 @@
 -- A parser's functions on lists read by a rule: one place after the other, and then whatever follows.
 use Rattle.std.proofs.Common.{◌≡◌, ℕ, suc, Bool, true, false, cond, ◌&&◌, List, [], ◌∷◌, length, Option, Some, None, Result, Ok, Err, refl, ap, ◌∙◌}
 use Rattle.std.specs.Prelude.{is_some}
-use Rattle.grammar_core.specs.declared.Kind.TheVariants.{Operation}
+use Rattle.grammar_core.specs.declared.Kind.TheVariants.{Syntax, Operation}
 use Rattle.grammar_core.specs.declared.Fault.{Fault}
-use Rattle.grammar_core.specs.Rules.{Rule, fail, step, ends, on, next, after, also}
+use Rattle.grammar_core.specs.Rules.{Rule, fail, node, step, ends, on, next, after, also, or_rule, ◌<|>◌}
 use Rattle.grammar_core.specs.Refusals.{Tests, is_unknown}
 use Rattle.grammar_core.specs.Run.{is_node, refused, kind_at, run}
 use Rattle.grammar_core.specs.Readers.{◌>>=◌, Read, taken, fault_kind, one_at, end_at, starts}
@@ -62,6 +62,45 @@ module _ {W X : Type 0} (g : Tests W) where
   unfolding run
   end_reads x [] = refl
   end_reads x (w ∷ ws) = refl
+
+  -- what a place gives, or a refusal at its word
+  abbrev pub or_refused : {A : Type 0} → Option A → ℕ → (A → Result X Fault) → Result X Fault
+  or_refused None n h = refused Syntax n
+  or_refused (Some v) n h = h v
+
+  -- a place where an operation is due, and no number
+  pub body_place : {A : Type 0} (f : W → Option A) (h : A → List W → Result X Fault) (r : A → Rule W X) → is_some (f g.operation) ≡ true → is_some (f g.number) ≡ false → AllNodes r → Reads h r
+      → (w : W) (ws : List W) → cond (is_unknown g (w ∷ ws)) (refused Operation (suc (length ws))) (or_refused (f w) (suc (length ws)) (λ v. h v ws)) ≡ run g (next f r) (w ∷ ws)
+  unfolding run
+  body_place {A = A} f h r due none nodes reads w ws = go (f w)
+    where
+      go : (s : Option A) → cond (is_unknown g (w ∷ ws)) (refused Operation (suc (length ws))) (or_refused s (suc (length ws)) (λ v. h v ws))
+         ≡ cond (is_node (after (f g.operation) r) && is_unknown g (w ∷ ws)) (refused Operation (suc (length ws)))
+           (cond (is_node (after s r)) (run g (after s r) ws) (refused (kind_at g (next f r) (w ∷ ws)) (suc (length ws))))
+      go None = rw (taken_is r nodes (f g.operation), due, taken_is r nodes (f g.number), none) refl
+      go (Some v) = rw (taken_is r nodes (f g.operation), due, nodes v) (ap (cond (is_unknown g (w ∷ ws)) (refused Operation (suc (length ws)))) (reads v ws))
+
+  not_there : {A : Type 0} (s : Option A) (q : A → Rule W X) → is_some s ≡ false → after s q ≡ fail
+  not_there None q e = refl
+  not_there (Some v) q e = absurd cc
+
+  abbrev pub or_else : {A : Type 0} → Option A → Result X Fault → (A → Result X Fault) → Result X Fault
+  or_else None r h = r
+  or_else (Some v) r h = h v
+
+  -- one alternative or the other, where neither an operation nor a number is due
+  pub start_place : {A B : Type 0} (e : Option X) (f : W → Option A) (f' : W → Option B) (h : A → List W → Result X Fault) (j : B → List W → Result X Fault) (q : A → Rule W X) (p : B → Rule W X)
+      → IsPlace g f false → IsPlace g f' false → AllNodes q → AllNodes p → Reads h q → Reads j p
+      → (w : W) (ws : List W) → or_else (f w) (or_refused (f' w) (suc (length ws)) (λ v. j v ws)) (λ v. h v ws) ≡ run g (node e (on f q <|> on f' p)) (w ∷ ws)
+  unfolding run
+  start_place {A = A} {B = B} e f f' h j q p pl pl' nq np hq jp w ws = go (f w) (f' w)
+    where
+      go : (s : Option A) (s' : Option B) → or_else s (or_refused s' (suc (length ws)) (λ v. j v ws)) (λ v. h v ws)
+         ≡ cond (is_node (or_rule (after (f g.operation) q) (after (f' g.operation) p)) && is_unknown g (w ∷ ws)) (refused Operation (suc (length ws)))
+           (cond (is_node (or_rule (after s q) (after s' p))) (run g (or_rule (after s q) (after s' p)) ws) (refused (kind_at g (node e (on f q <|> on f' p)) (w ∷ ws)) (suc (length ws))))
+      go None None = rw (pl.free, pl'.free, not_there (f g.number) q pl.number, not_there (f' g.number) p pl'.number) refl
+      go None (Some v) = rw (pl.free, pl'.free, np v) (jp v ws)
+      go (Some v) s' = rw (pl.free, pl'.free, or_left (q v) (after s' p) (nq v), nq v) (hq v ws)
 
   -- ---- an optional part
 

@@ -19,16 +19,22 @@ define_at n ws = do
   e ← end_at op.1
   Ok (edit (define n (plain op.0)))
 
-unfoldable pub paint_at : List Text → Result Line Fault
-paint_at ws = do
-  n ← one_at tests name_of false ws
-  r1 ← one_at tests side_of true n.1
+-- the rows and columns of a rectangle
+unfoldable pub corners_at : List Text → Read Text (ℕ × ℕ × ℕ × ℕ)
+corners_at ws = do
+  r1 ← one_at tests side_of true ws
   c1 ← one_at tests side_of true r1.1
   r2 ← one_at tests side_of true c1.1
   c2 ← one_at tests side_of true r2.1
-  v ← one_at tests cell_of true c2.1
+  Ok ((r1.0, c1.0, r2.0, c2.0), c2.1)
+
+unfoldable pub paint_at : List Text → Result Line Fault
+paint_at ws = do
+  n ← one_at tests name_of false ws
+  k ← corners_at n.1
+  v ← one_at tests cell_of true k.1
   e ← end_at v.1
-  Ok (edit (paint n.0 r1.0 c1.0 r2.0 c2.0 v.0))
+  Ok (edit (paint n.0 k.0.0 k.0.1 k.0.2 k.0.3 v.0))
 
 unfoldable pub drop_at : List Text → Result Line Fault
 drop_at ws = do

@@ -53,12 +53,16 @@ to_at give low ws = if starts (the (codes "to")) ws then (do
     high ← one_at tests value_of true u.1
     Ok (record { low = low; high = high.0; give = give }, high.1)) else Ok (record { low = low; high = low; give = give }, ws)
 
+unfoldable pub range_at : Option ℤ → List Text → Read Text Rate
+range_at give ws = do
+  u ← one_at tests (the (codes "for")) false ws
+  low ← one_at tests value_of true u.1
+  to_at give low.0 low.1
+
 unfoldable pub rate_at : List Text → Read Text Rate
 rate_at ws = do
   give ← one_at tests cell_of true ws
-  u ← one_at tests (the (codes "for")) false give.1
-  low ← one_at tests value_of true u.1
-  to_at give.0 low.0 low.1
+  range_at give.0 give.1
 
 unfoldable pub with_at : ℕ → List Rate → List Text → Read Text (List Rate)
 with_at zero rs ws = Ok (rs, ws)

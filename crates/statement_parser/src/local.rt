@@ -3,7 +3,7 @@
 ghost use Rattle.std.specs.Prelude.{◌≡◌};
 ghost use Rattle.statement_parser.specs.Views.{texts_of, term_view, terms_view, op_view};
 ghost use Rattle.statement_parser.specs.Gives.{Gives};
-ghost use Rattle.statement_parser.specs.ReadLocal.{and_at, statistic_at, pair_at, difference_at, ratio_at, to_at, rate_at, with_at, rating_at, body_at};
+ghost use Rattle.statement_parser.specs.ReadLocal.{and_at, statistic_at, pair_at, difference_at, ratio_at, to_at, range_at, rate_at, with_at, rating_at, body_at};
 
 use crate::fault::ReadError;
 use crate::op::{Op, Term};
@@ -89,14 +89,24 @@ fn to_part<'t, 'a>(give: Option<Value>, low: Value, words: &'t [Word<'a>]) -> Re
     Ok((Rate { low, high, give }, rest))
 }
 
+/// What follows what a rate gives.
+#[tactic(auto, unfolding(crate::specs::ReadLocal::range_at))]
+fn range<'t, 'a>(give: Option<Value>, words: &'t [Word<'a>]) -> Result<(Rate, &'t [Word<'a>]), ReadError>
+    ensures { Gives (λ x. (x.0, texts_of x.1.now)) result (range_at give (texts_of words.now)) }
+{
+    let rest = the(b"for", words)?;
+    let (low, rest) = value(rest)?;
+    to_part(give, low, rest)
+}
+
 #[tactic(auto, unfolding(crate::specs::ReadLocal::rate_at))]
 fn rate<'t, 'a>(words: &'t [Word<'a>]) -> Result<(Rate, &'t [Word<'a>]), ReadError>
     ensures { Gives (λ x. (x.0, texts_of x.1.now)) result (rate_at (texts_of words.now)) }
 {
-    let (give, rest) = cell(words)?;
-    let rest = the(b"for", rest)?;
-    let (low, rest) = value(rest)?;
-    to_part(give.get(), low, rest)
+    match cell(words) {
+        Ok((give, rest)) => range(give.get(), rest),
+        Err(error) => Err(error),
+    }
 }
 
 /// Further rates, at most so many.

@@ -3,7 +3,7 @@
 ghost use Rattle.std.specs.Prelude.{◌≡◌};
 ghost use Rattle.statement_parser.specs.Views.{texts_of, line_view};
 ghost use Rattle.statement_parser.specs.Gives.{Gives};
-ghost use Rattle.statement_parser.specs.ReadLine.{define_at, paint_at, drop_at, value_at, grid_at, list_at, quit_at, line_at};
+ghost use Rattle.statement_parser.specs.ReadLine.{define_at, corners_at, paint_at, drop_at, value_at, grid_at, list_at, quit_at, line_at};
 
 use crate::command::{Command, command_named};
 use crate::fault::ReadError;
@@ -24,18 +24,39 @@ fn define(alloc: Global, name: Name, words: &[Word<'_>]) -> Result<Line, ReadErr
     Ok(Line::Edit(LineEdit::Define { name, written }))
 }
 
+/// The rows and columns of a rectangle.
+#[derive(Clone, Copy)]
+struct Rectangle {
+    r1: u32,
+    c1: u32,
+    r2: u32,
+    c2: u32,
+}
+
+#[tactic(auto, unfolding(crate::specs::ReadLine::corners_at))]
+fn corners<'t, 'a>(words: &'t [Word<'a>]) -> Result<(Rectangle, &'t [Word<'a>]), ReadError>
+    ensures { Gives (λ x. ((x.0.r1, x.0.c1, x.0.r2, x.0.c2), texts_of x.1.now)) result (corners_at (texts_of words.now)) }
+{
+    let (r1, rest) = side(words)?;
+    let (c1, rest) = side(rest)?;
+    let (r2, rest) = side(rest)?;
+    let (c2, rest) = side(rest)?;
+    Ok((Rectangle { r1, c1, r2, c2 }, rest))
+}
+
 #[tactic(auto, unfolding(crate::specs::ReadLine::paint_at))]
 fn paint(alloc: Global, words: &[Word<'_>]) -> Result<Line, ReadError>
     ensures { Gives line_view result (paint_at (texts_of words.now)) }
 {
     let (name, rest) = name(alloc, words)?;
-    let (r1, rest) = side(rest)?;
-    let (c1, rest) = side(rest)?;
-    let (r2, rest) = side(rest)?;
-    let (c2, rest) = side(rest)?;
-    let (cell, rest) = cell(rest)?;
-    end(rest)?;
-    Ok(Line::Edit(LineEdit::Paint { name, r1, c1, r2, c2, cell }))
+    let (Rectangle { r1, c1, r2, c2 }, rest) = corners(rest)?;
+    match cell(rest) {
+        Err(error) => Err(error),
+        Ok((cell, rest)) => {
+            end(rest)?;
+            Ok(Line::Edit(LineEdit::Paint { name, r1, c1, r2, c2, cell }))
+        }
+    }
 }
 
 #[tactic(auto, unfolding(crate::specs::ReadLine::drop_at))]
