@@ -3,3 +3,4 @@ pub mod SoundBodies
 pub mod SoundLines
 pub mod ReadsBodies
 pub mod ReadsLines
+pub mod Whole

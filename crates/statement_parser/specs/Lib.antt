@@ -7,3 +7,7 @@ pub mod Views
 pub mod Gives
 pub mod ReadLocal
 pub mod ReadLine
+pub mod Texts
+pub mod Parsed
+pub mod Formed
+pub mod Canonical

@@ -5,14 +5,19 @@
 
 mod command;
 mod fault;
+mod laws;
 mod line;
+mod line_text;
 mod local;
 
 mod op;
 mod operation;
 mod parsing;
 mod places;
+mod refusal;
 
 
+pub use laws::lines_are_settled;
 pub use line::{Line, LineEdit, Request, Written};
+pub use line_text::parse_line;
 pub use op::{Op, Term};

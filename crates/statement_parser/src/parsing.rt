@@ -3,6 +3,8 @@
 ghost use Rattle.std.specs.Prelude.{◌≡◌};
 ghost use Rattle.statement_parser.specs.Views.{texts_of, line_view};
 ghost use Rattle.statement_parser.specs.Gives.{Gives};
+ghost use Rattle.statement_parser.specs.Lines.{first_language};
+ghost use Rattle.statement_parser.specs.Parsed.{IsWordsRead};
 ghost use Rattle.statement_parser.specs.ReadLine.{define_at, corners_at, paint_at, drop_at, value_at, grid_at, list_at, quit_at, line_at};
 
 use crate::command::{Command, command_named};
@@ -106,7 +108,7 @@ fn quit(words: &[Word<'_>]) -> Result<Line, ReadError>
 
 /// A line by its words.
 #[tactic(auto, unfolding(crate::specs::ReadLine::line_at))]
-pub fn line(alloc: Global, words: &[Word<'_>]) -> Result<Line, ReadError>
+fn line(alloc: Global, words: &[Word<'_>]) -> Result<Line, ReadError>
     ensures { Gives line_view result (line_at (texts_of words.now)) }
 {
     match words {
@@ -125,4 +127,11 @@ pub fn line(alloc: Global, words: &[Word<'_>]) -> Result<Line, ReadError>
             },
         },
     }
+}
+
+/// The line that words are, or their first fault.
+pub fn parse_words(alloc: Global, words: &[Word<'_>]) -> Result<Line, ReadError>
+    ensures { IsWordsRead first_language line_view (texts_of words.now) result }
+{
+    line(alloc, words)
 }

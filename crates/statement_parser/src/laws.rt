@@ -1,0 +1,11 @@
+//! Laws of the definitions.
+
+ghost use Rattle.map_words.specs.Bytes.{Text};
+ghost use Rattle.statement_parser.specs.Lines.{Manner};
+ghost use Rattle.statement_parser.specs.Texts.{IsSettledText};
+
+/// All bytes are either one line, or refused in one way.
+pub fn lines_are_settled()
+    ensures { (m : Manner) (bytes : Text) → IsSettledText m bytes }
+{
+}
