@@ -4,3 +4,5 @@ pub mod SoundLines
 pub mod ReadsBodies
 pub mod ReadsLines
 pub mod Whole
+pub mod Adding
+pub mod FormedLines

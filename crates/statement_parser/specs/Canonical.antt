@@ -38,8 +38,11 @@ terms_texts [] = []
 terms_texts (t ∷ ts) = term_text t ∷ terms_after (codes "and") ts
 
 -- "to" is left out where the range is one value
+abbrev pub to_texts : ℤ → ℤ → List Text
+to_texts low high = if int_eq high low then [] else codes "to" ∷ signed_decimal high ∷ []
+
 abbrev pub rate_texts : Rate → List Text
-rate_texts r = codes "with" ∷ cell_text r.give ∷ codes "for" ∷ signed_decimal r.low ∷ (if int_eq r.high r.low then [] else codes "to" ∷ signed_decimal r.high ∷ [])
+rate_texts r = codes "with" ∷ cell_text r.give ∷ codes "for" ∷ signed_decimal r.low ∷ to_texts r.low r.high
 
 abbrev pub rates_texts : List Rate → List Text
 rates_texts [] = []
@@ -52,8 +55,11 @@ op_texts (difference l r) = codes "LocalDifference" ∷ codes "of" ∷ term_text
 op_texts (ratio l r) = codes "LocalRatio" ∷ codes "of" ∷ term_text l ∷ codes "and" ∷ term_text r ∷ []
 op_texts (rating t rs) = codes "LocalRating" ∷ codes "of" ∷ term_text t ∷ rates_texts rs
 
+abbrev pub written_tail : Written → List Text
+written_tail (plain o) = op_texts o
+
 abbrev pub written_texts : Text → Written → List Text
-written_texts n (plain o) = n ∷ codes "=" ∷ op_texts o
+written_texts n w = n ∷ codes "=" ∷ written_tail w
 
 -- the words, with one space before each
 abbrev pub spaced : List Text → Text

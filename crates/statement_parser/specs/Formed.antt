@@ -1,10 +1,14 @@
 -- What every line that is read keeps: names, ranges and counts.
-use Rattle.std.specs.Prelude.{ℕ, ℤ, ◌≤◌, ◌||◌, Bool, List, length, Option, Some, None, IsTrue, All, IfSome}
+use Rattle.std.specs.Prelude.{ℕ, ℤ, ◌≤◌, ◌||◌, Bool, List, [], ◌∷◌, length, Option, Some, None, IsTrue, IfSome}
 use Rattle.map_nums.specs.declared.Rate.{Rate}
 use Rattle.map_nums.specs.Numbers.{is_value}
 use Rattle.map_words.specs.Bytes.{Text}
 use Rattle.map_words.specs.Names.{is_plain, is_dotted}
 use Rattle.statement_parser.specs.Lines.{Term, layer, value, Op, local, difference, ratio, rating, Written, plain, Edit, define, paint, drop, Request, ask_value, ask_grid, ask_list, Line, blank, edit, ask, quit}
+
+abbrev pub Each : {A : Type 0} → (A → Type 0) → List A → Type 0
+Each P [] = Unit {0}
+Each P (x ∷ xs) = P x × Each P xs
 
 abbrev pub IsTerm : Term → Type 0
 IsTerm (layer n) = IsTrue (is_plain n)
@@ -19,10 +23,10 @@ pub record IsRate (r : Rate) : Type 0 where
   pub give : IsCell r.give
 
 abbrev pub IsOp : Op → Type 0
-IsOp (local s ts) = (2 ≤ length ts) × (length ts ≤ 8) × All IsTerm ts
+IsOp (local s ts) = (2 ≤ length ts) × (length ts ≤ 8) × Each IsTerm ts
 IsOp (difference l r) = IsTerm l × IsTerm r
 IsOp (ratio l r) = IsTerm l × IsTerm r
-IsOp (rating t rs) = IsTerm t × (1 ≤ length rs) × (length rs ≤ 32) × All IsRate rs
+IsOp (rating t rs) = IsTerm t × (1 ≤ length rs) × (length rs ≤ 32) × Each IsRate rs
 
 abbrev pub IsWritten : Written → Type 0
 IsWritten (plain o) = IsOp o

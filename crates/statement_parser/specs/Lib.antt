@@ -11,3 +11,4 @@ pub mod Texts
 pub mod Parsed
 pub mod Formed
 pub mod Canonical
+pub mod Printing

@@ -14,6 +14,7 @@ mod op;
 mod operation;
 mod parsing;
 mod places;
+mod printing;
 mod refusal;
 
 
