@@ -6,3 +6,6 @@ pub mod ReadsLines
 pub mod Whole
 pub mod Adding
 pub mod FormedLines
+pub mod Numerals
+pub mod BackWords
+pub mod BackBytes
