@@ -20,6 +20,7 @@ use Rattle.statement_parser.specs.Grammar.{IsLine}
 use Rattle.statement_parser.specs.Formed.{Each, IsTerm, IsCell, IsRate, IsOp, IsWritten}
 use Rattle.statement_parser.specs.Canonical.{term_text, cell_text, stat_text, terms_after, terms_texts, to_texts, rate_texts, rates_texts, op_texts, written_tail, written_texts, spaced, joined, written_text}
 use Rattle.statement_parser.specs.Texts.{seen, is_short, LineText, worded}
+use Rattle.statement_parser.specs.Printing.{ReadsBack}
 use Rattle.statement_parser.proofs.Numerals.{is_run_byte, number_run, number_some}
 use Rattle.statement_parser.proofs.BackWords.{words_back}
 
@@ -269,3 +270,7 @@ written_back m n w p h short =
     let words = written_words n w p h in
     worded short (not_silent n (codes "=" ∷ written_tail w) p) (no_bad (written_text n w) (joined_good (written_texts n w) words))
       (subst (λ ts. IsLine m ts (edit (define n w))) (sym (seen_joined (written_texts n w) words)) (words_back m n w p h))
+
+pub reads_back : (n : Text) (w : Written) (text : Text) → text ≡ written_text n w → ReadsBack n w text
+reads_back n w text e m p h short =
+    subst (λ t. LineText m t (edit (define n w))) (sym e) (written_back m n w p h (subst (λ t. is_short t ≡ true) e short))

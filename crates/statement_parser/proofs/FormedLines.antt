@@ -15,6 +15,10 @@ use Rattle.statement_parser.specs.Operations.{operation_named}
 use Rattle.statement_parser.specs.Places.{the, name_of, any_of, value_of, side_of, term_of, cell_of}
 use Rattle.statement_parser.specs.Bodies.{and_terms, statistic_body, pair_body, to_part, rate_part, with_rates, rating_body, operation_body}
 use Rattle.statement_parser.specs.Grammar.{define_rule, paint_rule, drop_rule, value_rule, grid_rule, command_named, command_rule, line_rule, IsLine}
+use Rattle.std.specs.Prelude.{IfOk, Result, Ok, Err}
+use Rattle.statement_parser.specs.declared.refusal.LineRefusal.{LineRefusal}
+use Rattle.statement_parser.specs.Texts.{seen, LineText, silent, worded}
+use Rattle.statement_parser.specs.Parsed.{IsParsed}
 use Rattle.statement_parser.specs.Formed.{Each, IsTerm, IsCell, IsRate, IsOp, IsWritten, IsSide, IsEdit, IsAny, IsRequest, IsFormed}
 use Rattle.statement_parser.specs.declared.operation.Operation.{Operation}
 use Rattle.statement_parser.specs.declared.operation.Operation.TheVariants.{Local, Difference, Ratio, Rating}
@@ -178,3 +182,11 @@ line_formed m = (tt, ends_or IsFormed (on command_named command_rule) (on name_o
 
 pub formed : (m : Manner) (ws : List Text) (x : Line) → IsLine m ws x → IsFormed x
 formed m ws x d = each_end IsFormed (line_rule m) ws x (line_formed m) d
+
+formed_text : (m : Manner) (bytes : Text) (x : Line) → LineText m bytes x → IsFormed x
+formed_text m bytes x (silent s e) = tt
+formed_text m bytes x (worded s e f d) = formed m (seen bytes) x d
+
+pub formed_parsed : {V : Type 0} (m : Manner) (view : V → Line) (bytes : Text) (r : Result V LineRefusal) → IsParsed m view bytes r → IfOk r (λ x. IsFormed (view x))
+formed_parsed m view bytes (Ok x) h = formed_text m bytes (view x) h
+formed_parsed m view bytes (Err e) h = tt

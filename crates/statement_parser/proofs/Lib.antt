@@ -9,3 +9,4 @@ pub mod FormedLines
 pub mod Numerals
 pub mod BackWords
 pub mod BackBytes
+pub mod Computed

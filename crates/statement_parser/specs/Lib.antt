@@ -12,3 +12,4 @@ pub mod Parsed
 pub mod Formed
 pub mod Canonical
 pub mod Printing
+pub mod Rows

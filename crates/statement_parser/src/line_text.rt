@@ -1,11 +1,12 @@
 //! Reading the bytes of a line.
 
-ghost use Rattle.std.specs.Prelude.{◌≡◌, ◌<◌, ◌≤◌, ◌^◌, true, false, None};
+ghost use Rattle.std.specs.Prelude.{◌≡◌, ◌<◌, ◌≤◌, ◌^◌, true, false, None, IfOk};
 ghost use Rattle.map_words.specs.Bytes.{first_bad, is_silent as is_silent_text};
 ghost use Rattle.map_words.specs.Words.{words_of};
 ghost use Rattle.map_words.specs.Cut.{placed_all};
 ghost use Rattle.statement_parser.specs.Lines.{first_language};
 ghost use Rattle.statement_parser.specs.Texts.{first_column as first_column_of, column_among, is_short};
+ghost use Rattle.statement_parser.specs.Formed.{IsFormed};
 ghost use Rattle.statement_parser.specs.Parsed.{IsParsed, IsRefusalAt};
 ghost use Rattle.statement_parser.specs.Views.{line_view};
 
@@ -68,8 +69,8 @@ fn of_words(alloc: Global, line: &[u8], words: &[Word<'_>]) -> Result<Line, Line
     }
 }
 
-/// The line that bytes are, without their line end.
-pub fn parse_line(alloc: Global, line: &[u8]) -> Result<Line, LineRefusal>
+/// The line that bytes are.
+fn read_line(alloc: Global, line: &[u8]) -> Result<Line, LineRefusal>
     ensures { IsParsed first_language line_view line.now result }
 {
     if line.len() > LONGEST {
@@ -83,4 +84,12 @@ pub fn parse_line(alloc: Global, line: &[u8]) -> Result<Line, LineRefusal>
         Err(WordRefusal::Byte(at)) => Err(LineRefusal::Syntax(at)),
         Err(WordRefusal::NoMemory) => Err(LineRefusal::NoMemory),
     }
+}
+
+/// The line that bytes are, without their line end, or their first fault.
+pub fn parse_line(alloc: Global, line: &[u8]) -> Result<Line, LineRefusal>
+    ensures parsed { IsParsed first_language line_view line.now result }
+    ensures formed { IfOk result (λ x. IsFormed (line_view x)) }
+{
+    read_line(alloc, line)
 }

@@ -4,7 +4,7 @@ ghost use Rattle.std.specs.Prelude.{◌≡◌, ◌∷◌, [], IfOk, Some, map, c
 ghost use Rattle.std.specs.Fmt.{signed_decimal};
 ghost use Rattle.statement_parser.specs.Views.{term_view, terms_view, op_view, written_view};
 ghost use Rattle.statement_parser.specs.Canonical.{term_text, cell_text, stat_text, terms_after, terms_texts, to_texts, rate_texts, rates_texts, op_texts, written_tail, written_text};
-ghost use Rattle.statement_parser.specs.Printing.{Adds};
+ghost use Rattle.statement_parser.specs.Printing.{Adds, ReadsBack};
 
 use crate::line::Written;
 use crate::op::{Op, Term};
@@ -178,11 +178,19 @@ fn defined(text: &mut Vec<u8>, written: &Written) -> Result<(), AllocError>
     }
 }
 
-/// The canonical text of a statement.
-pub fn print_written(alloc: Global, name: &Name, written: &Written) -> Result<Vec<u8>, NoMemory>
+fn canonical(alloc: Global, name: &Name, written: &Written) -> Result<Vec<u8>, AllocError>
     ensures { IfOk result (λ text. text.items ≡ written_text name.now (written_view written.now)) }
 {
     let mut text = Vec::from_slice(alloc, name.bytes())?;
     defined(&mut text, written)?;
+    Ok(text)
+}
+
+/// The canonical text of a statement, which reads back as the same statement where it is no longer than a line.
+pub fn print_written(alloc: Global, name: &Name, written: &Written) -> Result<Vec<u8>, NoMemory>
+    ensures canonical { IfOk result (λ text. text.items ≡ written_text name.now (written_view written.now)) }
+    ensures reads { IfOk result (λ text. ReadsBack name.now (written_view written.now) text.items) }
+{
+    let text = canonical(alloc, name, written)?;
     Ok(text)
 }
