@@ -1,5 +1,5 @@
 -- Two names with a dot between are a name.
-use Rattle.std.proofs.Common.{◌≡◌, ℕ, suc, ◌+◌, ◌≤◌, ◌⊎◌, inl, inr, Bool, true, false, cond, not, ◌&&◌, ◌||◌, List, [], ◌∷◌, ◌++◌, length, refl, sym, ap, subst, ◌∙◌, arith, nat_eq, length-append}
+use Rattle.std.proofs.Common.{◌≡◌, ℕ, ◌+◌, ◌≤◌, ◌⊎◌, inl, inr, Bool, true, false, cond, not, ◌&&◌, ◌||◌, List, [], ◌∷◌, ◌++◌, length, refl, ap, ◌∙◌, arith, nat_eq, length-append}
 use Rattle.std.specs.Prelude.{codes, bytes_eq, nat_le, IsTrue}
 use Rattle.std.specs.List.{list_all}
 use Rattle.std.specs.Char.{is_ascii_alphabetic, is_ascii_digit}
@@ -81,9 +81,9 @@ outer a e apart = elim (either (is_plain a || is_dotted a) (bytes_eq a (codes "r
   | inl h ↦ elim (either (is_plain a) (is_dotted a) h) [
     | inl p ↦ record { part = a; rest = []; whole = plain_part a p; plain = p; later = refl }
     | inr d ↦ dotted_outer (parts_from [] a) (both (nat_le (length a) 1100) (are_parts (parts_from [] a)) d).1
-    ]
-  | inr r ↦ absurd (apart ((bytes_eq-Decides a (codes "result")).0 r))
   ]
+  | inr r ↦ absurd (apart ((bytes_eq-Decides a (codes "result")).0 r))
+]
 
 all_later : (parts : List Text) → are_parts parts ≡ true → list_all is_later_part parts ≡ true
 all_later [] e = refl
@@ -98,10 +98,10 @@ inner b e = elim (either (is_plain b || is_dotted b) (bytes_eq b (codes "result"
   | inl h ↦ elim (either (is_plain b) (is_dotted b) h) [
     | inl p ↦ ap (list_all is_later_part) (plain_part b p) ∙ and_of (is_later_part b) true (or_left (is_plain b) (bytes_eq b (codes "result")) p) refl
     | inr d ↦ all_later (parts_from [] b) (both (nat_le (length b) 1100) (are_parts (parts_from [] b)) d).1
-    ]
+  ]
   | inr r ↦ ap (λ t. list_all is_later_part (parts_from [] t)) ((bytes_eq-Decides b (codes "result")).0 r)
       ∙ and_of (is_later_part (codes "result")) true (or_right (is_plain (codes "result")) true refl) refl
-  ]
+]
 
 all-append : (xs ys : List Text) → list_all is_later_part xs ≡ true → list_all is_later_part ys ≡ true → list_all is_later_part (xs ++ ys) ≡ true
 all-append xs ys e f = list_all-append is_later_part xs ys ∙ and_of (list_all is_later_part xs) (list_all is_later_part ys) e f
@@ -134,7 +134,7 @@ joined_dotted a b ea eb apart le =
     let n : length (a ++ 46 ∷ b) ≤ 1100 = omega (arith, length-append a (46 ∷ b)) in
     let parts : parts_from [] (a ++ 46 ∷ b) ≡ o.part ∷ (o.rest ++ parts_from [] b) = parts_from-append [] a b ∙ ap (λ ps. ps ++ parts_from [] b) o.whole in
     and_of (nat_le (length (a ++ 46 ∷ b)) 1100) (are_parts (parts_from [] (a ++ 46 ∷ b))) (le-leb (length (a ++ 46 ∷ b)) 1100 n)
-      (ap are_parts parts ∙ parts_of o.part (o.rest ++ parts_from [] b) (more-append o.rest (parts_from [] b) (some_part [] b)) o.plain (all-append o.rest (parts_from [] b) o.later (inner b eb)))
+    (ap are_parts parts ∙ parts_of o.part (o.rest ++ parts_from [] b) (more-append o.rest (parts_from [] b) (some_part [] b)) o.plain (all-append o.rest (parts_from [] b) o.later (inner b eb)))
 
 pub joined_name : (a b : Text) → IsTrue (is_name a) → IsTrue (is_name b) → (a ≡ codes "result" → ⊥) → length a + 1 + length b ≤ 1100 → IsTrue (is_name (a ++ 46 ∷ b))
 joined_name a b ea eb apart le =

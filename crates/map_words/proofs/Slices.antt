@@ -1,7 +1,7 @@
 -- The words of a line are slices of it, in order.
-use Rattle.std.proofs.Common.{◌≡◌, ℕ, suc, ◌+◌, ◌-◌, ◌<◌, ◌≤◌, Bool, true, false, cond, List, [], ◌∷◌, ◌++◌, length, take, drop, get_or, Option, Some, None, refl, sym, ap, subst, ◌∙◌, arith, length-drop, length-append, get_or-drop, drop-cons, add-one}
+use Rattle.std.proofs.Common.{◌≡◌, ℕ, suc, ◌+◌, ◌-◌, ◌<◌, ◌≤◌, Bool, true, false, cond, List, [], ◌∷◌, ◌++◌, length, take, drop, get_or, Option, Some, None, refl, sym, ap, ◌∙◌, arith, length-drop, length-append, get_or-drop, drop-cons, add-one}
 use Rattle.std.proofs.lemmas.List.{take_more}
-use Rattle.map_words.specs.Bytes.{Text, is_blank, is_mark, first_bad}
+use Rattle.map_words.specs.Bytes.{Text, is_blank, is_mark}
 use Rattle.map_words.specs.Words.{Placed, closed, longer, words_from, words_of, AreSlices}
 
 -- the word under way is the slice before this place
@@ -53,7 +53,7 @@ slices_from line (b ∷ bs) i from now e le n =
     let at = is_byte line i b bs e in
     let here : suc i ≤ length line = at.within in
     go (is_blank b) (is_mark b) at (slices_from line bs (suc i) from (longer now b (suc i)) at.rest here (longer_now line from i b bs now at n))
-      (λ from le. slices_from line bs (suc i) from None at.rest here le)
+    (λ from le. slices_from line bs (suc i) from None at.rest here le)
   where
     go : (blank mark : Bool) → IsByte line i b bs → AreSlices line from (words_from (suc (suc i)) (longer now b (suc i)) bs) → ((from : ℕ) → from ≤ suc (suc i) → AreSlices line from (words_from (suc (suc i)) None bs))
         → AreSlices line from (cond blank (closed now ++ words_from (suc (suc i)) None bs) (cond mark (closed now ++ record { text = b ∷ []; at = suc i } ∷ words_from (suc (suc i)) None bs) (words_from (suc (suc i)) (longer now b (suc i)) bs)))

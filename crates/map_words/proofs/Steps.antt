@@ -1,9 +1,9 @@
 -- One byte more of a line that is cut into words.
-use Rattle.std.proofs.Common.{◌≡◌, ℕ, suc, ◌+◌, ◌-◌, ◌<◌, ◌≤◌, Bool, true, false, cond, List, [], ◌∷◌, ◌++◌, map, length, take, drop, get_or, Option, Some, None, refl, sym, ap, subst, ◌∙◌, arith, append_assoc, drop-cons, add-one, length-drop, get_or-drop}
+use Rattle.std.proofs.Common.{◌≡◌, ℕ, suc, ◌+◌, ◌-◌, ◌<◌, ◌≤◌, true, false, List, [], ◌∷◌, ◌++◌, length, take, drop, get_or, Option, Some, None, refl, sym, ap, ◌∙◌, arith, append_assoc, drop-cons, add-one, length-drop, get_or-drop}
 use Rattle.std.specs.Prelude.{unwrap_or}
 use Rattle.std.proofs.lemmas.List.{take_more, map-append}
 use Rattle.map_words.specs.Bytes.{Text, is_blank, is_mark}
-use Rattle.map_words.specs.Words.{Placed, closed, longer, words_from, words_of}
+use Rattle.map_words.specs.Words.{Placed, closed, longer, words_from}
 use Rattle.map_words.specs.declared.cutting.Word.{Word}
 use Rattle.map_words.specs.Cut.{placed, placed_all, under_way, IsStarted, GoesOn}
 
@@ -28,8 +28,8 @@ module _ (line : Text) (at : ℕ) (start : Option ℕ) (found : List Placed) (wi
   blank_step found' blank e = record {
     started = tt;
     same = ap (λ ws. ws ++ words_from (suc (suc at)) None (drop (suc at) line)) e
-      ∙ append_assoc found (closed (under_way line start at)) (words_from (suc (suc at)) None (drop (suc at) line))
-      ∙ ap (λ ws. found ++ ws) (sym (unrolled ∙ rw blank refl))
+        ∙ append_assoc found (closed (under_way line start at)) (words_from (suc (suc at)) None (drop (suc at) line))
+        ∙ ap (λ ws. found ++ ws) (sym (unrolled ∙ rw blank refl));
   }
 
   pub mark_step : (found' : List Placed) → is_blank (get_or line at 0) ≡ false → is_mark (get_or line at 0) ≡ true
@@ -40,9 +40,9 @@ module _ (line : Text) (at : ℕ) (start : Option ℕ) (found : List Placed) (wi
       record {
         started = tt;
         same = ap (λ ws. ws ++ rest) (e ∙ ap (λ t. (found ++ closed (under_way line start at)) ++ record { text = t; at = suc at } ∷ []) (one_byte line at within))
-          ∙ append_assoc (found ++ closed (under_way line start at)) here rest
-          ∙ append_assoc found (closed (under_way line start at)) (here ++ rest)
-          ∙ ap (λ ws. found ++ ws) (sym (unrolled ∙ rw (blank, mark) refl))
+            ∙ append_assoc (found ++ closed (under_way line start at)) here rest
+            ∙ append_assoc found (closed (under_way line start at)) (here ++ rest)
+            ∙ ap (λ ws. found ++ ws) (sym (unrolled ∙ rw (blank, mark) refl));
       }
 
   pub mark_pushed : (mid new : List Word) (w : Word) → is_blank (get_or line at 0) ≡ false → is_mark (get_or line at 0) ≡ true
@@ -50,8 +50,8 @@ module _ (line : Text) (at : ℕ) (start : Option ℕ) (found : List Placed) (wi
   mark_pushed mid new w blank mark m n p =
       let n' : at + 1 ≡ suc at = add-one at in
       mark_step (placed_all new) blank mark
-        (ap placed_all n ∙ map-append placed mid (w ∷ []) ∙ ap (λ ws. ws ++ placed w ∷ []) m
-        ∙ ap (λ (p : Placed). (found ++ closed (under_way line start at)) ++ p ∷ []) (p ∙ ap (λ k. record { text = take (k - at) (drop at line); at = suc at }) n'))
+      (ap placed_all n ∙ map-append placed mid (w ∷ []) ∙ ap (λ ws. ws ++ placed w ∷ []) m
+      ∙ ap (λ (p : Placed). (found ++ closed (under_way line start at)) ++ p ∷ []) (p ∙ ap (λ k. record { text = take (k - at) (drop at line); at = suc at }) n'))
 
   -- the word under way with the byte
   grown : (start : Option ℕ) → IsStarted start at → under_way line (Some (unwrap_or start at)) (suc at) ≡ longer (under_way line start at) (get_or line at 0) (suc at)
@@ -65,5 +65,5 @@ module _ (line : Text) (at : ℕ) (start : Option ℕ) (found : List Placed) (wi
   pub plain_step : IsStarted start at → is_blank (get_or line at 0) ≡ false → is_mark (get_or line at 0) ≡ false → GoesOn line at start found (Some (unwrap_or start at)) found
   plain_step s blank mark = record {
     started = is_started start s;
-    same = ap (λ ws. found ++ ws) (ap (λ now. words_from (suc (suc at)) now (drop (suc at) line)) (grown start s) ∙ sym (unrolled ∙ rw (blank, mark) refl))
+    same = ap (λ ws. found ++ ws) (ap (λ now. words_from (suc (suc at)) now (drop (suc at) line)) (grown start s) ∙ sym (unrolled ∙ rw (blank, mark) refl));
   }

@@ -30,6 +30,10 @@ pub fn is_silent(line: &[u8]) -> bool
 {
     match line {
         [] => true,
-        [first, rest @ ..] => if is_blank(*first) { is_silent(rest) } else { *first == b'#' },
+        [first, rest @ ..] => if is_blank(*first) {
+            is_silent(rest)
+        } else {
+            *first == b'#'
+        },
     }
 }

@@ -47,7 +47,12 @@ fn slice(line: &[u8], start: usize, end: usize) -> Word<'_>
 }
 
 /// Ends the word that began at `start`, if one did.
-fn close<'a>(found: &mut Vec<Word<'a>>, line: &'a [u8], start: Option<usize>, end: usize) -> Result<(), AllocError>
+fn close<'a>(
+    found: &mut Vec<Word<'a>>,
+    line: &'a [u8],
+    start: Option<usize>,
+    end: usize,
+) -> Result<(), AllocError>
     requires started { IsStarted start end }
     requires within { end ≤ length line.now }
     requires short { length line.now < 2 ^ 32 }
@@ -60,7 +65,12 @@ fn close<'a>(found: &mut Vec<Word<'a>>, line: &'a [u8], start: Option<usize>, en
 }
 
 /// Takes the byte at `at`; answers where the word began that it is of, if it is of one that may go on.
-fn step<'a>(found: &mut Vec<Word<'a>>, line: &'a [u8], start: Option<usize>, at: usize) -> Result<Option<usize>, AllocError>
+fn step<'a>(
+    found: &mut Vec<Word<'a>>,
+    line: &'a [u8],
+    start: Option<usize>,
+    at: usize,
+) -> Result<Option<usize>, AllocError>
     requires started { IsStarted start at }
     requires within { at < length line.now }
     requires short { length line.now < 2 ^ 32 }

@@ -4,7 +4,6 @@ ghost use Rattle.std.specs.Prelude.{◌≡◌, ◌≢◌, ◌+◌, ◌<◌, ◌�
 ghost use Rattle.std.specs.List.{list_all};
 ghost use Rattle.map_words.specs.Names as spec;
 
-
 use crate::reserved::is_reserved;
 use std::alloc::{AllocError, Global};
 

@@ -16,7 +16,9 @@ fn capped_after(value: u64, text: &[u8]) -> Option<u64>
             if !digit.is_ascii_digit() {
                 return None;
             }
-            let next = value.saturating_mul(10).saturating_add((*digit - b'0') as u64);
+            let next = value
+                .saturating_mul(10)
+                .saturating_add((*digit - b'0') as u64);
             capped_after(next, rest)
         }
     }
@@ -26,7 +28,11 @@ fn capped_after(value: u64, text: &[u8]) -> Option<u64>
 fn unsigned(text: &[u8]) -> Option<u64>
     ensures { result ≡ capped (2 ^ 64 - 1) (spec.unsigned_text text.now) }
 {
-    if text.is_empty() { None } else { capped_after(0, text) }
+    if text.is_empty() {
+        None
+    } else {
+        capped_after(0, text)
+    }
 }
 
 fn with_sign(negative: bool, magnitude: u64) -> i128
@@ -93,7 +99,11 @@ fn all_digits(text: &[u8]) -> bool
 fn are_digits(text: &[u8]) -> bool
     ensures { result ≡ spec.are_digits text.now }
 {
-    if text.is_empty() { false } else { all_digits(text) }
+    if text.is_empty() {
+        false
+    } else {
+        all_digits(text)
+    }
 }
 
 /// Whether a word has a number's form.

@@ -14,7 +14,10 @@ fn words_have_columns(rt: HostRuntime) -> Result<(), Fail> {
 
 #[test]
 fn bad_byte_is_told(rt: HostRuntime) {
-    assert_eq!(rt; words(rt.alloc(), b"A \x7F\x80").err(), Some(WordRefusal::Byte(3)));
+    assert_eq!(rt;
+        words(rt.alloc(), b"A \x7F\x80").err(),
+        Some(WordRefusal::Byte(3))
+    );
 }
 
 #[test]
@@ -27,7 +30,9 @@ fn names_are_their_bytes(rt: HostRuntime) -> Result<(), Fail> {
     let again = outer.copy(rt.alloc()).ok().ok_or("memory")?;
     assert!(rt; again == outer);
     assert!(rt; outer < inner);
-    let joined = Name::dotted(rt.alloc(), b"B.result")?;
+    let joined = outer.join(rt.alloc(), &inner).ok().ok_or("memory")?;
+    assert_eq!(rt; joined.bytes(), b"B.result".as_slice());
+    assert!(rt; joined == Name::dotted(rt.alloc(), b"B.result")?);
     assert!(rt; outer < joined);
     Ok(())
 }
@@ -36,7 +41,10 @@ fn names_are_their_bytes(rt: HostRuntime) -> Result<(), Fail> {
 fn numbers_have_signs(rt: HostRuntime) {
     assert_eq!(rt; number_in(-9, 9, b"-007"), Some(-7));
     assert_eq!(rt; number_in(-9, 9, b"+9"), Some(9));
-    assert_eq!(rt; number_in(i64::MIN, i64::MAX, b"99999999999999999999999"), None);
+    assert_eq!(rt;
+        number_in(i64::MIN, i64::MAX, b"99999999999999999999999"),
+        None
+    );
     assert!(rt; is_number(b"-99999999999999999999999"));
     assert!(rt; !is_number(b"-"));
 }

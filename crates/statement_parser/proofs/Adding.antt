@@ -14,7 +14,7 @@ adds_one a b c w e f = record { grown = f ∙ ap (λ t. t ++ w) e ∙ append_ass
 
 pub adds_more : {a b c w : Text} {ts : List Text} → Adds a b (w ∷ []) → Adds b c ts → Adds a c (w ∷ ts)
 adds_more {a} {b} {c} {w} {ts} f g = record {
-  grown = g.grown ∙ ap (λ t. t ++ spaced ts) (f.grown ∙ ap (λ t. a ++ 32 ∷ t) (append-nil w)) ∙ append_assoc a (32 ∷ w) (spaced ts)
+  grown = g.grown ∙ ap (λ t. t ++ spaced ts) (f.grown ∙ ap (λ t. a ++ 32 ∷ t) (append-nil w)) ∙ append_assoc a (32 ∷ w) (spaced ts);
 }
 
 spaced-append : (ts us : List Text) → spaced (ts ++ us) ≡ spaced ts ++ spaced us
@@ -23,7 +23,7 @@ spaced-append (t ∷ ts) us = ap (λ s. 32 ∷ (t ++ s)) (spaced-append ts us) �
 
 pub adds_then : {a b c : Text} {ts us : List Text} → Adds a b ts → Adds b c us → Adds a c (ts ++ us)
 adds_then {a} {b} {c} {ts} {us} f g = record {
-  grown = g.grown ∙ ap (λ t. t ++ spaced us) f.grown ∙ append_assoc a (spaced ts) (spaced us) ∙ ap (λ t. a ++ t) (sym (spaced-append ts us))
+  grown = g.grown ∙ ap (λ t. t ++ spaced us) f.grown ∙ append_assoc a (spaced ts) (spaced us) ∙ ap (λ t. a ++ t) (sym (spaced-append ts us));
 }
 
 pub if_then : {T E : Type 0} {a b : Text} {ts : List Text} (r : Result T E) (c : Text) (us : List Text) → Adds a b ts → IfOk r (λ _. Adds b c us) → IfOk r (λ _. Adds a c (ts ++ us))

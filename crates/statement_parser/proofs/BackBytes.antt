@@ -58,7 +58,7 @@ texts_are at now (b ∷ bs) = go (is_blank b) (is_mark b) (texts_are (suc at) No
   where
     go : (blank mark : Bool) → map text_of (words_from (suc at) None bs) ≡ texts_from None bs → map text_of (words_from (suc at) (longer now b at) bs) ≡ texts_from (option_map text_of (longer now b at)) bs
         → map text_of (cond blank (closed now ++ words_from (suc at) None bs) (cond mark (closed now ++ record { text = b ∷ []; at = at } ∷ words_from (suc at) None bs) (words_from (suc at) (longer now b at) bs)))
-          ≡ cond blank (closed_text (option_map text_of now) ++ texts_from None bs) (cond mark (closed_text (option_map text_of now) ++ (b ∷ []) ∷ texts_from None bs) (texts_from (longer_text (option_map text_of now) b) bs))
+        ≡ cond blank (closed_text (option_map text_of now) ++ texts_from None bs) (cond mark (closed_text (option_map text_of now) ++ (b ∷ []) ∷ texts_from None bs) (texts_from (longer_text (option_map text_of now) b) bs))
     go true mark e f = map-append text_of (closed now) (words_from (suc at) None bs) ∙ ap (λ ts. ts ++ map text_of (words_from (suc at) None bs)) (closed_is now) ∙ ap (λ ts. closed_text (option_map text_of now) ++ ts) e
     go false true e f = map-append text_of (closed now) (record { text = b ∷ []; at = at } ∷ words_from (suc at) None bs) ∙ ap (λ ts. ts ++ (b ∷ []) ∷ map text_of (words_from (suc at) None bs)) (closed_is now) ∙ ap (λ ts. closed_text (option_map text_of now) ++ (b ∷ []) ∷ ts) e
     go false false e f = f ∙ ap (λ o. texts_from o bs) (longer_is now b at)
@@ -108,7 +108,7 @@ from_word : (u rest : Text) (us : List Text) → IsWord u → ((t : Text) → te
 from_word u rest us w run mark = elim w [
   | inl h ↦ run_start u rest h ∙ run u
   | inr h ↦ ap (λ t. texts_from None (t ++ rest)) h.1 ∙ rw (h.2, h.3) (ap (λ ts. (h.0 ∷ []) ∷ ts) mark) ∙ ap (λ t. t ∷ us) (sym h.1)
-  ]
+]
 
 -- the words of a spaced text, after a run and after a mark
 spaced_texts : (ts : List Text) → Each IsWord ts → ((t : Text) → texts_from (Some t) (spaced ts) ≡ t ∷ ts) × (texts_from None (spaced ts) ≡ ts)
@@ -134,7 +134,7 @@ word_good : (t : Text) → IsWord t → list_all is_good t ≡ true
 word_good t w = elim w [
   | inl h ↦ run_good t h.1
   | inr h ↦ ap (list_all is_good) h.1 ∙ rw h.4 refl
-  ]
+]
 
 spaced_good : (ts : List Text) → Each IsWord ts → list_all is_good (spaced ts) ≡ true
 spaced_good [] h = refl
@@ -269,7 +269,7 @@ pub written_back : (m : Manner) (n : Text) (w : Written) → IsTrue (is_plain n)
 written_back m n w p h short =
     let words = written_words n w p h in
     worded short (not_silent n (codes "=" ∷ written_tail w) p) (no_bad (written_text n w) (joined_good (written_texts n w) words))
-      (subst (λ ts. IsLine m ts (edit (define n w))) (sym (seen_joined (written_texts n w) words)) (words_back m n w p h))
+    (subst (λ ts. IsLine m ts (edit (define n w))) (sym (seen_joined (written_texts n w) words)) (words_back m n w p h))
 
 pub reads_back : (n : Text) (w : Written) (text : Text) → text ≡ written_text n w → ReadsBack n w text
 reads_back n w text e m p h short =

@@ -75,9 +75,9 @@ module _ (mk : Op → Line) where
   and_back s (suc n) (u ∷ us) front le h =
       let f = λ (ts : List Term). last (local s ts) in
       also_derives (the (codes "and")) (λ _. next term_of (λ t. and_terms f n (front ++ t ∷ []))) (f front) (codes "and") tt (term_text u ∷ terms_after (codes "and") us) (mk (local s (front ++ u ∷ us))) refl
-        (next_derives term_of (λ t. and_terms f n (front ++ t ∷ [])) (term_text u) u (terms_after (codes "and") us) (mk (local s (front ++ u ∷ us))) (term_back u h.0)
-          (subst (λ (ts : List Term). Derives (and_terms f n (front ++ u ∷ [])) (terms_after (codes "and") us) (mk (local s ts))) (append_assoc front (u ∷ []) us)
-            (and_back s n us (front ++ u ∷ []) (omega arith) h.1)))
+      (next_derives term_of (λ t. and_terms f n (front ++ t ∷ [])) (term_text u) u (terms_after (codes "and") us) (mk (local s (front ++ u ∷ us))) (term_back u h.0)
+      (subst (λ (ts : List Term). Derives (and_terms f n (front ++ u ∷ [])) (terms_after (codes "and") us) (mk (local s ts))) (append_assoc front (u ∷ []) us)
+      (and_back s n us (front ++ u ∷ []) (omega arith) h.1)))
 
   statistic_back : (s : Stat) (ts : List Term) → IsOp (local s ts) → Derives (statistic_body s last) (codes "of" ∷ terms_texts ts) (mk (local s ts))
   statistic_back s [] h = absurd (let l = h.0 in omega arith)
@@ -87,12 +87,12 @@ module _ (mk : Op → Line) where
       let l = h.1 in
       let rest = terms_after (codes "and") us in
       next_derives term_of _ (term_text a) a (codes "and" ∷ term_text b ∷ rest) x (term_back a h.2.0)
-        (next_derives term_of (λ b. and_terms (λ ts. last (local s ts)) 6 (a ∷ b ∷ [])) (term_text b) b rest x (term_back b h.2.1.0) (and_back s 6 us (a ∷ b ∷ []) (omega arith) h.2.1.1))
+      (next_derives term_of (λ b. and_terms (λ ts. last (local s ts)) 6 (a ∷ b ∷ [])) (term_text b) b rest x (term_back b h.2.1.0) (and_back s 6 us (a ∷ b ∷ []) (omega arith) h.2.1.1))
 
   pair_back : (make : Term → Term → Op) (a b : Term) → IsTerm a → IsTerm b → Derives (pair_body make last) (codes "of" ∷ term_text a ∷ codes "and" ∷ term_text b ∷ []) (mk (make a b))
   pair_back make a b p q =
       next_derives term_of _ (term_text a) a (codes "and" ∷ term_text b ∷ []) (mk (make a b)) (term_back a p)
-        (next_derives term_of (λ b. last (make a b)) (term_text b) b [] (mk (make a b)) (term_back b q) refl)
+      (next_derives term_of (λ b. last (make a b)) (term_text b) b [] (mk (make a b)) (term_back b q) refl)
 
 -- the word "to" doesn't come next
 abbrev NoTo : List Text → Type 0
@@ -107,20 +107,21 @@ to_back g r ws x h none d = go (int_eq r.high r.low) refl
   where
     made : ℤ → Rate
     made high = record { low = r.low; high = high; give = r.give }
+
     go : (b : Bool) → int_eq r.high r.low ≡ b → Derives (to_part g r.give r.low) (cond b [] (codes "to" ∷ signed_decimal r.high ∷ []) ++ ws) x
     go true e =
         let same : r.high ≡ r.low = (Decides-int_eq r.high r.low).0 e in
         rest_derives (the (codes "to")) (λ _. next value_of (λ high. g (made high))) (g (made r.low)) ws x none (subst (λ (z : ℤ). Derives (g (made z)) ws x) same d)
     go false e =
         also_derives (the (codes "to")) (λ _. next value_of (λ high. g (made high))) (g (made r.low)) (codes "to") tt (signed_decimal r.high ∷ ws) x refl
-          (next_derives value_of (λ high. g (made high)) (signed_decimal r.high) r.high ws x (value_back r.high h.high) d)
+        (next_derives value_of (λ high. g (made high)) (signed_decimal r.high) r.high ws x (value_back r.high h.high) d)
 
 rate_back : (g : Rate → Rule Text Line) (r : Rate) (ws : List Text) (x : Line) → IsRate r → NoTo ws → Derives (g r) ws x
     → Derives (rate_part g) (cell_text r.give ∷ codes "for" ∷ signed_decimal r.low ∷ (to_texts r.low r.high ++ ws)) x
 rate_back g r ws x h none d =
     let rest = to_texts r.low r.high ++ ws in
     next_derives cell_of _ (cell_text r.give) r.give (codes "for" ∷ signed_decimal r.low ∷ rest) x (cell_back r.give h.give)
-      (next_derives value_of (to_part g r.give) (signed_decimal r.low) r.low rest x (value_back r.low h.low) (to_back g r ws x h none d))
+    (next_derives value_of (to_part g r.give) (signed_decimal r.low) r.low rest x (value_back r.low h.low) (to_back g r ws x h none d))
 
 module _ (mk : List Rate → Line) where
   with_back : (n : ℕ) (rs front : List Rate) → length rs ≤ n → Each IsRate rs → Derives (with_rates (λ rs. ends (mk rs)) n front) (rates_texts rs) (mk (front ++ rs))
@@ -130,8 +131,8 @@ module _ (mk : List Rate → Line) where
   with_back (suc n) (r ∷ rs) front le h =
       let g = λ (one : Rate). with_rates (λ rs. ends (mk rs)) n (front ++ one ∷ []) in
       also_derives (the (codes "with")) (λ _. rate_part g) (ends (mk front)) (codes "with") tt (cell_text r.give ∷ codes "for" ∷ signed_decimal r.low ∷ (to_texts r.low r.high ++ rates_texts rs)) (mk (front ++ r ∷ rs)) refl
-        (rate_back g r (rates_texts rs) (mk (front ++ r ∷ rs)) h.0 (no_to rs)
-          (subst (λ (us : List Rate). Derives (g r) (rates_texts rs) (mk us)) (append_assoc front (r ∷ []) rs) (with_back n rs (front ++ r ∷ []) (omega arith) h.1)))
+      (rate_back g r (rates_texts rs) (mk (front ++ r ∷ rs)) h.0 (no_to rs)
+      (subst (λ (us : List Rate). Derives (g r) (rates_texts rs) (mk us)) (append_assoc front (r ∷ []) rs) (with_back n rs (front ++ r ∷ []) (omega arith) h.1)))
 
 rating_back : (mk : Op → Line) (t : Term) (rs : List Rate) → IsOp (rating t rs) → Derives (rating_body (λ op. ends (mk op))) (codes "of" ∷ term_text t ∷ rates_texts rs) (mk (rating t rs))
 rating_back mk t [] h = absurd (let l = h.1 in omega arith)
@@ -140,7 +141,7 @@ rating_back mk t (r ∷ rs) h =
     let l = h.2 in
     let g = λ (one : Rate). with_rates (λ rs. ends (mk (rating t rs))) 31 (one ∷ []) in
     next_derives term_of _ (term_text t) t (rates_texts (r ∷ rs)) x (term_back t h.0)
-      (rate_back g r (rates_texts rs) x h.3.0 (no_to rs) (with_back (λ rs. mk (rating t rs)) 31 rs (r ∷ []) (omega arith) h.3.1))
+    (rate_back g r (rates_texts rs) x h.3.0 (no_to rs) (with_back (λ rs. mk (rating t rs)) 31 rs (r ∷ []) (omega arith) h.3.1))
 
 op_back : (m : Manner) (mk : Op → Line) (o : Op) → IsOp o → Derives (next operation_named (operation_body m (λ op. ends (mk op)))) (op_texts o) (mk o)
 op_back m mk (local s ts) h =

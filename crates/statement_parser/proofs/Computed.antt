@@ -46,5 +46,5 @@ rows = record {
   reserved_name = refused_row (codes "end = LocalSum of A and 1") _ refl refl refl refl;
   later_form = refused_row (codes "new C 1") _ refl refl refl refl;
   bad_byte = bad_byte refl refl refl;
-  ninth = refused_row (codes "B = LocalSum of 1 and 2 and 3 and 4 and 5 and 6 and 7 and 8 and 9") _ refl refl refl refl
+  ninth = refused_row (codes "B = LocalSum of 1 and 2 and 3 and 4 and 5 and 6 and 7 and 8 and 9") _ refl refl refl refl;
 }

@@ -123,12 +123,12 @@ and_formed : (f : List Term → Rule Text Line) → Keeps (λ ts. (2 ≤ length 
 and_formed f h zero ts r = h ts (r.0, omega arith, r.2)
 and_formed f h (suc n) ts r =
     ends_also IsFormed (the (codes "and")) (λ _. next term_of (λ t. and_terms f n (ts ++ t ∷ []))) (f ts)
-      (λ w v e. then_term (λ t. and_terms f n (ts ++ t ∷ [])) (λ t p. and_formed f h n (ts ++ t ∷ []) (run-push IsTerm 2 8 n ts t r p))) (h ts (r.0, omega arith, r.2))
+    (λ w v e. then_term (λ t. and_terms f n (ts ++ t ∷ [])) (λ t p. and_formed f h n (ts ++ t ∷ []) (run-push IsTerm 2 8 n ts t r p))) (h ts (r.0, omega arith, r.2))
 
 statistic_formed : (s : Stat) (f : Op → Rule Text Line) → Keeps IsOp f → Formed (statistic_body s f)
 statistic_formed s f h =
     then_the (codes "of") _ (then_term _ (λ a p. then_the (codes "and") _ (then_term _ (λ b q.
-      and_formed (λ ts. f (local s ts)) (λ ts r. h (local s ts) r) 6 (a ∷ b ∷ []) (omega arith, omega arith, (p, (q, tt)))))))
+    and_formed (λ ts. f (local s ts)) (λ ts r. h (local s ts) r) 6 (a ∷ b ∷ []) (omega arith, omega arith, (p, (q, tt)))))))
 
 pair_formed : (make : Term → Term → Op) (f : Op → Rule Text Line) → ((a b : Term) → IsTerm a → IsTerm b → Formed (f (make a b))) → Formed (pair_body make f)
 pair_formed make f h = then_the (codes "of") _ (then_term _ (λ a p. then_the (codes "and") _ (then_term _ (λ b q. h a b p q))))
@@ -136,8 +136,8 @@ pair_formed make f h = then_the (codes "of") _ (then_term _ (λ a p. then_the (c
 to_formed : (f : Rate → Rule Text Line) → Keeps IsRate f → (give : Option ℤ) (low : ℤ) → IsCell give → IsTrue (is_value low) → Formed (to_part f give low)
 to_formed f h give low g l =
     ends_also IsFormed (the (codes "to")) (λ _. next value_of (λ high. f (record { low = low; high = high; give = give }))) (f (record { low = low; high = low; give = give }))
-      (λ w v e. then_value (λ high. f (record { low = low; high = high; give = give })) (λ high k. h (record { low = low; high = high; give = give }) (record { low = l; high = k; give = g })))
-      (h (record { low = low; high = low; give = give }) (record { low = l; high = l; give = g }))
+    (λ w v e. then_value (λ high. f (record { low = low; high = high; give = give })) (λ high k. h (record { low = low; high = high; give = give }) (record { low = l; high = k; give = g })))
+    (h (record { low = low; high = low; give = give }) (record { low = l; high = l; give = g }))
 
 rate_formed : (f : Rate → Rule Text Line) → Keeps IsRate f → Formed (rate_part f)
 rate_formed f h = then_cell _ (λ give g. then_the (codes "for") _ (then_value (to_part f give) (λ low l. to_formed f h give low g l)))
@@ -146,12 +146,12 @@ with_formed : (f : List Rate → Rule Text Line) → Keeps (λ rs. (1 ≤ length
 with_formed f h zero rs r = h rs (r.0, omega arith, r.2)
 with_formed f h (suc n) rs r =
     ends_also IsFormed (the (codes "with")) (λ _. rate_part (λ one. with_rates f n (rs ++ one ∷ []))) (f rs)
-      (λ w v e. rate_formed (λ one. with_rates f n (rs ++ one ∷ [])) (λ one p. with_formed f h n (rs ++ one ∷ []) (run-push IsRate 1 32 n rs one r p))) (h rs (r.0, omega arith, r.2))
+    (λ w v e. rate_formed (λ one. with_rates f n (rs ++ one ∷ [])) (λ one p. with_formed f h n (rs ++ one ∷ []) (run-push IsRate 1 32 n rs one r p))) (h rs (r.0, omega arith, r.2))
 
 rating_formed : (f : Op → Rule Text Line) → Keeps IsOp f → Formed (rating_body f)
 rating_formed f h =
     then_the (codes "of") _ (then_term _ (λ a p. then_the (codes "with") _ (rate_formed (λ one. with_rates (λ rs. f (rating a rs)) 31 (one ∷ [])) (λ one q.
-      with_formed (λ rs. f (rating a rs)) (λ rs r. h (rating a rs) (p, r.0, r.1, r.2)) 31 (one ∷ []) (omega arith, omega arith, (q, tt))))))
+    with_formed (λ rs. f (rating a rs)) (λ rs r. h (rating a rs) (p, r.0, r.1, r.2)) 31 (one ∷ []) (omega arith, omega arith, (q, tt))))))
 
 operation_formed : (m : Manner) (f : Op → Rule Text Line) → Keeps IsOp f → (o : Operation) → Formed (operation_body m f o)
 operation_formed m f h (Local s) = statistic_formed s f h
@@ -167,7 +167,7 @@ done x h = (h, λ w. tt)
 define_formed : (m : Manner) (n : Text) → IsTrue (is_plain n) → Formed (define_rule m n)
 define_formed m n p =
     then_the (codes "=") _ (ends_next IsFormed operation_named (operation_body m (λ op. ends (edit (define n (plain op))))) (λ w o e.
-      operation_formed m (λ op. ends (edit (define n (plain op)))) (λ op q. done (edit (define n (plain op))) (p, q)) o))
+    operation_formed m (λ op. ends (edit (define n (plain op)))) (λ op q. done (edit (define n (plain op))) (p, q)) o))
 
 command_formed : (c : Command) → Formed (command_rule c)
 command_formed Paint = then_name _ (λ n p. then_side _ (λ r1 a. then_side _ (λ c1 b. then_side _ (λ r2 c. then_side _ (λ c2 d. then_cell _ (λ v q. done (edit (paint n r1 c1 r2 c2 v)) (p, a, b, c, d, q)))))))

@@ -53,10 +53,10 @@ and_reads k r tails reads (suc n) ts ws =
     let part = λ (ws : List Text). one_at tests (the (codes "and")) false ws >>= λ u. one_at tests term_of true u.1 >>= λ t. and_at n (ts ++ t.0 ∷ []) t.1 in
     cond_k (starts (the (codes "and")) ws) (part ws) (Ok (ts, ws)) (λ p. k p.0 p.1)
     ∙ also_reads tests (the (codes "and")) (λ _. next term_of (λ t. and_terms r n (ts ++ t ∷ []))) (r ts) (λ ws. part ws >>= λ p. k p.0 p.1) (k ts) and_place (λ u. refl) (tails ts)
-        (place_k tests (the (codes "and")) false (λ u ws. one_at tests term_of true ws >>= λ t. and_at n (ts ++ t.0 ∷ []) t.1) k _ and_place (λ u. refl) (λ u.
-          place_k tests term_of true (λ t ws. and_at n (ts ++ t ∷ []) ws) k _ term_place (λ t. (and_tail r n (ts ++ t ∷ []) tails).node) (λ t.
-          and_reads k r tails reads n (ts ++ t ∷ []))))
-        (reads ts) ws
+    (place_k tests (the (codes "and")) false (λ u ws. one_at tests term_of true ws >>= λ t. and_at n (ts ++ t.0 ∷ []) t.1) k _ and_place (λ u. refl) (λ u.
+    place_k tests term_of true (λ t ws. and_at n (ts ++ t ∷ []) ws) k _ term_place (λ t. (and_tail r n (ts ++ t ∷ []) tails).node) (λ t.
+    and_reads k r tails reads n (ts ++ t ∷ []))))
+    (reads ts) ws
 
 statistic_reads : (s : Stat) (k : Goes Op) (r : Op → Rule Text Line) → AreTails r → Reads tests k r → (ws : List Text) → (statistic_at s ws >>= λ p. k p.0 p.1) ≡ run tests (statistic_body s r) ws
 unfolding statistic_at
@@ -98,9 +98,9 @@ to_reads k r tails reads give low ws =
     let part = λ (ws : List Text). one_at tests (the (codes "to")) false ws >>= λ u. one_at tests value_of true u.1 >>= λ z. Ok (made z.0, z.1) in
     cond_k (starts (the (codes "to")) ws) (part ws) (Ok (made low, ws)) (λ p. k p.0 p.1)
     ∙ also_reads tests (the (codes "to")) (λ _. next value_of (λ z. r (made z))) (r (made low)) (λ ws. part ws >>= λ p. k p.0 p.1) (k (made low)) to_place (λ u. refl) (tails (made low))
-        (place_k tests (the (codes "to")) false (λ u ws. one_at tests value_of true ws >>= λ z. Ok (made z.0, z.1)) k _ to_place (λ u. refl) (λ u.
-          place_k tests value_of true (λ z ws. Ok (made z, ws)) k _ value_place (λ z. (tails (made z)).node) (λ z. reads (made z))))
-        (reads (made low)) ws
+    (place_k tests (the (codes "to")) false (λ u ws. one_at tests value_of true ws >>= λ z. Ok (made z.0, z.1)) k _ to_place (λ u. refl) (λ u.
+    place_k tests value_of true (λ z ws. Ok (made z, ws)) k _ value_place (λ z. (tails (made z)).node) (λ z. reads (made z))))
+    (reads (made low)) ws
 
 to_node : (r : Rate → Rule Text Line) (give : Option ℤ) (low : ℤ) → is_node (to_part r give low) ≡ true
 to_node r give low = refl
@@ -124,10 +124,10 @@ with_reads k r tails reads (suc n) rs ws =
     let part = λ (ws : List Text). one_at tests (the (codes "with")) false ws >>= λ u. rate_at u.1 >>= λ one. more one.0 one.1 in
     cond_k (starts (the (codes "with")) ws) (part ws) (Ok (rs, ws)) (λ p. k p.0 p.1)
     ∙ also_reads tests (the (codes "with")) (λ _. rate_part (λ one. with_rates r n (rs ++ one ∷ []))) (r rs) (λ ws. part ws >>= λ p. k p.0 p.1) (k rs) with_place (λ u. refl) (tails rs)
-        (place_k tests (the (codes "with")) false (λ u ws. rate_at ws >>= λ one. more one.0 one.1) k _ with_place (λ u. refl) (λ u ws.
-          assoc (rate_at ws) (λ one. more one.0 one.1) (λ p. k p.0 p.1)
-          ∙ rate_reads (λ one ws. more one ws >>= λ p. k p.0 p.1) (λ one. with_rates r n (rs ++ one ∷ [])) (λ one. with_tail r n (rs ++ one ∷ []) tails) (λ one. with_reads k r tails reads n (rs ++ one ∷ [])) ws))
-        (reads rs) ws
+    (place_k tests (the (codes "with")) false (λ u ws. rate_at ws >>= λ one. more one.0 one.1) k _ with_place (λ u. refl) (λ u ws.
+    assoc (rate_at ws) (λ one. more one.0 one.1) (λ p. k p.0 p.1)
+    ∙ rate_reads (λ one ws. more one ws >>= λ p. k p.0 p.1) (λ one. with_rates r n (rs ++ one ∷ [])) (λ one. with_tail r n (rs ++ one ∷ []) tails) (λ one. with_reads k r tails reads n (rs ++ one ∷ [])) ws))
+    (reads rs) ws
 
 rating_reads : (k : Goes Op) (r : Op → Rule Text Line) → AreTails r → Reads tests k r → (ws : List Text) → (rating_at ws >>= λ p. k p.0 p.1) ≡ run tests (rating_body r) ws
 unfolding rating_at
@@ -140,8 +140,8 @@ rating_reads k r tails reads =
     place_k tests (the (codes "with")) false (λ v ws. first a ws) k _ with_place (λ v. refl) (λ v ws.
     assoc (rate_at ws) (λ one. last a one.0 one.1) (λ p. k p.0 p.1)
     ∙ rate_reads (λ one ws. last a one ws >>= λ p. k p.0 p.1) (λ one. with_rates (λ rs. r (rating a rs)) 31 (one ∷ [])) (λ one. with_tail (λ rs. r (rating a rs)) 31 (one ∷ []) (λ rs. tails (rating a rs))) (λ one ws.
-      assoc (with_at 31 (one ∷ []) ws) (λ rs. Ok (rating a rs.0, rs.1)) (λ p. k p.0 p.1)
-      ∙ with_reads (λ rs. k (rating a rs)) (λ rs. r (rating a rs)) (λ rs. tails (rating a rs)) (λ rs. reads (rating a rs)) 31 (one ∷ []) ws) ws)))
+    assoc (with_at 31 (one ∷ []) ws) (λ rs. Ok (rating a rs.0, rs.1)) (λ p. k p.0 p.1)
+    ∙ with_reads (λ rs. k (rating a rs)) (λ rs. r (rating a rs)) (λ rs. tails (rating a rs)) (λ rs. reads (rating a rs)) 31 (one ∷ []) ws) ws)))
 
 operation_reads : (m : Manner) (k : Goes Op) (r : Op → Rule Text Line) → AreTails r → Reads tests k r → (o : Operation) (ws : List Text) → (operation_at o ws >>= λ p. k p.0 p.1) ≡ run tests (operation_body m r o) ws
 operation_reads m k r tails reads (Local s) = statistic_reads s k r tails reads

@@ -88,6 +88,7 @@ line_reads m (w ∷ ws) = started (command_named w)
     both : (o : Option Text) → statement_at o ws ≡ or_refused tests o (suc (length ws)) (λ n. define_at n ws)
     both None = refl
     both (Some n) = refl
+
     started : (c : Option Command) → started_at c w ws ≡ or_else tests c (or_refused tests (name_of w) (suc (length ws)) (λ n. define_at n ws)) (λ c. command_at c ws)
     started None = both (name_of w)
     started (Some c) = refl

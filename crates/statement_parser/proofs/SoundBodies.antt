@@ -42,12 +42,12 @@ tail_and : (f : List Term → Rule Text Line) (n : ℕ) (ts : List Term) → Tai
 tail_and f zero ts h = h ts
 tail_and f (suc n) ts h =
     tail_also tests (the (codes "and")) (λ _. next term_of (λ t. and_terms f n (ts ++ t ∷ []))) (f ts) (codes "and") tt refl refl
-      (λ u. term_tail (λ t. and_terms f n (ts ++ t ∷ [])) (λ t. (tail_and f n (ts ++ t ∷ []) h).healthy)) (h ts)
+    (λ u. term_tail (λ t. and_terms f n (ts ++ t ∷ [])) (λ t. (tail_and f n (ts ++ t ∷ []) h).healthy)) (h ts)
 
 tail_statistic : (s : Stat) (f : Op → Rule Text Line) → Tails f → Tail tests (statistic_body s f)
 tail_statistic s f h =
     the_tail (codes "of") _ refl refl (term_tail _ (λ a. (the_tail (codes "and") _ refl refl (term_tail _ (λ b.
-      (tail_and (λ ts. f (local s ts)) 6 (a ∷ b ∷ []) (λ ts. h (local s ts))).healthy)).healthy).healthy)).healthy
+    (tail_and (λ ts. f (local s ts)) 6 (a ∷ b ∷ []) (λ ts. h (local s ts))).healthy)).healthy).healthy)).healthy
 
 tail_pair : (make : Term → Term → Op) (f : Op → Rule Text Line) → Tails f → Tail tests (pair_body make f)
 tail_pair make f h = the_tail (codes "of") _ refl refl (term_tail _ (λ a. (the_tail (codes "and") _ refl refl (term_tail _ (λ b. (h (make a b)).healthy)).healthy).healthy)).healthy
@@ -55,7 +55,7 @@ tail_pair make f h = the_tail (codes "of") _ refl refl (term_tail _ (λ a. (the_
 tail_to : (f : Rate → Rule Text Line) (give : Option ℤ) (low : ℤ) → Tails f → Tail tests (to_part f give low)
 tail_to f give low h =
     tail_also tests (the (codes "to")) (λ _. next value_of (λ high. f (record { low = low; high = high; give = give }))) (f (record { low = low; high = low; give = give })) (codes "to") tt refl refl
-      (λ u. value_tail (λ high. f (record { low = low; high = high; give = give })) (λ high. (h (record { low = low; high = high; give = give })).healthy)) (h (record { low = low; high = low; give = give }))
+    (λ u. value_tail (λ high. f (record { low = low; high = high; give = give })) (λ high. (h (record { low = low; high = high; give = give })).healthy)) (h (record { low = low; high = low; give = give }))
 
 tail_rate : (f : Rate → Rule Text Line) → Tails f → Tail tests (rate_part f)
 tail_rate f h = cell_tail _ (λ give. (the_tail (codes "for") _ refl refl (value_tail (to_part f give) (λ low. (tail_to f give low h).healthy)).healthy).healthy)
@@ -64,12 +64,12 @@ tail_with : (f : List Rate → Rule Text Line) (n : ℕ) (rs : List Rate) → Ta
 tail_with f zero rs h = h rs
 tail_with f (suc n) rs h =
     tail_also tests (the (codes "with")) (λ _. rate_part (λ r. with_rates f n (rs ++ r ∷ []))) (f rs) (codes "with") tt refl refl
-      (λ u. tail_rate (λ r. with_rates f n (rs ++ r ∷ [])) (λ r. tail_with f n (rs ++ r ∷ []) h)) (h rs)
+    (λ u. tail_rate (λ r. with_rates f n (rs ++ r ∷ [])) (λ r. tail_with f n (rs ++ r ∷ []) h)) (h rs)
 
 tail_rating : (f : Op → Rule Text Line) → Tails f → Tail tests (rating_body f)
 tail_rating f h =
     the_tail (codes "of") _ refl refl (term_tail _ (λ a. (the_tail (codes "with") _ refl refl (tail_rate _ (λ r.
-      tail_with (λ rs. f (rating a rs)) 31 (r ∷ []) (λ rs. h (rating a rs)))).healthy).healthy)).healthy
+    tail_with (λ rs. f (rating a rs)) 31 (r ∷ []) (λ rs. h (rating a rs)))).healthy).healthy)).healthy
 
 pub tail_operation : (m : Manner) (f : Op → Rule Text Line) → Tails f → (o : Operation) → Tail tests (operation_body m f o)
 tail_operation m f h (Local s) = tail_statistic s f h
@@ -96,7 +96,7 @@ none_node (Some v) r e = absurd cc
 known_body : (r : Operation → Rule Text Line) → KnownBodies tests (on operation_named r)
 known_body r b w ws x u d =
     nothing (after (operation_named w) r) ws x
-      (none_node (operation_named w) r (no_operation (has_name_form w) (operation_named w) (first_true (has_name_form w && not (is_some (operation_named w))) (not (opens_next tests ws)) u))) d
+    (none_node (operation_named w) r (no_operation (has_name_form w) (operation_named w) (first_true (has_name_form w && not (is_some (operation_named w))) (not (opens_next tests ws)) u))) d
 
 pub healthy_body : (m : Manner) (f : Op → Rule Text Line) → Tails f → Healthy tests (next operation_named (operation_body m f))
 healthy_body m f h =

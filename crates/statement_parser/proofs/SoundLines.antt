@@ -39,4 +39,4 @@ no_operation_first m = rw (command_place.free, name_place.free) refl
 pub healthy_line : (m : Manner) → Healthy tests (line_rule m)
 healthy_line m =
     healthy_end tests blank (on command_named command_rule <|> on name_of (define_rule m)) (no_operation_first m)
-      (all_or tests (on command_named command_rule) (on name_of (define_rule m)) (all_on tests command_named command_rule healthy_command) (all_on tests name_of (define_rule m) (healthy_define m)))
+    (all_or tests (on command_named command_rule) (on name_of (define_rule m)) (all_on tests command_named command_rule healthy_command) (all_on tests name_of (define_rule m) (healthy_define m)))

@@ -123,5 +123,5 @@ settled_text m bytes = record {
   one_line = one_line_of m bytes;
   one_refusal = one_refusal_of m bytes;
   never_both = never_both_of m bytes;
-  either = either_of m bytes (is_short bytes) (is_silent bytes) (first_bad bytes) refl refl refl
+  either = either_of m bytes (is_short bytes) (is_silent bytes) (first_bad bytes) refl refl refl;
 }

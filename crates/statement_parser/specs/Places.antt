@@ -41,5 +41,5 @@ tests = record {
   operation = codes "LocalSum";
   is_number = is_number;
   is_stranger = λ t. has_name_form t && not (is_operation t);
-  opens = λ t. bytes_eq t (codes "(")
+  opens = λ t. bytes_eq t (codes "(");
 }

@@ -16,9 +16,9 @@ use Rattle.statement_parser.specs.declared.operation.Operation.TheVariants.{Loca
 unfoldable pub and_at : ℕ → List Term → List Text → Read Text (List Term)
 and_at zero ts ws = Ok (ts, ws)
 and_at (suc n) ts ws = if starts (the (codes "and")) ws then (do
-    u ← one_at tests (the (codes "and")) false ws
-    t ← one_at tests term_of true u.1
-    and_at n (ts ++ t.0 ∷ []) t.1) else Ok (ts, ws)
+  u ← one_at tests (the (codes "and")) false ws
+  t ← one_at tests term_of true u.1
+  and_at n (ts ++ t.0 ∷ []) t.1) else Ok (ts, ws)
 
 unfoldable pub statistic_at : Stat → List Text → Read Text Op
 statistic_at s ws = do
@@ -49,9 +49,9 @@ ratio_at ws = do
 
 unfoldable pub to_at : Option ℤ → ℤ → List Text → Read Text Rate
 to_at give low ws = if starts (the (codes "to")) ws then (do
-    u ← one_at tests (the (codes "to")) false ws
-    high ← one_at tests value_of true u.1
-    Ok (record { low = low; high = high.0; give = give }, high.1)) else Ok (record { low = low; high = low; give = give }, ws)
+  u ← one_at tests (the (codes "to")) false ws
+  high ← one_at tests value_of true u.1
+  Ok (record { low = low; high = high.0; give = give }, high.1)) else Ok (record { low = low; high = low; give = give }, ws)
 
 unfoldable pub range_at : Option ℤ → List Text → Read Text Rate
 range_at give ws = do
@@ -67,9 +67,9 @@ rate_at ws = do
 unfoldable pub with_at : ℕ → List Rate → List Text → Read Text (List Rate)
 with_at zero rs ws = Ok (rs, ws)
 with_at (suc n) rs ws = if starts (the (codes "with")) ws then (do
-    u ← one_at tests (the (codes "with")) false ws
-    r ← rate_at u.1
-    with_at n (rs ++ r.0 ∷ []) r.1) else Ok (rs, ws)
+  u ← one_at tests (the (codes "with")) false ws
+  r ← rate_at u.1
+  with_at n (rs ++ r.0 ∷ []) r.1) else Ok (rs, ws)
 
 unfoldable pub rating_at : List Text → Read Text Op
 rating_at ws = do

@@ -8,11 +8,9 @@ ghost use Rattle.statement_parser.specs.Texts.{IsSettledText};
 /// All bytes are either one line, or refused in one way.
 pub fn lines_are_settled()
     ensures { (m : Manner) (bytes : Text) → IsSettledText m bytes }
-{
-}
+{}
 
 /// Worked lines are what the definitions make of them.
 pub fn worked_lines()
     ensures { Rows }
-{
-}
+{}

@@ -9,7 +9,6 @@ mod laws;
 mod line;
 mod line_text;
 mod local;
-
 mod op;
 mod operation;
 mod parsing;
@@ -17,8 +16,12 @@ mod places;
 mod printing;
 mod refusal;
 
-
 pub use laws::{lines_are_settled, worked_lines};
 pub use line::{Line, LineEdit, Request, Written};
 pub use line_text::parse_line;
 pub use op::{Op, Term};
+pub use printing::print_written;
+pub use refusal::LineRefusal;
+
+#[cfg(test)]
+mod tests;

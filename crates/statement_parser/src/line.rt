@@ -13,9 +13,21 @@ pub enum Written {
 /// A line that changes the map. Rows and columns count from 1.
 #[derive(Drop)]
 pub enum LineEdit {
-    Define { name: Name, written: Written },
-    Paint { name: Name, r1: u32, c1: u32, r2: u32, c2: u32, cell: Cell },
-    Drop { name: Name },
+    Define {
+        name: Name,
+        written: Written,
+    },
+    Paint {
+        name: Name,
+        r1: u32,
+        c1: u32,
+        r2: u32,
+        c2: u32,
+        cell: Cell,
+    },
+    Drop {
+        name: Name,
+    },
 }
 
 /// A line that asks for something. Rows and columns count from 1.

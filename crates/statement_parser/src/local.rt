@@ -16,7 +16,12 @@ use std::alloc::Global;
 
 /// Further terms, at most so many.
 #[tactic(auto, unfolding(crate::specs::ReadLocal::and_at))]
-fn and_terms<'t, 'a>(alloc: Global, most: u32, front: Vec<Term>, words: &'t [Word<'a>]) -> Result<(Vec<Term>, &'t [Word<'a>]), ReadError>
+fn and_terms<'t, 'a>(
+    alloc: Global,
+    most: u32,
+    front: Vec<Term>,
+    words: &'t [Word<'a>],
+) -> Result<(Vec<Term>, &'t [Word<'a>]), ReadError>
     ensures { Gives (λ x. (terms_view x.0.items, texts_of x.1.now)) result (and_at most (terms_view front.items) (texts_of words.now)) }
 {
     if most == 0 {
@@ -33,7 +38,11 @@ fn and_terms<'t, 'a>(alloc: Global, most: u32, front: Vec<Term>, words: &'t [Wor
 }
 
 #[tactic(auto, unfolding(crate::specs::ReadLocal::statistic_at))]
-fn statistic<'t, 'a>(alloc: Global, stat: Stat, words: &'t [Word<'a>]) -> Result<(Op, &'t [Word<'a>]), ReadError>
+fn statistic<'t, 'a>(
+    alloc: Global,
+    stat: Stat,
+    words: &'t [Word<'a>],
+) -> Result<(Op, &'t [Word<'a>]), ReadError>
     ensures { Gives (λ x. (op_view x.0, texts_of x.1.now)) result (statistic_at stat (texts_of words.now)) }
 {
     let rest = the(b"of", words)?;
@@ -49,7 +58,10 @@ fn statistic<'t, 'a>(alloc: Global, stat: Stat, words: &'t [Word<'a>]) -> Result
 
 /// Two terms.
 #[tactic(auto, unfolding(crate::specs::ReadLocal::pair_at))]
-fn pair<'t, 'a>(alloc: Global, words: &'t [Word<'a>]) -> Result<((Term, Term), &'t [Word<'a>]), ReadError>
+fn pair<'t, 'a>(
+    alloc: Global,
+    words: &'t [Word<'a>],
+) -> Result<((Term, Term), &'t [Word<'a>]), ReadError>
     ensures { Gives (λ x. ((term_view x.0.0, term_view x.0.1), texts_of x.1.now)) result (pair_at (texts_of words.now)) }
 {
     let rest = the(b"of", words)?;
@@ -60,7 +72,10 @@ fn pair<'t, 'a>(alloc: Global, words: &'t [Word<'a>]) -> Result<((Term, Term), &
 }
 
 #[tactic(auto, unfolding(crate::specs::ReadLocal::difference_at))]
-fn difference<'t, 'a>(alloc: Global, words: &'t [Word<'a>]) -> Result<(Op, &'t [Word<'a>]), ReadError>
+fn difference<'t, 'a>(
+    alloc: Global,
+    words: &'t [Word<'a>],
+) -> Result<(Op, &'t [Word<'a>]), ReadError>
     ensures { Gives (λ x. (op_view x.0, texts_of x.1.now)) result (difference_at (texts_of words.now)) }
 {
     let ((left, right), rest) = pair(alloc, words)?;
@@ -77,11 +92,19 @@ fn ratio<'t, 'a>(alloc: Global, words: &'t [Word<'a>]) -> Result<(Op, &'t [Word<
 
 /// The end of a rate's range, which may be left out.
 #[tactic(auto, unfolding(crate::specs::ReadLocal::to_at))]
-fn to_part<'t, 'a>(give: Option<Value>, low: Value, words: &'t [Word<'a>]) -> Result<(Rate, &'t [Word<'a>]), ReadError>
+fn to_part<'t, 'a>(
+    give: Option<Value>,
+    low: Value,
+    words: &'t [Word<'a>],
+) -> Result<(Rate, &'t [Word<'a>]), ReadError>
     ensures { Gives (λ x. (x.0, texts_of x.1.now)) result (to_at give low (texts_of words.now)) }
 {
     if !is_next(b"to", words) {
-        let rate = Rate { low, high: low, give };
+        let rate = Rate {
+            low,
+            high: low,
+            give,
+        };
         return Ok((rate, words));
     }
     let rest = the(b"to", words)?;
@@ -91,7 +114,10 @@ fn to_part<'t, 'a>(give: Option<Value>, low: Value, words: &'t [Word<'a>]) -> Re
 
 /// What follows what a rate gives.
 #[tactic(auto, unfolding(crate::specs::ReadLocal::range_at))]
-fn range<'t, 'a>(give: Option<Value>, words: &'t [Word<'a>]) -> Result<(Rate, &'t [Word<'a>]), ReadError>
+fn range<'t, 'a>(
+    give: Option<Value>,
+    words: &'t [Word<'a>],
+) -> Result<(Rate, &'t [Word<'a>]), ReadError>
     ensures { Gives (λ x. (x.0, texts_of x.1.now)) result (range_at give (texts_of words.now)) }
 {
     let rest = the(b"for", words)?;
@@ -111,7 +137,11 @@ fn rate<'t, 'a>(words: &'t [Word<'a>]) -> Result<(Rate, &'t [Word<'a>]), ReadErr
 
 /// Further rates, at most so many.
 #[tactic(auto, unfolding(crate::specs::ReadLocal::with_at))]
-fn with_rates<'t, 'a>(most: u32, front: Vec<Rate>, words: &'t [Word<'a>]) -> Result<(Vec<Rate>, &'t [Word<'a>]), ReadError>
+fn with_rates<'t, 'a>(
+    most: u32,
+    front: Vec<Rate>,
+    words: &'t [Word<'a>],
+) -> Result<(Vec<Rate>, &'t [Word<'a>]), ReadError>
     ensures { Gives (λ x. (x.0.items, texts_of x.1.now)) result (with_at most front.items (texts_of words.now)) }
 {
     if most == 0 {

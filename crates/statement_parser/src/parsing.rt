@@ -56,7 +56,14 @@ fn paint(alloc: Global, words: &[Word<'_>]) -> Result<Line, ReadError>
         Err(error) => Err(error),
         Ok((cell, rest)) => {
             end(rest)?;
-            Ok(Line::Edit(LineEdit::Paint { name, r1, c1, r2, c2, cell }))
+            Ok(Line::Edit(LineEdit::Paint {
+                name,
+                r1,
+                c1,
+                r2,
+                c2,
+                cell,
+            }))
         }
     }
 }

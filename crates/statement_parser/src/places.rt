@@ -55,7 +55,10 @@ pub fn is_next(word: &[u8], words: &[Word<'_>]) -> bool
 }
 
 /// A plain name.
-pub fn name<'t, 'a>(alloc: Global, words: &'t [Word<'a>]) -> Result<(Name, &'t [Word<'a>]), ReadError>
+pub fn name<'t, 'a>(
+    alloc: Global,
+    words: &'t [Word<'a>],
+) -> Result<(Name, &'t [Word<'a>]), ReadError>
     ensures { Gives (λ x. (x.0, texts_of x.1.now)) result (one_at place.tests place.name_of false (texts_of words.now)) }
 {
     match words {
@@ -80,7 +83,10 @@ fn any_name(alloc: Global, text: &[u8]) -> Result<Name, NameRefusal>
 }
 
 /// A plain or a dotted name.
-pub fn any<'t, 'a>(alloc: Global, words: &'t [Word<'a>]) -> Result<(Name, &'t [Word<'a>]), ReadError>
+pub fn any<'t, 'a>(
+    alloc: Global,
+    words: &'t [Word<'a>],
+) -> Result<(Name, &'t [Word<'a>]), ReadError>
     ensures { Gives (λ x. (x.0, texts_of x.1.now)) result (one_at place.tests place.any_of false (texts_of words.now)) }
 {
     match words {
@@ -164,7 +170,10 @@ pub fn cell<'t, 'a>(words: &'t [Word<'a>]) -> Result<(Cell, &'t [Word<'a>]), Rea
 }
 
 /// A layer's name or a number.
-pub fn term<'t, 'a>(alloc: Global, words: &'t [Word<'a>]) -> Result<(Term, &'t [Word<'a>]), ReadError>
+pub fn term<'t, 'a>(
+    alloc: Global,
+    words: &'t [Word<'a>],
+) -> Result<(Term, &'t [Word<'a>]), ReadError>
     ensures { Gives (λ x. (term_view x.0, texts_of x.1.now)) result (one_at place.tests place.term_of true (texts_of words.now)) }
 {
     match words {

@@ -10,4 +10,4 @@ pub returns-in-Err-Fault : goal.returns-in-Err-Fault
 returns-in-Err-Fault c =
     let fault = c.in-Err-Fault.fault in
     refusal_is first_language c.args.line.now c.args.words.now c.requires.short c.requires.spoken c.requires.good c.requires.words line_view fault.kind fault.left c.refusal.result
-      (rw c.in-Err-Fault.field-0-is at c.in-Err-Fault.ensures) c.refusal.ensures
+    (rw c.in-Err-Fault.field-0-is at c.in-Err-Fault.ensures) c.refusal.ensures

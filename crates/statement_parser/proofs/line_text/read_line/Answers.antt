@@ -1,5 +1,4 @@
 use Rattle.std.proofs.Common.{Some, length, sym, ap, ◌∙◌}
-
 use Rattle.statement_parser.specs.Texts.{too_long, silent, bad_byte}
 use Rattle.statement_parser.proofs.Whole.{not_short, not_long}
 use Rattle.statement_parser.proofs.line_text.read_line.Goals as goal
