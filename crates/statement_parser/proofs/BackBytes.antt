@@ -1,8 +1,8 @@
 -- The words of a canonical text.
-use Rattle.std.proofs.Common.{◌≡◌, ◌⊎◌, inl, inr, ℕ, zero, suc, ◌≤◌, ◌<◌, ◌+◌, ◌-◌, ℤ, pos, negsuc, Bool, true, false, not, cond, ◌&&◌, ◌||◌, List, [], ◌∷◌, ◌++◌, map, length, Option, Some, None, refl, sym, ap, subst, ◌∙◌, append_assoc, arith, nat_eq, nat_lt}
-use Rattle.std.specs.Prelude.{codes, bytes_eq, option_map, position, IsTrue, nat_le}
+use Rattle.std.proofs.Common.{◌≡◌, ◌⊎◌, inl, inr, ℕ, suc, ◌+◌, ℤ, Bool, true, false, not, cond, ◌&&◌, List, [], ◌∷◌, ◌++◌, map, length, Option, Some, None, refl, sym, ap, subst, ◌∙◌, append_assoc, arith, nat_eq, nat_lt}
+use Rattle.std.specs.Prelude.{codes, option_map, IsTrue, nat_le}
 use Rattle.std.specs.List.{list_all, prefix_len}
-use Rattle.std.specs.Char.{is_ascii_alphabetic, is_ascii_digit}
+use Rattle.std.specs.Char.{is_ascii_alphabetic}
 use Rattle.std.specs.Fmt.{signed_decimal}
 use Rattle.std.specs.Ordering.{int_eq}
 use Rattle.std.proofs.lemmas.List.{append-nil, map-append}
@@ -13,12 +13,12 @@ use Rattle.map_nums.specs.declared.Stat.TheVariants.{Sum, Product, Maximum, Mini
 use Rattle.map_nums.specs.declared.Rate.{Rate}
 use Rattle.map_nums.specs.Numbers.{is_value}
 use Rattle.map_words.specs.Bytes.{Text, is_blank, is_mark, is_good, first_bad, is_silent}
-use Rattle.map_words.specs.Words.{Placed, closed, longer, words_from, words_of, text_of}
+use Rattle.map_words.specs.Words.{Placed, closed, longer, words_from, text_of}
 use Rattle.map_words.specs.Names.{is_plain, has_name_form, is_name_byte, is_reserved}
-use Rattle.statement_parser.specs.Lines.{Manner, Term, layer, value, Op, local, difference, ratio, rating, Written, plain, define, Line, edit}
+use Rattle.statement_parser.specs.Lines.{Manner, Term, layer, value, Op, local, difference, ratio, rating, Written, plain, define, edit}
 use Rattle.statement_parser.specs.Grammar.{IsLine}
 use Rattle.statement_parser.specs.Formed.{Each, IsTerm, IsCell, IsRate, IsOp, IsWritten}
-use Rattle.statement_parser.specs.Canonical.{term_text, cell_text, stat_text, terms_after, terms_texts, to_texts, rate_texts, rates_texts, op_texts, written_tail, written_texts, spaced, joined, written_text}
+use Rattle.statement_parser.specs.Canonical.{term_text, cell_text, stat_text, terms_after, terms_texts, to_texts, rates_texts, op_texts, written_tail, written_texts, spaced, joined, written_text}
 use Rattle.statement_parser.specs.Texts.{seen, is_short, LineText, worded}
 use Rattle.statement_parser.specs.Printing.{ReadsBack}
 use Rattle.statement_parser.proofs.Numerals.{is_run_byte, number_run, number_some}

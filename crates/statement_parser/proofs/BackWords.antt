@@ -1,5 +1,5 @@
 -- The words of a formed statement are its line.
-use Rattle.std.proofs.Common.{◌≡◌, ℕ, zero, suc, ◌≤◌, ◌+◌, ℤ, pos, negsuc, Bool, true, false, cond, List, [], ◌∷◌, ◌++◌, length, Option, Some, None, refl, sym, ap, subst, ◌∙◌, append_assoc, arith}
+use Rattle.std.proofs.Common.{◌≡◌, ℕ, zero, suc, ◌≤◌, ℤ, Bool, true, false, cond, List, [], ◌∷◌, ◌++◌, length, Option, Some, None, refl, sym, ap, subst, ◌∙◌, append_assoc, arith}
 use Rattle.std.specs.Prelude.{codes, bytes_eq, option_map, IsTrue}
 use Rattle.std.specs.Fmt.{signed_decimal}
 use Rattle.std.specs.Ordering.{int_eq}
@@ -9,18 +9,17 @@ use Rattle.std.proofs.lemmas.Bool.Decides.{Decides-int_eq}
 use Rattle.map_nums.specs.declared.Stat.{Stat}
 use Rattle.map_nums.specs.declared.Stat.TheVariants.{Sum, Product, Maximum, Minimum, Mean, Median, Majority, Minority, Variety}
 use Rattle.map_nums.specs.declared.Rate.{Rate}
-use Rattle.map_nums.specs.Numbers.{is_value}
 use Rattle.map_words.specs.Bytes.{Text}
 use Rattle.map_words.specs.Names.{is_plain, is_reserved, is_among}
-use Rattle.grammar_core.specs.Rules.{Rule, Derives, ends, on, next, also, after, or_rule, step}
+use Rattle.grammar_core.specs.Rules.{Rule, Derives, ends, next, after, or_rule}
 use Rattle.grammar_core.proofs.Ends.{next_derives, also_derives, rest_derives}
 use Rattle.statement_parser.specs.Lines.{Manner, Term, layer, value, Op, local, difference, ratio, rating, Written, plain, define, Line, edit}
 use Rattle.statement_parser.specs.Operations.{lookup, operation_named}
 use Rattle.statement_parser.specs.Places.{the, name_of, value_of, term_of, cell_of}
 use Rattle.statement_parser.specs.Bodies.{and_terms, statistic_body, pair_body, to_part, rate_part, with_rates, rating_body, operation_body}
-use Rattle.statement_parser.specs.Grammar.{define_rule, commands, command_named, command_rule, line_rule, IsLine}
+use Rattle.statement_parser.specs.Grammar.{define_rule, commands, command_named, command_rule, IsLine}
 use Rattle.statement_parser.specs.Formed.{Each, IsTerm, IsCell, IsRate, IsOp, IsWritten}
-use Rattle.statement_parser.specs.Canonical.{term_text, cell_text, stat_text, terms_after, terms_texts, to_texts, rate_texts, rates_texts, op_texts, written_tail, written_texts}
+use Rattle.statement_parser.specs.Canonical.{term_text, cell_text, stat_text, terms_after, terms_texts, to_texts, rates_texts, op_texts, written_texts}
 use Rattle.statement_parser.specs.declared.operation.Operation.TheVariants.{Local, Difference, Ratio, Rating}
 use Rattle.statement_parser.specs.declared.command.Command.{Command}
 use Rattle.statement_parser.proofs.Numerals.{value_back, no_plain, no_null}

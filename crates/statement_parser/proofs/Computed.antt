@@ -1,11 +1,10 @@
 -- The worked lines, computed.
-use Rattle.std.proofs.Common.{◌≡◌, Bool, true, false, List, [], ◌∷◌, ◌++◌, Option, Some, None, Result, Ok, Err, refl, sym, ◌∙◌}
+use Rattle.std.proofs.Common.{◌≡◌, true, false, None, Ok, Err, refl, sym, ◌∙◌}
 use Rattle.std.specs.Prelude.{codes}
 use Rattle.map_words.specs.Bytes.{Text, first_bad, is_silent}
 use Rattle.map_words.specs.Names.{is_plain, is_dotted, is_reserved, is_among}
 use Rattle.map_words.specs.Numbers.{number_text}
 use Rattle.grammar_core.specs.declared.Fault.{Fault}
-use Rattle.grammar_core.specs.Run.{run}
 use Rattle.grammar_core.proofs.FirstFault.{found_so, refused_so}
 use Rattle.statement_parser.specs.Lines.{Line, first_language}
 use Rattle.statement_parser.specs.Places.{tests}

@@ -1,6 +1,6 @@
 -- Every line that is read is formed.
-use Rattle.std.proofs.Common.{◌≡◌, ◌+◌, ◌≤◌, ℕ, zero, suc, ℤ, pos, negsuc, Bool, true, false, cond, ◌&&◌, ◌||◌, List, [], ◌∷◌, ◌++◌, length, Option, Some, None, refl, sym, ap, subst, ◌∙◌, arith, length-append}
-use Rattle.std.specs.Prelude.{codes, bytes_eq, int_le, nat_abs, option_map, IsTrue, IfSome, nat_le}
+use Rattle.std.proofs.Common.{◌≡◌, ◌+◌, ◌≤◌, ℕ, zero, suc, ℤ, pos, negsuc, Bool, true, false, cond, ◌&&◌, ◌||◌, List, [], ◌∷◌, ◌++◌, length, Option, Some, None, refl, subst, arith, length-append}
+use Rattle.std.specs.Prelude.{codes, bytes_eq, int_le, nat_abs, option_map, IsTrue, nat_le}
 use Rattle.std.proofs.lemmas.Bool.{leb-true}
 use Rattle.map_nums.specs.declared.Stat.{Stat}
 use Rattle.map_nums.specs.declared.Rate.{Rate}
@@ -8,18 +8,18 @@ use Rattle.map_nums.specs.Numbers.{is_value, vmin, vmax}
 use Rattle.map_words.specs.Bytes.{Text}
 use Rattle.map_words.specs.Names.{is_plain, is_dotted}
 use Rattle.map_words.specs.Numbers.{number_text, if_between}
-use Rattle.grammar_core.specs.Rules.{Rule, Derives, node, ends, on, next, also, ◌<|>◌}
-use Rattle.grammar_core.proofs.Ends.{AllEnds, Holds, each_end, ends_on, ends_next, ends_or, ends_also}
-use Rattle.statement_parser.specs.Lines.{Manner, Term, layer, value, Op, local, difference, ratio, rating, Written, plain, define, paint, drop, ask_value, ask_grid, ask_list, Line, blank, edit, ask, quit}
+use Rattle.grammar_core.specs.Rules.{Rule, ends, on, next}
+use Rattle.grammar_core.proofs.Ends.{AllEnds, each_end, ends_on, ends_next, ends_or, ends_also}
+use Rattle.statement_parser.specs.Lines.{Manner, Term, layer, value, Op, local, difference, ratio, rating, plain, define, paint, drop, ask_value, ask_grid, ask_list, Line, edit, ask, quit}
 use Rattle.statement_parser.specs.Operations.{operation_named}
 use Rattle.statement_parser.specs.Places.{the, name_of, any_of, value_of, side_of, term_of, cell_of}
 use Rattle.statement_parser.specs.Bodies.{and_terms, statistic_body, pair_body, to_part, rate_part, with_rates, rating_body, operation_body}
-use Rattle.statement_parser.specs.Grammar.{define_rule, paint_rule, drop_rule, value_rule, grid_rule, command_named, command_rule, line_rule, IsLine}
+use Rattle.statement_parser.specs.Grammar.{define_rule, command_named, command_rule, line_rule, IsLine}
 use Rattle.std.specs.Prelude.{IfOk, Result, Ok, Err}
 use Rattle.statement_parser.specs.declared.refusal.LineRefusal.{LineRefusal}
 use Rattle.statement_parser.specs.Texts.{seen, LineText, silent, worded}
 use Rattle.statement_parser.specs.Parsed.{IsParsed}
-use Rattle.statement_parser.specs.Formed.{Each, IsTerm, IsCell, IsRate, IsOp, IsWritten, IsSide, IsEdit, IsAny, IsRequest, IsFormed}
+use Rattle.statement_parser.specs.Formed.{Each, IsTerm, IsCell, IsRate, IsOp, IsSide, IsAny, IsFormed}
 use Rattle.statement_parser.specs.declared.operation.Operation.{Operation}
 use Rattle.statement_parser.specs.declared.operation.Operation.TheVariants.{Local, Difference, Ratio, Rating}
 use Rattle.statement_parser.specs.declared.command.Command.{Command}

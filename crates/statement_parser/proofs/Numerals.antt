@@ -1,18 +1,18 @@
 -- Printed numbers are words that read as the same number.
-use Rattle.std.proofs.Common.{◌≡◌, ℕ, zero, suc, ◌+◌, ◌<◌, ◌≤◌, ◌^◌, ℤ, pos, negsuc, Bool, true, false, not, cond, ◌&&◌, ◌||◌, List, [], ◌∷◌, ◌++◌, length, Option, Some, None, refl, sym, ap, subst, ◌∙◌, arith, nat_eq}
-use Rattle.std.specs.Prelude.{codes, bytes_eq, int_le, nat_le, option_map, IsTrue, neg_ℤ}
+use Rattle.std.proofs.Common.{◌≡◌, ℕ, suc, ◌<◌, ◌≤◌, ◌^◌, ℤ, pos, negsuc, Bool, true, false, not, ◌&&◌, [], ◌∷◌, Some, refl, sym, ap, ◌∙◌, arith, nat_eq}
+use Rattle.std.specs.Prelude.{codes, bytes_eq, nat_le, option_map, IsTrue}
 use Rattle.std.specs.List.{list_all}
 use Rattle.std.specs.Char.{is_ascii_digit, is_ascii_alphabetic, digit_value}
 use Rattle.std.specs.Int.{IsInRange}
 use Rattle.std.specs.Fmt.{decimal, signed_decimal}
-use Rattle.std.specs.Str.Parse.{AllDigits, IsNumeral, digits_value}
+use Rattle.std.specs.Str.Parse.{AllDigits, IsNumeral}
 use Rattle.std.proofs.lemmas.Fmt.{decimal_is_IsNumeral}
 use Rattle.std.proofs.lemmas.Str.Parse.{digit_from_value}
 use Rattle.std.proofs.lemmas.Bool.Decides.{nat_tests}
 use Rattle.std.proofs.lemmas.Bool.{leb-true}
 use Rattle.map_nums.specs.Numbers.{is_value, vmin, vmax}
 use Rattle.map_words.specs.Bytes.{Text, is_blank, is_mark, is_good}
-use Rattle.map_words.specs.Names.{is_plain, has_name_form, is_name_byte, is_reserved}
+use Rattle.map_words.specs.Names.{is_plain}
 use Rattle.map_words.specs.Numbers.{number_text, unsigned_text, signed_text, are_digits, with_sign, if_between}
 use Rattle.statement_parser.specs.Places.{value_of}
 

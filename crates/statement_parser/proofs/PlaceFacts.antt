@@ -1,12 +1,12 @@
 -- What the places of lines take, and what they don't.
-use Rattle.std.proofs.Common.{◌≡◌, ℕ, ℤ, pos, Bool, true, false, List, [], ◌∷◌, Option, Some, None, refl}
+use Rattle.std.proofs.Common.{◌≡◌, pos, true, false, Some, None, refl}
 use Rattle.std.specs.Prelude.{codes, is_some, bytes_eq}
 use Rattle.map_nums.specs.declared.Stat.TheVariants as stats
 use Rattle.map_words.specs.Bytes.{Text}
 use Rattle.map_words.specs.Names.{is_plain, is_dotted, is_reserved, is_among}
 use Rattle.map_words.specs.Numbers.{number_text}
 use Rattle.grammar_core.proofs.Reading.{IsPlace}
-use Rattle.statement_parser.specs.Lines.{Term, layer, value}
+use Rattle.statement_parser.specs.Lines.{value}
 use Rattle.statement_parser.specs.Operations.{operation_named}
 use Rattle.statement_parser.specs.Places.{the, name_of, any_of, value_of, side_of, term_of, cell_of, tests}
 use Rattle.statement_parser.specs.Grammar.{command_named}

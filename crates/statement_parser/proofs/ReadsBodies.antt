@@ -1,16 +1,15 @@
 -- Reading operations is reading by their rules, whatever follows.
-use Rattle.std.proofs.Common.{◌≡◌, ℕ, zero, suc, ℤ, pos, Bool, true, false, cond, List, [], ◌∷◌, ◌++◌, length, Option, Some, None, Result, Ok, Err, refl, sym, ap, ◌∙◌}
-use Rattle.std.specs.Prelude.{codes, is_some, bytes_eq}
+use Rattle.std.proofs.Common.{◌≡◌, ℕ, zero, suc, ℤ, true, false, List, [], ◌∷◌, ◌++◌, length, Option, Some, None, Result, Ok, refl, ap, ◌∙◌}
+use Rattle.std.specs.Prelude.{codes, is_some}
 use Rattle.map_nums.specs.declared.Stat.{Stat}
 use Rattle.map_nums.specs.declared.Rate.{Rate}
 use Rattle.map_words.specs.Bytes.{Text}
-use Rattle.grammar_core.specs.declared.Kind.TheVariants.{Syntax}
 use Rattle.grammar_core.specs.declared.Fault.{Fault}
-use Rattle.grammar_core.specs.Rules.{Rule, on, next, also}
+use Rattle.grammar_core.specs.Rules.{Rule, next}
 use Rattle.grammar_core.specs.Refusals.{is_unknown}
-use Rattle.grammar_core.specs.Run.{refused, run, is_node}
+use Rattle.grammar_core.specs.Run.{run, is_node}
 use Rattle.grammar_core.specs.Readers.{◌>>=◌, Read, one_at, starts}
-use Rattle.grammar_core.proofs.Reading.{assoc, cond_k, pick, IsPlace, Reads, AllNodes, place, place_k, IsTail, also_reads, also_tail, or_refused, body_place}
+use Rattle.grammar_core.proofs.Reading.{assoc, cond_k, pick, IsPlace, Reads, place_k, IsTail, also_reads, or_refused, body_place}
 use Rattle.statement_parser.specs.Lines.{Manner, Term, Op, local, difference, ratio, rating, Line}
 use Rattle.statement_parser.specs.Operations.{operation_named}
 use Rattle.statement_parser.specs.Places.{the, value_of, term_of, cell_of, tests}

@@ -1,16 +1,13 @@
 -- Reading lines is reading by the rule of lines.
-use Rattle.std.proofs.Common.{◌≡◌, ℕ, suc, Bool, true, false, cond, List, [], ◌∷◌, length, Option, Some, None, Result, Ok, Err, refl, sym, ap, ◌∙◌}
+use Rattle.std.proofs.Common.{◌≡◌, ℕ, suc, true, false, List, [], ◌∷◌, length, Option, Some, None, Ok, refl, ◌∙◌}
 use Rattle.std.specs.Prelude.{codes}
 use Rattle.map_words.specs.Bytes.{Text}
-use Rattle.grammar_core.specs.declared.Kind.TheVariants.{Syntax}
-use Rattle.grammar_core.specs.declared.Fault.{Fault}
-use Rattle.grammar_core.specs.Rules.{Rule, on, next, ends, after, or_rule, ◌<|>◌}
-use Rattle.grammar_core.specs.Run.{refused, run, is_node}
-use Rattle.grammar_core.specs.Readers.{◌>>=◌, Read, one_at, end_at}
-use Rattle.grammar_core.proofs.Reading.{assoc, place, place_k, end_reads, ends_tail, or_else, or_refused, start_place}
-use Rattle.statement_parser.specs.Lines.{Manner, Op, plain, define, paint, drop, ask_value, ask_grid, ask_list, Line, blank, edit, ask, quit}
+use Rattle.grammar_core.specs.Rules.{ends}
+use Rattle.grammar_core.specs.Run.{run, is_node}
+use Rattle.grammar_core.specs.Readers.{◌>>=◌, one_at, end_at}
+use Rattle.grammar_core.proofs.Reading.{place, place_k, end_reads, ends_tail, or_else, or_refused, start_place}
+use Rattle.statement_parser.specs.Lines.{Manner, Op, plain, define, paint, drop, ask_value, ask_grid, ask_list, blank, edit, ask, quit}
 use Rattle.statement_parser.specs.Places.{the, name_of, any_of, side_of, cell_of, tests}
-use Rattle.statement_parser.specs.Bodies.{operation_body}
 use Rattle.statement_parser.specs.Grammar.{define_rule, paint_rule, drop_rule, value_rule, grid_rule, command_named, command_rule, line_rule}
 use Rattle.statement_parser.specs.ReadLocal.{body_at}
 use Rattle.statement_parser.specs.ReadLine.{define_at, corners_at, paint_at, drop_at, value_at, grid_at, list_at, quit_at, command_at, statement_at, started_at, line_at}

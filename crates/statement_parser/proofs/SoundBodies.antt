@@ -1,13 +1,13 @@
 -- The rules of operations are sound, whatever may follow them.
-use Rattle.std.proofs.Common.{◌≡◌, ℕ, zero, suc, ℤ, pos, Bool, true, false, not, ◌&&◌, cond, List, [], ◌∷◌, ◌++◌, Option, Some, None, refl}
-use Rattle.std.specs.Prelude.{codes, is_some, bytes_eq}
+use Rattle.std.proofs.Common.{◌≡◌, ℕ, zero, suc, ℤ, Bool, true, false, not, ◌&&◌, List, [], ◌∷◌, ◌++◌, Option, Some, None, refl}
+use Rattle.std.specs.Prelude.{codes, is_some}
 use Rattle.map_nums.specs.declared.Stat.{Stat}
 use Rattle.map_nums.specs.declared.Rate.{Rate}
 use Rattle.map_nums.specs.declared.Stat.TheVariants as stats
 use Rattle.map_words.specs.Bytes.{Text}
 use Rattle.map_words.specs.Names.{has_name_form}
-use Rattle.grammar_core.specs.Rules.{Rule, node, on, next, after, Derives}
-use Rattle.grammar_core.specs.Refusals.{Begins, is_unknown, opens_next}
+use Rattle.grammar_core.specs.Rules.{Rule, on, next, after}
+use Rattle.grammar_core.specs.Refusals.{Begins, opens_next}
 use Rattle.grammar_core.specs.Run.{is_node}
 use Rattle.grammar_core.proofs.FirstFault.{KnownBodies, nothing}
 use Rattle.grammar_core.proofs.Parts.{Healthy, Tail, through, all_on, tail_next, tail_also}

@@ -1,13 +1,12 @@
 -- The rule of lines is sound.
-use Rattle.std.proofs.Common.{◌≡◌, ℕ, Bool, true, false, List, [], ◌∷◌, Option, Some, None, refl}
+use Rattle.std.proofs.Common.{ℕ, refl}
 use Rattle.std.specs.Prelude.{codes}
 use Rattle.map_words.specs.Bytes.{Text}
 use Rattle.grammar_core.specs.Rules.{Rule, on, next, ends, ◌<|>◌}
-use Rattle.grammar_core.proofs.Parts.{Healthy, Tail, NoBody, healthy_next, healthy_end, healthy_ends, all_on, all_or, tail_ends}
-use Rattle.statement_parser.specs.Lines.{Manner, Op, plain, define, paint, drop, ask_value, ask_grid, ask_list, Line, blank, edit, ask, quit}
-use Rattle.statement_parser.specs.Places.{the, name_of, any_of, side_of, cell_of, tests}
-use Rattle.statement_parser.specs.Bodies.{operation_body}
-use Rattle.statement_parser.specs.Grammar.{define_rule, paint_rule, drop_rule, value_rule, grid_rule, command_named, command_rule, line_rule}
+use Rattle.grammar_core.proofs.Parts.{Healthy, NoBody, healthy_next, healthy_end, healthy_ends, all_on, all_or, tail_ends}
+use Rattle.statement_parser.specs.Lines.{Manner, plain, define, paint, drop, ask_value, ask_grid, ask_list, Line, blank, edit, ask, quit}
+use Rattle.statement_parser.specs.Places.{name_of, any_of, side_of, tests}
+use Rattle.statement_parser.specs.Grammar.{define_rule, command_named, command_rule, line_rule}
 use Rattle.statement_parser.specs.declared.command.Command.{Command}
 use Rattle.statement_parser.specs.declared.command.Command.TheVariants.{Paint, Drop, Value, Grid, List as Listing, Quit}
 use Rattle.statement_parser.proofs.PlaceFacts.{name_takes, name_place, any_takes, any_place, side_takes, side_place, command_place}

@@ -1,5 +1,5 @@
 -- What reading words and bytes answers, by the grammar.
-use Rattle.std.proofs.Common.{◌≡◌, ◌⊎◌, inl, inr, ℕ, zero, suc, ◌-◌, ◌<◌, ◌≤◌, take, drop, arith, length-drop, Bool, true, false, List, [], ◌∷◌, map, length, Option, Some, None, Result, Ok, Err, refl, sym, ap, subst, ◌∙◌}
+use Rattle.std.proofs.Common.{◌≡◌, ◌⊎◌, inl, inr, ℕ, ◌-◌, ◌<◌, ◌≤◌, take, drop, arith, length-drop, Bool, true, false, List, [], ◌∷◌, map, length, Option, Some, None, Result, Ok, Err, refl, sym, ap, subst, ◌∙◌}
 use Rattle.std.specs.Prelude.{nat_le}
 use Rattle.std.proofs.lemmas.Bool.Decides.{nat_tests}
 use Rattle.map_words.specs.Bytes.{Text, first_bad, is_silent}
@@ -13,19 +13,18 @@ use Rattle.grammar_core.specs.declared.Kind.TheVariants.{Syntax, Number, Operati
 use Rattle.grammar_core.specs.declared.Fault.{Fault}
 use Rattle.grammar_core.specs.Refusals.{IsRefusedAt}
 use Rattle.grammar_core.specs.Run.{run}
-use Rattle.grammar_core.proofs.FirstFault.{found_so, only_so, refused_so}
+use Rattle.grammar_core.proofs.FirstFault.{found_so, refused_so}
 use Rattle.grammar_core.proofs.Once.{settled}
 use Rattle.statement_parser.specs.declared.fault.ReadError.{ReadError}
 use Rattle.statement_parser.specs.declared.fault.ReadError.TheVariants as errors
 use Rattle.statement_parser.specs.declared.refusal.LineRefusal.{LineRefusal}
-use Rattle.statement_parser.specs.declared.refusal.LineRefusal.TheVariants as refusals
 use Rattle.statement_parser.specs.Lines.{Manner, Line, blank}
 use Rattle.statement_parser.specs.Places.{tests}
 use Rattle.statement_parser.specs.Grammar.{line_rule, IsLine}
 use Rattle.statement_parser.specs.Gives.{Gives}
 use Rattle.statement_parser.specs.ReadLine.{line_at}
 use Rattle.statement_parser.specs.Views.{texts_of}
-use Rattle.statement_parser.specs.Texts.{seen, column, first_column, column_among, is_short, LineText, silent, worded, Refusal, long, syntax, operation, number, refusal_of, RefusedText, too_long, bad_byte, bad_word, IsSettledText}
+use Rattle.statement_parser.specs.Texts.{seen, column, first_column, column_among, is_short, LineText, silent, worded, Refusal, long, syntax, refusal_of, RefusedText, too_long, bad_byte, bad_word, IsSettledText}
 use Rattle.statement_parser.specs.Parsed.{IsWordsRead, IsParsed, IsRefusalAt}
 use Rattle.statement_parser.proofs.SoundLines.{healthy_line}
 use Rattle.statement_parser.proofs.ReadsLines.{line_reads}

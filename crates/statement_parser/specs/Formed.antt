@@ -1,5 +1,5 @@
 -- What every line that is read keeps: names, ranges and counts.
-use Rattle.std.specs.Prelude.{ℕ, ℤ, ◌≤◌, ◌||◌, Bool, List, [], ◌∷◌, length, Option, Some, None, IsTrue, IfSome}
+use Rattle.std.specs.Prelude.{ℕ, ℤ, ◌≤◌, ◌||◌, List, [], ◌∷◌, length, Option, IsTrue, IfSome}
 use Rattle.map_nums.specs.declared.Rate.{Rate}
 use Rattle.map_nums.specs.Numbers.{is_value}
 use Rattle.map_words.specs.Bytes.{Text}

@@ -1,5 +1,5 @@
 -- What a word may be at each place of a line.
-use Rattle.std.specs.Prelude.{ℕ, ℤ, pos, nat_abs, Bool, not, ◌&&◌, ◌||◌, List, Option, Some, None, option_map, codes, bytes_eq, if◌then◌else◌}
+use Rattle.std.specs.Prelude.{ℕ, ℤ, pos, nat_abs, not, ◌&&◌, ◌||◌, Option, Some, None, option_map, codes, bytes_eq, if◌then◌else◌}
 use Rattle.map_nums.specs.Numbers.{vmin, vmax}
 use Rattle.map_words.specs.Bytes.{Text}
 use Rattle.map_words.specs.Names.{has_name_form, is_plain, is_dotted}

@@ -1,11 +1,11 @@
 -- Reading lines, on lists.
-use Rattle.std.specs.Prelude.{ℕ, suc, Bool, true, false, List, [], ◌∷◌, length, Option, Some, None, Result, Ok, Err, codes}
+use Rattle.std.specs.Prelude.{ℕ, suc, true, false, List, [], ◌∷◌, length, Option, Some, None, Result, Ok, codes}
 use Rattle.map_words.specs.Bytes.{Text}
 use Rattle.grammar_core.specs.declared.Kind.TheVariants.{Syntax}
 use Rattle.grammar_core.specs.declared.Fault.{Fault}
 use Rattle.grammar_core.specs.Run.{refused}
 use Rattle.grammar_core.specs.Readers.{◌>>=◌, Read, one_at, end_at}
-use Rattle.statement_parser.specs.Lines.{Line, Written, plain, Edit, define, paint, drop, Request, ask_value, ask_grid, ask_list, blank, edit, ask, quit}
+use Rattle.statement_parser.specs.Lines.{Line, plain, define, paint, drop, ask_value, ask_grid, ask_list, blank, edit, ask, quit}
 use Rattle.statement_parser.specs.Places.{the, name_of, any_of, side_of, cell_of, tests}
 use Rattle.statement_parser.specs.Grammar.{command_named}
 use Rattle.statement_parser.specs.ReadLocal.{body_at}

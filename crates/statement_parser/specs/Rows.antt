@@ -1,9 +1,9 @@
 -- Worked lines.
-use Rattle.std.specs.Prelude.{pos, negsuc, List, [], ◌∷◌, ◌++◌, Option, Some, None, codes}
+use Rattle.std.specs.Prelude.{pos, negsuc, [], ◌∷◌, ◌++◌, Some, None, codes}
 use Rattle.map_nums.specs.declared.Stat.TheVariants as stats
 use Rattle.map_words.specs.Bytes.{Text}
-use Rattle.statement_parser.specs.Lines.{Manner, first_language, Term, layer, value, Op, local, difference, ratio, rating, Written, plain, define, paint, drop, ask_value, ask_grid, ask_list, Line, blank, edit, ask, quit}
-use Rattle.statement_parser.specs.Texts.{LineText, Refusal, long, syntax, operation, number, RefusedText}
+use Rattle.statement_parser.specs.Lines.{first_language, layer, value, local, rating, plain, define, paint, ask_grid, Line, blank, edit, ask}
+use Rattle.statement_parser.specs.Texts.{LineText, Refusal, syntax, operation, number, RefusedText}
 
 abbrev pub Is : Text → Line → Type 0
 Is bytes x = LineText first_language bytes x

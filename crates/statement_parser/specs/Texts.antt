@@ -1,5 +1,5 @@
 -- The bytes of lines: which line they are, or how they are refused.
-use Rattle.std.specs.Prelude.{◌≡◌, ◌⊎◌, ℕ, suc, ◌-◌, nat_le, nat_lt, Bool, true, false, List, [], ◌∷◌, map, length, drop, Option, Some, None}
+use Rattle.std.specs.Prelude.{◌≡◌, ◌⊎◌, ℕ, suc, ◌-◌, nat_le, Bool, true, false, List, [], ◌∷◌, map, length, drop, Some, None}
 use Rattle.map_words.specs.Bytes.{Text, first_bad, is_silent}
 use Rattle.map_words.specs.Words.{Placed, words_of, text_of}
 use Rattle.grammar_core.specs.declared.Kind.{Kind}

@@ -1,5 +1,5 @@
 -- What the parser's values are, without where they lie in memory.
-use Rattle.std.specs.Prelude.{ℕ, List, map}
+use Rattle.std.specs.Prelude.{List, map}
 use Rattle.map_words.specs.Bytes.{Text}
 use Rattle.map_words.specs.declared.cutting.Word.{Word}
 use Rattle.statement_parser.specs.declared.op.Term as terms

@@ -1,4 +1,5 @@
 use super::*;
+use std::alloc::Global;
 use std::test::Fail;
 
 #[test]
@@ -105,6 +106,15 @@ fn lines_are_read(rt: HostRuntime) {
     );
 }
 
+/// The canonical text of a statement.
+fn reprinted(alloc: Global, line: &[u8]) -> Option<Vec<u8>> {
+    let read = parse_line(alloc, line).ok()?;
+    match &read {
+        Line::Edit(LineEdit::Define { name, written }) => print_written(alloc, name, written).ok(),
+        _ => None,
+    }
+}
+
 #[test]
 fn texts_are_canonical(rt: HostRuntime) -> Result<(), Fail> {
     let texts: [(&[u8], &[u8]); 3] = [
@@ -119,34 +129,27 @@ fn texts_are_canonical(rt: HostRuntime) -> Result<(), Fail> {
         ),
     ];
     for (line, want) in texts {
-        match parse_line(rt.alloc(), line) {
-            Ok(Line::Edit(LineEdit::Define { name, written })) => {
-                let text = print_written(rt.alloc(), &name, &written)
-                    .ok()
-                    .ok_or("memory")?;
-                assert_eq!(rt; text.as_slice(), want);
-            }
-            _ => assert!(rt; false),
-        }
+        let text = reprinted(rt.alloc(), line).ok_or("not read")?;
+        assert_eq!(rt; text.as_slice(), want);
     }
     Ok(())
 }
 
+/// The number that is the operation's term at this place.
+fn number_at(op: &Op, k: u32) -> Option<i32> {
+    match op.term(k)? {
+        Term::Number(value) => Some(*value),
+        Term::Layer(_) => None,
+    }
+}
+
 #[test]
 fn terms_are_in_order(rt: HostRuntime) {
-    match parse_line(rt.alloc(), b"D = LocalDifference of 4 and 7") {
-        Ok(
-            Line::Edit(
-                LineEdit::Define {
-                    written: Written::Plain(op),
-                    ..
-                },
-            ),
-        ) => {
-            assert!(rt; matches!(op.term(0), Some(Term::Number(4))));
-            assert!(rt; matches!(op.term(1), Some(Term::Number(7))));
-            assert!(rt; op.term(2).is_none());
-        }
-        _ => assert!(rt; false),
-    }
+    let op = Op::Difference {
+        left: Term::Number(4),
+        right: Term::Number(7),
+    };
+    assert_eq!(rt; number_at(&op, 0), Some(4));
+    assert_eq!(rt; number_at(&op, 1), Some(7));
+    assert!(rt; op.term(2).is_none());
 }
