@@ -12,3 +12,6 @@ pub mod ExpansionRows
 pub mod NodeRows
 pub mod CountRows
 pub mod TileRows
+pub mod Samples
+pub mod NearRows
+pub mod WholeRows
