@@ -1,5 +1,5 @@
 -- What a written statement stands for: flat statements, its own the last.
-use Rattle.std.specs.Prelude.{ℕ, zero, suc, ◌==◌, Bool, List, [], ◌∷◌, ◌++◌, map, length, find, Option, Some, None, Result, Ok, Err, bytes_eq, codes, if◌then◌else◌}
+use Rattle.std.specs.Prelude.{ℕ, zero, suc, ◌==◌, List, [], ◌∷◌, ◌++◌, map, length, find, Option, Some, None, Result, Ok, Err, bytes_eq, codes, if◌then◌else◌}
 use Rattle.map_defs.specs.Ops.{Name, Term, layer_term}
 use Rattle.map_defs.specs.Statements.{Written, plain, call, Flat, Inner, Procedure}
 use Rattle.map_defs.specs.Bindings.{Binding, term_bound, op_bound, given_for}

@@ -1,5 +1,5 @@
 -- Local operations: the cell at a place comes from the operands' cells at that place.
-use Rattle.std.specs.Prelude.{ℕ, ◌&&◌, ℤ, pos, neg_ℤ, ◌-ℤ◌, int_le, int_lt, List, [], ◌∷◌, map, Option, Some, None, option_map, option_and_then, if◌then◌else◌}
+use Rattle.std.specs.Prelude.{ℕ, suc, ◌&&◌, ℤ, pos, negsuc, neg_ℤ, ◌-ℤ◌, int_le, List, [], ◌∷◌, map, Option, Some, None, option_map, option_and_then, if◌then◌else◌}
 use Rattle.std.specs.Int.{int_div_euclid}
 use Rattle.std.specs.Ordering.{int_eq}
 use Rattle.map_nums.specs.declared.Stat.{Stat}
@@ -15,7 +15,8 @@ pub data LocalOp : Type 0 where
 
 -- the floor of a over b, where b is not 0
 abbrev pub floor_of : ℤ → ℤ → ℤ
-floor_of a b = if int_lt b (pos 0) then int_div_euclid (neg_ℤ a) (neg_ℤ b) else int_div_euclid a b
+floor_of a (pos b) = int_div_euclid a (pos b)
+floor_of a (negsuc b) = int_div_euclid (neg_ℤ a) (pos (suc b))
 
 -- null where right is 0
 abbrev pub ratio_of : ℤ → ℤ → Option ℤ

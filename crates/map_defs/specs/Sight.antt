@@ -1,5 +1,5 @@
 -- Lines of sight over a surface, and the viewers that see a cell.
-use Rattle.std.specs.Prelude.{ℕ, ◌-◌, ◌*◌, nat_le, max, ℤ, pos, ◌+ℤ◌, ◌-ℤ◌, ◌*ℤ◌, int_le, nat_abs, Bool, false, ◌&&◌, List, map, filter, Option, Some, None, IsTrue}
+use Rattle.std.specs.Prelude.{ℕ, ◌-◌, ◌*◌, nat_le, max, ℤ, pos, ◌+ℤ◌, ◌-ℤ◌, ◌*ℤ◌, int_le, nat_abs, Bool, false, ◌&&◌, map, filter, Option, Some, None, IsTrue}
 use Rattle.std.specs.List.{list_all, range_with_len}
 use Rattle.std.specs.Int.{int_div_euclid}
 use Rattle.map_nums.specs.declared.Stat.TheVariants.{Sum}
