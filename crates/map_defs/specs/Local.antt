@@ -1,6 +1,5 @@
 -- Local operations: the cell at a place comes from the operands' cells at that place.
-use Rattle.std.specs.Prelude.{ℕ, ◌&&◌, ℤ, pos, neg_ℤ, ◌-ℤ◌, int_le, int_lt, List, [], ◌∷◌, map, Option, Some, None, option_and_then, if◌then◌else◌}
-use Rattle.std.specs.Option.{option_map}
+use Rattle.std.specs.Prelude.{ℕ, suc, ◌&&◌, ℤ, pos, negsuc, neg_ℤ, ◌-ℤ◌, int_le, List, [], ◌∷◌, map, Option, Some, None, option_map, option_and_then, if◌then◌else◌}
 use Rattle.std.specs.Int.{int_div_euclid}
 use Rattle.std.specs.Ordering.{int_eq}
 use Rattle.map_nums.specs.declared.Stat.{Stat}
@@ -9,18 +8,15 @@ use Rattle.map_nums.specs.Stats.{statistic_of}
 use Rattle.map_nums.specs.Grids.{Size, Cells, Grid, cell_at, grid_by}
 
 pub data LocalOp : Type 0 where
-  -- a statistic of two numbers or more
   of_stat : Stat → LocalOp
-  -- left minus right
   difference : LocalOp
-  -- the floor of left over right
   ratio : LocalOp
-  -- the clauses, in order
   rating : List Rate → LocalOp
 
 -- the floor of a over b, where b is not 0
 abbrev pub floor_of : ℤ → ℤ → ℤ
-floor_of a b = if int_lt b (pos 0) then int_div_euclid (neg_ℤ a) (neg_ℤ b) else int_div_euclid a b
+floor_of a (pos b) = int_div_euclid a (pos b)
+floor_of a (negsuc b) = int_div_euclid (neg_ℤ a) (pos (suc b))
 
 -- null where right is 0
 abbrev pub ratio_of : ℤ → ℤ → Option ℤ
@@ -31,6 +27,7 @@ abbrev pub rated : List Rate → ℤ → Option ℤ
 rated [] z = Some z
 rated (r ∷ rs) z = if int_le r.low z && int_le z r.high then r.give else rated rs z
 
+-- of the left and the right number
 abbrev pub of_two : (ℤ → ℤ → Option ℤ) → List ℤ → Option ℤ
 of_two f [] = None
 of_two f (a ∷ []) = None
