@@ -1,6 +1,6 @@
 -- Equal values stand side by side in a list in ascending order.
-use Rattle.std.proofs.Common.{◌≡◌, ◌≢◌, ◌⊎◌, inl, inr, ℕ, zero, suc, ◌+◌, ◌<◌, ◌≤◌, Bool, true, false, cond, List, [], length, get_or, take, drop, refl, sym, ◌∙◌, ap, subst, arith, ℤ, pos}
-use Rattle.std.specs.List.{count_by, list_any}
+use Rattle.std.proofs.Common.{◌≡◌, ◌≢◌, ◌⊎◌, inl, inr, ℕ, ◌+◌, ◌<◌, Bool, true, false, cond, List, [], length, get_or, take, drop, refl, sym, ◌∙◌, ap, arith, ℤ, pos}
+use Rattle.std.specs.List.{list_any}
 use Rattle.std.specs.List.Sorted.{IsSorted}
 use Rattle.std.specs.Ordering.{int_cmp, int_eq}
 use Rattle.std.proofs.lemmas.Int.{ints}
@@ -74,9 +74,9 @@ module _ (ys : List ℤ) (sorted : IsSorted int_cmp ys) (i : ℕ) (here : i < le
   occurrences_fresh h =
       let p = λ (y : ℤ). int_eq y (get_or ys (i + 1) (pos 0)) in
       sym (count_by-none p (take (i + 1) ys) (λ k d l.
-          let j : k < i + 1 = omega (arith, length-take-le (i + 1) ys (omega arith)) in
-          let j' : k < length ys = omega arith in
-          rw (get_or-take (i + 1) ys k d j, get_or_default ys k d (pos 0) j') (differs _ _ (earlier_differs k h j))))
+      let j : k < i + 1 = omega (arith, length-take-le (i + 1) ys (omega arith)) in
+      let j' : k < length ys = omega arith in
+      rw (get_or-take (i + 1) ys k d j, get_or_default ys k d (pos 0) j') (differs _ _ (earlier_differs k h j))))
 
   pub last_is_not_later : list_any (λ y. int_eq y (get_or ys i (pos 0))) (drop (i + 1) ys) ≡ false
   last_is_not_later = list_any_none (λ y. int_eq y (get_or ys i (pos 0))) (drop (i + 1) ys) rest_differs

@@ -1,5 +1,5 @@
 -- The greatest and the least of a list, from a fold over it.
-use Rattle.std.proofs.Common.{◌≡◌, ◌⊎◌, inl, inr, ℕ, zero, suc, ◌+◌, ◌<◌, Bool, true, List, [], ◌∷◌, length, get_or, Option, Some, None, fold, refl, sym, ◌∙◌, ap, arith, ℤ, ◌≤ℤ◌, All, Contains}
+use Rattle.std.proofs.Common.{◌≡◌, ◌⊎◌, inl, inr, suc, true, List, [], ◌∷◌, fold, refl, sym, ◌∙◌, ap, arith, ℤ, ◌≤ℤ◌, Contains}
 use Rattle.std.specs.Prelude.{int_le}
 use Rattle.std.specs.Int.{int_max, int_min}
 use Rattle.std.specs.List.{reduce}

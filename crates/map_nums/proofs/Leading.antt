@@ -1,9 +1,9 @@
 -- The value that leads a list in ascending order, run by run.
-use Rattle.std.proofs.Common.{◌≡◌, ◌≢◌, ◌⊎◌, inl, inr, ℕ, zero, suc, ◌+◌, ◌<◌, ◌≤◌, Bool, true, false, cond, ◌&&◌, ◌||◌, ◌==◌, List, [], ◌∷◌, length, get_or, take, drop, Option, Some, None, IfSome, IsSomeAnd, option_map, refl, sym, ◌∙◌, ap, subst, arith, ℤ, pos, ◌≤ℤ◌, ◌<ℤ◌}
+use Rattle.std.proofs.Common.{◌≡◌, ◌≢◌, inl, inr, ℕ, ◌+◌, ◌<◌, ◌≤◌, Bool, true, false, cond, ◌&&◌, ◌||◌, ◌==◌, List, [], ◌∷◌, length, get_or, take, Option, Some, None, IfSome, IsSomeAnd, option_map, refl, sym, ◌∙◌, ap, subst, arith, ℤ, pos, ◌≤ℤ◌}
 use Rattle.std.specs.Prelude.{int_le}
-use Rattle.std.specs.List.{find, All, Contains, list_all, count_by}
+use Rattle.std.specs.List.{find, list_all}
 use Rattle.std.specs.List.Sorted.{IsSorted}
-use Rattle.std.specs.Ordering.{int_cmp, int_eq}
+use Rattle.std.specs.Ordering.{int_cmp}
 use Rattle.std.proofs.lemmas.Int.{ints}
 use Rattle.std.proofs.lemmas.Bool.{cases_lt}
 use Rattle.std.proofs.lemmas.Bool.Decides.{nat_tests}
@@ -77,8 +77,9 @@ module _ (w : Wanted) (ys : List ℤ) where
       counted = λ l. subst (λ x. count + 1 ≡ occurrences x (take (i + 1) ys)) (sym s.1) (omega (arith, h.counted here, occurrences_more ys i here));
       known = known_on i best h.known;
       ahead = λ k l apart. elim (cases_lt k i) [
-          inl below ↦ h.ahead k below (λ _ e. apart s.0 (e ∙ sym s.1))
-          | inr above ↦ let same : k ≡ i = omega arith in absurd (apart s.0 (ap (λ j. get_or ys j (pos 0)) same ∙ sym s.1)) ];
+        | inl below ↦ h.ahead k below (λ _ e. apart s.0 (e ∙ sym s.1))
+        | inr above ↦ let same : k ≡ i = omega arith in absurd (apart s.0 (ap (λ j. get_or ys j (pos 0)) same ∙ sym s.1))
+      ];
     }
 
     module _ (sorted : IsSorted int_cmp ys) (last : IsSameAsNext ys i → ⊥) where
@@ -95,10 +96,12 @@ module _ (w : Wanted) (ys : List ℤ) where
       all_so_far : (P : ℤ → Type 0) → ((k : ℕ) → k < i → get_or ys k (pos 0) ≢ x → P (get_or ys k (pos 0))) → P x → (k : ℕ) → k < i + 1 → P (get_or ys k (pos 0))
       all_so_far P others this k l =
           elim (same_or_not (get_or ys k (pos 0)) x) [
-              inl e ↦ subst P (sym e) this
-              | inr n ↦ elim (cases_lt k i) [
-                  inl below ↦ others k below n
-                  | inr above ↦ let same : k ≡ i = omega arith in absurd (n (ap (λ j. get_or ys j (pos 0)) same)) ] ]
+            | inl e ↦ subst P (sym e) this
+            | inr n ↦ elim (cases_lt k i) [
+              | inl below ↦ others k below n
+              | inr above ↦ let same : k ≡ i = omega arith in absurd (n (ap (λ j. get_or ys j (pos 0)) same))
+            ]
+          ]
 
       taken : (best : Option Run) → IsLeading w ys i count best → ((k : ℕ) → k < i → get_or ys k (pos 0) ≢ x → is_before w ys x (get_or ys k (pos 0)) ≡ true) → IsLeading w ys (i + 1) 0 (Some run)
       taken best h others = record {
@@ -139,8 +142,9 @@ module _ (w : Wanted) (ys : List ℤ) where
   pub leader_is : (i count : ℕ) (best : Option Run) → IsLeading w ys i count best → i ≡ length ys → option_map (λ run. run.value) best ≡ leader_of w ys
   leader_is i count None h end =
       elim (cases_lt 0 (length ys)) [
-          inl some ↦ absurd (h.ahead 0 (omega arith) (λ l. absurd (omega arith)))
-          | inr none ↦ empty_leader ys (omega arith) ∙ sym (leader_of-find w ys) ]
+        | inl some ↦ absurd (h.ahead 0 (omega arith) (λ l. absurd (omega arith)))
+        | inr none ↦ empty_leader ys (omega arith) ∙ sym (leader_of-find w ys)
+      ]
   leader_is i count (Some b) h end =
       sym (leader_of-find w ys ∙ find_leading (is_before w ys) ys b.value (h.known.1, omega arith, get_or_default ys h.known.1 b.value (pos 0) (omega arith) ∙ h.known.3)
       (λ k d l. subst (λ y. is_before w ys b.value y ≡ true) (get_or_default ys k (pos 0) d l) (h.ahead k (omega arith) (λ l'. absurd (omega arith))))

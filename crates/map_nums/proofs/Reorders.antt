@@ -1,5 +1,5 @@
 -- The order of a list does not matter to its statistics.
-use Rattle.std.proofs.Common.{◌≡◌, ℕ, suc, Bool, true, false, ◌&&◌, List, [], ◌∷◌, length, fold, IsPermutation, refl, sym, ◌∙◌, ap, arith, ℤ, pos, ◌+ℤ◌, ◌*ℤ◌, Contains, cond}
+use Rattle.std.proofs.Common.{◌≡◌, Bool, true, List, [], ◌∷◌, length, fold, IsPermutation, refl, sym, ◌∙◌, ap, arith, ℤ, pos, ◌+ℤ◌, ◌*ℤ◌, cond}
 use Rattle.std.specs.Prelude.{int_le}
 use Rattle.std.specs.List.{find, list_all}
 use Rattle.std.specs.Int.{int_div_euclid}

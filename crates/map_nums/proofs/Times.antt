@@ -1,5 +1,5 @@
 -- Laws of products of whole numbers that std lacks.
-use Rattle.std.proofs.Common.{◌≡◌, ℕ, ◌+◌, ◌*◌, ◌<◌, ◌≤◌, ℤ, pos, negsuc, suc, ◌+ℤ◌, ◌*ℤ◌, ◌≤ℤ◌, ◌<ℤ◌, ap, arith}
+use Rattle.std.proofs.Common.{◌≡◌, ℕ, ◌+◌, ◌*◌, ◌≤◌, ℤ, pos, negsuc, suc, ◌+ℤ◌, ◌*ℤ◌, ◌≤ℤ◌, ◌<ℤ◌, ap, arith}
 use Rattle.std.proofs.Math.Nat.{mul-le-mul_right}
 use Rattle.std.proofs.lemmas.Int.{ints}
 use borrow.Author.Differences.{up, down, product_is, sum_is_lem, same_in}
@@ -26,4 +26,11 @@ pub times_rises : (q r : ℤ) (n : ℕ) → q <ℤ r → ((q *ℤ pos n) +ℤ po
 times_rises q r n h =
     let l : up q + down r + 1 ≤ up r + down q = omega (arith, ints) in
     let m : (up q + down r + 1) * n ≤ (up r + down q) * n = mul-le-mul_right n l in
+    omega (arith, ints, m)
+
+-- and, where the other is negative, less
+pub times_falls : (q r : ℤ) (n : ℕ) → q <ℤ r → ((r *ℤ negsuc n) +ℤ pos (suc n)) ≤ℤ (q *ℤ negsuc n)
+times_falls q r n h =
+    let l : up q + down r + 1 ≤ up r + down q = omega (arith, ints) in
+    let m : (up q + down r + 1) * suc n ≤ (up r + down q) * suc n = mul-le-mul_right (suc n) l in
     omega (arith, ints, m)

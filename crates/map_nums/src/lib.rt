@@ -11,15 +11,13 @@ mod rounding;
 mod runs;
 mod statistics;
 mod sums;
-
 #[cfg(test)]
 mod tests;
-
-use std::alloc::{AllocError, AllocFailed};
 
 pub use numbers::{cmp_cross, in_range};
 pub use rounding::{floor_div, floor_root};
 pub use statistics::statistic;
+use std::alloc::{AllocError, AllocFailed};
 
 /// A number that a cell holds.
 pub type Value = i32;

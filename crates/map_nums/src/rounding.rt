@@ -29,5 +29,9 @@ pub fn floor_div(a: i64, b: i64) -> Option<i64>
 pub fn floor_root(n: u128) -> u64
     ensures { IsFloorRoot n result }
 {
+    // most numbers are short, and roots of 64 bits are taken faster
+    if n <= u64::MAX as u128 {
+        return (n as u64).isqrt();
+    }
     n.isqrt() as u64
 }

@@ -58,7 +58,14 @@ fn leader(sorted: &[Value], wanted: Wanted) -> Option<Value>
         if goes_on(sorted, i) {
             continue;
         }
-        best = better(wanted, best, Run { value: *value, count });
+        best = better(
+            wanted,
+            best,
+            Run {
+                value: *value,
+                count,
+            },
+        );
         count = 0;
     }
     best.map(|run| run.value)

@@ -1,7 +1,7 @@
 use Rattle.std.proofs.Common.{◌∙◌}
 use Rattle.std.specs.Ordering.{int_cmp, max_by_ordering}
 use Rattle.std.proofs.lemmas.Iterator.{YieldsList-from_slice}
-use Rattle.std.proofs.lemmas.Iterator.Consumers.{reduce_from_yields_List, YieldsList-from_copied, YieldsList-at}
+use Rattle.std.proofs.lemmas.Iterator.Consumers.{reduce_from_yields_List, YieldsList-from_copied}
 use Rattle.map_nums.proofs.Extremes.{maximum_from_reduce}
 use Rattle.map_nums.proofs.ranks.maximum.Goals as goal
 

@@ -1,4 +1,4 @@
-use Rattle.std.proofs.Common.{◌≡◌, ◌+◌, ◌∙◌, sym, ap, subst, option_map, get_or, pos, to_z, of_z, w32, FitsSigned, rules, arith}
+use Rattle.std.proofs.Common.{◌≡◌, ◌+◌, ◌∙◌, sym, ap, subst, option_map, get_or, pos, w32, FitsSigned, rules, arith}
 use Rattle.std.proofs.lemmas.Int.{to_z-of_z}
 use Rattle.std.proofs.lemmas.Bool.{iff_false}
 use Rattle.map_nums.specs.Leaders.{better_run}
