@@ -5,3 +5,4 @@ pub mod Rounds
 pub mod SpreadNet
 pub mod SpreadCells
 pub mod RegionCells
+pub mod Courses
