@@ -76,3 +76,9 @@ module _ (s : Size) (sources friction : Cells) (limit : ℕ) where
 
   pub spread_only : (c d : Cells) → IsSpread s sources friction limit c → IsSpread s sources friction limit d → c ≡ d
   spread_only c d p q = ext_get_or None c d (p.full ∙ sym q.full) (λ i h. cell_only i (cell_at c i) (cell_at d i) (p.each i (omega (arith, p.full))) (q.each i (omega (arith, p.full))))
+
+pub source_costs_nothing : (s : Size) (sources friction : Cells) (i : ℕ) → IsSource s sources friction i → IsLeastCost s sources friction i 0
+source_costs_nothing s sources friction i h = let l = h.0.0 in record {
+  some = ([], record { path = h; short = omega arith }, refl);
+  least = λ js p. omega arith;
+}
