@@ -1,5 +1,5 @@
 -- A course falls, so it comes to its end within as many places as the grid has.
-use Rattle.std.proofs.Common.{◌≡◌, ◌≢◌, ℕ, zero, suc, ◌+◌, ◌*◌, ◌-◌, ◌<◌, ◌≤◌, Bool, true, false, cond, List, [], ◌∷◌, length, get_or, Option, Some, None, refl, sym, ◌∙◌, ap, subst, arith, inl, inr, ℤ, pos, negsuc, ◌+ℤ◌, ◌-ℤ◌, ◌*ℤ◌, ◌<ℤ◌}
+use Rattle.std.proofs.Common.{◌≡◌, ℕ, zero, suc, ◌+◌, ◌*◌, ◌<◌, ◌≤◌, Bool, true, false, cond, [], ◌∷◌, get_or, Option, Some, None, refl, sym, ◌∙◌, ap, subst, arith, inl, inr, ℤ, pos, negsuc, ◌+ℤ◌, ◌-ℤ◌, ◌*ℤ◌, ◌<ℤ◌}
 use Rattle.std.specs.Prelude.{◌⊎◌, ◌&&◌, nat_lt, is_some, slice_get, position, option_and_then, unwrap_or, int_lt, int_le}
 use Rattle.std.specs.List.{list_all}
 use Rattle.std.proofs.lemmas.Int.{ints}
@@ -147,9 +147,12 @@ module _ (s : Size) (surface : Cells) where
   fewer i j z e d =
       let y = d.lower.to in
       let same : d.lower.from ≡ z = (let k : Some d.lower.from ≡ Some z = sym d.lower.is_from ∙ e in cc) in
-      let falls : y <ℤ z = (let P : ℤ → Type 0 = λ x. y <ℤ x in subst P same d.lower.falls) in
-      (y, d.lower.is_to, count_lt (λ k. is_low y (cell_at surface k)) (λ k. is_low z (cell_at surface k)) (λ k. lower_low y z falls (cell_at surface k)) (cells_in s) j d.within
-        (ap (is_low y) d.lower.is_to ∙ not_low y) (ap (is_low z) d.lower.is_to ∙ low_so y z falls))
+      let falls : y <ℤ z = (let P : ℤ → Type 0 = λ x. y <ℤ x in subst P same d.lower.falls) in (
+        y,
+        d.lower.is_to,
+        count_lt (λ k. is_low y (cell_at surface k)) (λ k. is_low z (cell_at surface k)) (λ k. lower_low y z falls (cell_at surface k)) (cells_in s) j d.within
+            (ap (is_low y) d.lower.is_to ∙ not_low y) (ap (is_low z) d.lower.is_to ∙ low_so y z falls),
+      )
 
   abbrev Runs : ℕ → Type 0
   Runs n = (j : ℕ) (y : ℤ) → cell_at surface j ≡ Some y → lower_places y < n → RunsFrom s surface j (followed n s surface (Some j))

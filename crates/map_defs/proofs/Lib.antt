@@ -8,3 +8,4 @@ pub mod RegionCells
 pub mod Uniform
 pub mod Courses
 pub mod ZonalDamage
+pub mod Squares

@@ -1,5 +1,5 @@
 -- Laws of courses.
-use Rattle.std.specs.Prelude.{◌≡◌, ℕ, ◌<◌, ℤ, ◌<ℤ◌, List, [], ◌∷◌, Option, Some, None, IsSome}
+use Rattle.std.specs.Prelude.{◌≡◌, ℕ, ◌<◌, ℤ, ◌<ℤ◌, List, [], ◌∷◌, Some, None, IsSome}
 use Rattle.map_nums.specs.Grids.{Size, Cells, cell_at, cells_in}
 use Rattle.map_defs.specs.Flow.{downstream, course_of}
 
