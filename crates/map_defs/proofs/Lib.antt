@@ -5,3 +5,7 @@ pub mod Rounds
 pub mod SpreadNet
 pub mod SpreadCells
 pub mod RegionCells
+pub mod Uniform
+pub mod Courses
+pub mod ZonalDamage
+pub mod Squares

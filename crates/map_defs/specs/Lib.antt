@@ -24,3 +24,7 @@ pub mod Operate
 pub mod Tiles
 pub mod Damage
 pub mod Work
+pub mod NumberLaws
+pub mod NetLaws
+pub mod DrainageLaws
+pub mod DamageLaws

@@ -1,9 +1,9 @@
 -- Tiles changed, damage and work of one statement, on grids of one tile.
-use Rattle.std.specs.Prelude.{◌≡◌, ℕ, pos, List, [], ◌∷◌, Option, None}
+use Rattle.std.specs.Prelude.{◌≡◌, ℕ, pos, List, [], ◌∷◌, None}
 use Rattle.map_nums.specs.declared.Stat.TheVariants.{Sum, Maximum, Variety}
 use Rattle.map_nums.specs.Grids.{Cells}
 use Rattle.map_defs.specs.Local.{of_stat}
-use Rattle.map_defs.specs.Incremental.{linkage_form, length_form, partition_form, frontage_form, gradient_form, aspect_form}
+use Rattle.map_defs.specs.Incremental.{gradient_form}
 use Rattle.map_defs.specs.Ops.{Op, Term, number_term, local_op, focal_op, zonal_op, form_op, direction_op, flow_op, spread_op, sight_op, region_op}
 use Rattle.map_rows.specs.Words.{some, nums, by, all}
 use Rattle.map_rows.specs.Edits.{Counts, counts, at_first, at_change}

@@ -1,5 +1,5 @@
 -- Drainage and flow, worked.
-use Rattle.std.specs.Prelude.{◌≡◌, ℕ, List, [], ◌∷◌, Option, None}
+use Rattle.std.specs.Prelude.{◌≡◌, [], ◌∷◌, None}
 use Rattle.map_nums.specs.Grids.{Cells}
 use Rattle.map_defs.specs.Drainage.{direction_grid}
 use Rattle.map_defs.specs.Flow.{flow_grid, course_of}

@@ -1,5 +1,5 @@
 -- Focal operations, worked.
-use Rattle.std.specs.Prelude.{◌≡◌, ℕ, List, [], ◌∷◌, ◌++◌, replicate, Option, Some, None}
+use Rattle.std.specs.Prelude.{◌≡◌, ℕ, [], ◌∷◌, ◌++◌, replicate, Some, None}
 use Rattle.map_nums.specs.declared.Stat.TheVariants.{Sum, Majority}
 use Rattle.map_nums.specs.Grids.{Cells}
 use Rattle.map_defs.specs.Focal.{focal_at, focal_grid, offsets_of}

@@ -1,7 +1,7 @@
 -- Incremental operations, worked.
-use Rattle.std.specs.Prelude.{◌≡◌, ℕ, ℤ, List, [], ◌∷◌, Option, None}
+use Rattle.std.specs.Prelude.{◌≡◌, ℤ, [], ◌∷◌, Option, None}
 use Rattle.map_nums.specs.Grids.{Cells}
-use Rattle.map_defs.specs.Incremental.{Form, linkage_form, length_form, partition_form, frontage_form, gradient_form, aspect_form, form_at, form_grid}
+use Rattle.map_defs.specs.Incremental.{Form, linkage_form, length_form, partition_form, frontage_form, gradient_form, aspect_form, form_at}
 use Rattle.map_rows.specs.Words.{some, nums, by}
 
 abbrev pub nine : Cells

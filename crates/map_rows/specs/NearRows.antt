@@ -1,5 +1,5 @@
 -- Focal and Incremental operations, as a second program gives them.
-use Rattle.std.specs.Prelude.{◌≡◌, pos, negsuc, List, [], ◌∷◌, Option, Some, None}
+use Rattle.std.specs.Prelude.{◌≡◌, [], ◌∷◌, Some, None}
 use Rattle.map_nums.specs.declared.Stat.TheVariants.{Median, Minority, Mean, Variety, Minimum}
 use Rattle.map_defs.specs.Focal.{focal_grid, offsets_of}
 use Rattle.map_defs.specs.Incremental.{linkage_form, length_form, partition_form, frontage_form, gradient_form, aspect_form, form_grid}

@@ -1,5 +1,5 @@
 -- What is missing, depth and cycles, worked.
-use Rattle.std.specs.Prelude.{◌≡◌, ℕ, true, false, List, [], ◌∷◌, map, Option, Some, None, codes}
+use Rattle.std.specs.Prelude.{◌≡◌, true, false, List, [], ◌∷◌, map, Some, None, codes}
 use Rattle.map_defs.specs.Ops.{Name}
 use Rattle.map_defs.specs.Nodes.{Node, lacks, missing}
 use Rattle.map_defs.specs.Depths.{depth_of, is_looped, by_depth}

@@ -1,5 +1,5 @@
 -- Regions, worked.
-use Rattle.std.specs.Prelude.{◌≡◌, ℕ, List, [], ◌∷◌, Option, None}
+use Rattle.std.specs.Prelude.{◌≡◌, [], ◌∷◌, None}
 use Rattle.map_nums.specs.Grids.{Cells}
 use Rattle.map_defs.specs.Rounds.{region_grid}
 use Rattle.map_rows.specs.Words.{some, nums, by}

@@ -1,5 +1,5 @@
 -- Small grids with nulls, made at random once.
-use Rattle.std.specs.Prelude.{List, [], ◌∷◌, Option, None}
+use Rattle.std.specs.Prelude.{[], ◌∷◌, None}
 use Rattle.map_nums.specs.Grids.{Cells}
 use Rattle.map_rows.specs.Words.{some, less}
 

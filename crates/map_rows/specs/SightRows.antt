@@ -1,5 +1,5 @@
 -- Sight, worked.
-use Rattle.std.specs.Prelude.{◌≡◌, ℕ, pos, List, [], ◌∷◌, Option, None}
+use Rattle.std.specs.Prelude.{◌≡◌, pos, [], ◌∷◌, None}
 use Rattle.map_nums.specs.Grids.{Cells}
 use Rattle.map_defs.specs.Sight.{Sighting, sight_grid}
 use Rattle.map_rows.specs.Words.{some, nums, by}

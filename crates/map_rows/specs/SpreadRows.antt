@@ -1,5 +1,5 @@
 -- Spreading, worked.
-use Rattle.std.specs.Prelude.{◌≡◌, ℕ, List, [], ◌∷◌, Option, Some, None}
+use Rattle.std.specs.Prelude.{◌≡◌, ℕ, List, [], ◌∷◌, None}
 use Rattle.map_nums.specs.Grids.{Cells}
 use Rattle.map_defs.specs.Rounds.{spread_grid}
 use Rattle.map_rows.specs.Words.{some, nums, by, all}

@@ -1,13 +1,13 @@
 -- Tiles changed and damaged, on grids of several tiles.
-use Rattle.std.specs.Prelude.{◌≡◌, ℕ, pos, List, [], ◌∷◌, ◌++◌, replicate, Option, Some, None}
+use Rattle.std.specs.Prelude.{◌≡◌, ℕ, pos, [], ◌∷◌, ◌++◌, replicate, Some, None}
 use Rattle.map_nums.specs.declared.Stat.TheVariants.{Sum, Product, Variety}
-use Rattle.map_nums.specs.Grids.{Size, Cells}
+use Rattle.map_nums.specs.Grids.{Cells}
 use Rattle.map_defs.specs.Local.{of_stat}
 use Rattle.map_defs.specs.Ops.{Op, Term, number_term, local_op, focal_op, zonal_op}
 use Rattle.map_defs.specs.Tiles.{tiles_in}
 use Rattle.map_defs.specs.Damage.{op_damage, changed_tiles}
 use Rattle.map_rows.specs.Words.{some, by, all}
-use Rattle.map_rows.specs.Edits.{Counts, counts, at_first, at_change}
+use Rattle.map_rows.specs.Edits.{counts, at_first, at_change}
 
 abbrev pub term : Term
 term = number_term (pos 0)

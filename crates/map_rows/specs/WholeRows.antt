@@ -1,5 +1,5 @@
 -- Zones, drainage, sight, spreading and regions, as a second program gives them.
-use Rattle.std.specs.Prelude.{◌≡◌, pos, negsuc, List, [], ◌∷◌, Option, Some, None}
+use Rattle.std.specs.Prelude.{◌≡◌, pos, negsuc, [], ◌∷◌, None}
 use Rattle.map_nums.specs.declared.Stat.TheVariants.{Majority, Mean}
 use Rattle.map_defs.specs.Zonal.{zonal_grid}
 use Rattle.map_defs.specs.Drainage.{direction_grid}

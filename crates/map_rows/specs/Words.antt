@@ -1,6 +1,6 @@
 -- How the rows write grids.
 use Rattle.std.specs.Prelude.{ℕ, ℤ, pos, neg_ℤ, List, map, replicate, Option, Some}
-use Rattle.map_nums.specs.Grids.{Size, Cells, Grid, cells_in}
+use Rattle.map_nums.specs.Grids.{Size, Cells, cells_in}
 
 abbrev pub some : ℕ → Option ℤ
 some n = Some (pos n)

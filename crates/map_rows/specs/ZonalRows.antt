@@ -1,5 +1,5 @@
 -- Zonal operations, worked.
-use Rattle.std.specs.Prelude.{◌≡◌, ℕ, ℤ, List, [], ◌∷◌, ◌++◌, replicate, Option, Some, None}
+use Rattle.std.specs.Prelude.{◌≡◌, ℕ, ℤ, [], ◌∷◌, ◌++◌, replicate, Option, None}
 use Rattle.map_nums.specs.declared.Stat.TheVariants.{Sum, Mean, Variety}
 use Rattle.map_nums.specs.Grids.{Cells}
 use Rattle.map_defs.specs.Zonal.{zonal_at, zonal_grid}
