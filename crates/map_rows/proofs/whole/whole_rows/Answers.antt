@@ -6,7 +6,7 @@ use Rattle.map_defs.specs.Sight.{sight_grid, sight_at, sees}
 use Rattle.map_defs.specs.Rounds.{spread_grid, spread_net, region_grid, region_net}
 use Rattle.map_defs.specs.Spread.{step_cost}
 use Rattle.map_nums.specs.Stats.{majority_of, occurrences}
-use Rattle.map_rows.proofs.wholes.wholes_rows.Goals as goal
+use Rattle.map_rows.proofs.whole.whole_rows.Goals as goal
 
 pub returns : goal.returns
 unfolding zonal_grid zone_numbers direction_grid direction_at winner_at flow_grid flow_at course_of downstream sight_grid sight_at sees spread_grid spread_net region_grid region_net step_cost majority_of occurrences
