@@ -15,3 +15,4 @@ pub mod TileRows
 pub mod Samples
 pub mod NearRows
 pub mod WholeRows
+pub mod WorkRows

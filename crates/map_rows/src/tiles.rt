@@ -1,6 +1,6 @@
 ghost use Rattle.map_rows.specs.TileRows.{TileRows};
 
 /// Tiles changed and damaged on several tiles.
-pub fn tiles_rows()
+pub fn tile_rows()
     ensures { TileRows }
 {}

@@ -2,7 +2,7 @@ use Rattle.std.proofs.Common.{refl}
 use Rattle.map_defs.specs.Incremental.{form_grid, linkage_at, length_at, partition_at, frontage_at, gradient_at, aspect_at}
 use Rattle.map_defs.specs.Slopes.{octant}
 use Rattle.map_defs.specs.Roots.{floor_root}
-use Rattle.map_rows.proofs.forms.forms_rows.Goals as goal
+use Rattle.map_rows.proofs.forms.form_rows.Goals as goal
 
 pub returns : goal.returns
 unfolding form_grid linkage_at length_at partition_at frontage_at gradient_at aspect_at octant floor_root

@@ -1,7 +1,7 @@
 use Rattle.std.proofs.Common.{refl}
 use Rattle.map_defs.specs.Nodes.{lacks, missing}
 use Rattle.map_defs.specs.Depths.{depth_of, is_looped, by_depth}
-use Rattle.map_rows.proofs.nodes.nodes_rows.Goals as goal
+use Rattle.map_rows.proofs.nodes.node_rows.Goals as goal
 
 pub returns : goal.returns
 unfolding lacks missing depth_of is_looped by_depth
