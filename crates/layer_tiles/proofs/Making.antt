@@ -16,14 +16,6 @@ use Rattle.layer_tiles.proofs.Rounds.{here, back, before}
 
 -- ---- a loop over the places
 
--- the first k places of a rectangle have what f gives, all of it in range
-pub record IsMade (f : ℕ → Option ℤ) (height width k : ℕ) (b : Block) : Type 0 where
-  pub height_is : b.height ≡ height
-  pub width_is : b.width ≡ width
-  pub count : length b.cells ≡ height * width
-  pub done : (j : ℕ) → j < k → get_or b.cells j None ≡ f j
-  pub in_range : (j : ℕ) → j < k → IsFalse (is_wide (f j))
-
 pub made_none : (f : ℕ → Option ℤ) (height width : ℕ) (b : Block) → b.height ≡ height → b.width ≡ width → length b.cells ≡ height * width → IsMade f height width 0 b
 made_none f height width b h w n = record { height_is = h; width_is = w; count = n; done = λ j l. absurd (omega (arith, l)); in_range = λ j l. absurd (omega (arith, l)) }
 
