@@ -15,6 +15,18 @@ enum Wanted {
     Least,
 }
 
+impl Wanted {
+    /// Whether so many occurrences lead the other number of them.
+    fn prefers(self, count: usize, other: usize) -> bool
+        ensures { result ≡ prefers self count other }
+    {
+        match self {
+            Wanted::Most => count > other,
+            Wanted::Least => count < other,
+        }
+    }
+}
+
 /// A value and how often it occurs.
 #[derive(Clone, Copy)]
 struct Run {
@@ -58,14 +70,11 @@ fn leader(sorted: &[Value], wanted: Wanted) -> Option<Value>
         if goes_on(sorted, i) {
             continue;
         }
-        best = better(
-            wanted,
-            best,
-            Run {
-                value: *value,
-                count,
-            },
-        );
+        let run = Run {
+            value: *value,
+            count,
+        };
+        best = better(wanted, best, run);
         count = 0;
     }
     best.map(|run| run.value)
@@ -76,20 +85,12 @@ fn better(wanted: Wanted, best: Option<Run>, run: Run) -> Option<Run>
     ensures { result ≡ better_run wanted best run }
 {
     match best {
-        Some(old) if !leads(wanted, run.count, old.count) => Some(old),
+        Some(old) if !wanted.prefers(run.count, old.count) => Some(old),
         _ => Some(run),
     }
 }
 
-fn leads(wanted: Wanted, count: usize, other: usize) -> bool
-    ensures { result ≡ prefers wanted count other }
-{
-    match wanted {
-        Wanted::Most => count > other,
-        Wanted::Least => count < other,
-    }
-}
-
+/// How many runs there are.
 fn run_count(sorted: &[Value]) -> usize
     requires { IsSorted int_cmp sorted.now }
     ensures { result ≡ variety_of sorted.now }

@@ -10,8 +10,10 @@ use crate::sums::{mean, product, total};
 use crate::{Stat, StatRefusal, Value};
 use std::alloc::Global;
 
-/// A statistic of the values, none of an empty list. The median, the majority, the minority and the variety sort a
-/// copy; the others take no memory.
+/// A statistic of the values, none of an empty list.
+///
+/// The median, the majority, the minority and the variety sort a copy; the others go over the values once and take no
+/// memory.
 ///
 /// # Errors
 ///
