@@ -1,0 +1,8 @@
+mod PartsLemmas
+mod WordLemmas
+mod KeptLemmas
+mod AnsweredLemmas
+mod Playing
+mod LoadLemmas
+mod Whole
+mod RunLemmas
