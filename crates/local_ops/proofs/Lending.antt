@@ -1,9 +1,9 @@
 -- The tiles of operands, one after another.
-use Rattle.std.proofs.Common.{◌≡◌, ℕ, zero, suc, ◌+◌, ◌<◌, List, [], ◌∷◌, ◌++◌, length, get_or, take, Some, None, refl, ◌∙◌, ap, arith, slice_get}
+use Rattle.std.proofs.Common.{◌≡◌, ℕ, zero, suc, ◌+◌, ◌<◌, List, [], ◌∷◌, ◌++◌, length, get_or, take, Some, None, refl, ◌∙◌, ap, sym, arith, slice_get}
 use Rattle.std.specs.List.{All}
 use Rattle.std.proofs.lemmas.List.{map_more}
 use Rattle.map_nums.specs.Grids.{Size}
-use Rattle.layer_tiles.specs.Tiles.{tile_block, tile_height, tile_width}
+use Rattle.layer_tiles.specs.Tiles.{Block, tile_block, tile_height, tile_width}
 use Rattle.layer_tiles.specs.Changes.{ChangeState}
 use Rattle.local_ops.specs.Operands.{size_of, blocks_of, HaveSize}
 
@@ -31,6 +31,9 @@ pub blocks_more : (s : Size) (t : ℕ) (operands : List ChangeState) (k : ℕ) (
 blocks_more s t operands k x e =
     let r = read operands k x e in
     map_more (λ (c : ChangeState). tile_block s c.cells t) operands k x r.0 ∙ ap (λ (c : ChangeState). blocks_of s t (take k operands) ++ tile_block s c.cells t ∷ []) r.1
+
+pub blocks_push : (s : Size) (t : ℕ) (operands : List ChangeState) (k : ℕ) (x : ChangeState) (old new : List Block) (view : Block) → slice_get operands k ≡ Some x → old ≡ blocks_of s t (take k operands) → new ≡ old ++ view ∷ [] → view ≡ tile_block s x.cells t → new ≡ blocks_of s t (take (k + 1) operands)
+blocks_push s t operands k x old new view e o n v = rw (n, o, v) (sym (blocks_more s t operands k x e))
 
 pub blocks_sizes : (s : Size) (t : ℕ) (operands : List ChangeState) → HaveSize (tile_height s t) (tile_width s t) (blocks_of s t operands)
 blocks_sizes s t [] k d l = absurd (omega (arith, l))

@@ -65,7 +65,7 @@ fn cell(value: Value) -> Cell {
 fn layer_of(alloc: Global, rows: u32, columns: u32, values: &[Value]) -> Result<Layer, Fail> {
     let extent = Extent::new(rows, columns).ok_or("limits")?;
     let cells: Vec<Cell> = values.iter().map(|value| cell(*value)).collect(alloc)?;
-    if cells.len() as u32 != extent.cells() {
+    if cells.len() != extent.cells() as usize {
         return Err(Fail::from("cells"));
     }
     Ok(Layer::from_cells(alloc, extent, &cells, 1)?)
@@ -120,11 +120,11 @@ fn ties_and_floors(rt: HostRuntime) -> Result<(), Fail> {
 
 #[test]
 fn overflow_in_either_tile(rt: HostRuntime) -> Result<(), Fail> {
-    let product = LocalOp::Stat(Stat::Product);
     for (last, first_tile, second_tile) in [
         (2_050_000, Err(31), Err(32)),
         (2_000_000, Ok(50_000_000), Ok(2_000_000_000)),
     ] {
+        let product = LocalOp::Stat(Stat::Product);
         let mut values = [50_000; 33];
         values[31] = last;
         values[32] = last;
