@@ -6,3 +6,4 @@ mod Playing
 mod LoadLemmas
 mod Whole
 mod RunLemmas
+mod Completeness

@@ -1,5 +1,5 @@
 -- What a run came to.
-use Rattle.std.specs.Prelude.{ℕ, ◌≡◌, ◌≤◌, ◌<◌, ◌⊎◌, ⊤, Bool, true, false, List, [], length, Option, Some, None}
+use Rattle.std.specs.Prelude.{ℕ, ◌≡◌, ◌≤◌, ◌<◌, ◌⊎◌, ⊤, Bool, true, false, List, [], length, take, Option, Some, None}
 use Rattle.std.specs.List.{list_any}
 use Rattle.std.specs.Io.KnownBytes.{Consumes, IsAtEnd, Keeps}
 use Rattle.map_nums.specs.Counts.{Rose}
@@ -121,3 +121,24 @@ EndsSo limit left left' NoMemory = EndsWithin limit left left'
 EndsSo limit left left' Usage = Keeps left left'
 EndsSo limit left left' Load = Keeps left left'
 EndsSo limit left left' ShelfFault = Keeps left left'
+
+-- ---- completeness
+
+-- no count of faults rose
+abbrev pub NoneRose : ℕ → ℕ → ℕ → ℕ → ℕ → ℕ → Type 0
+NoneRose f f' s s' k k' = (Rose f f' → ⊥) × (Rose s s' → ⊥) × (Rose k k' → ⊥)
+
+-- the session is shorter than the limit, or one of the lines that end before the limit ends it
+abbrev pub ComesToEnd : ℕ → List ℕ → Type 0
+ComesToEnd limit session = (length session < limit) ⊎ (list_any is_quit (ended_lines (take limit session)) ≡ true)
+
+-- it is done, or memory was wanted
+abbrev pub IsComplete : Status → Type 0
+IsComplete Done = ⊤
+IsComplete NoMemory = ⊤
+IsComplete Usage = ⊥
+IsComplete Load = ⊥
+IsComplete ShelfFault = ⊥
+IsComplete SourceFault = ⊥
+IsComplete SinkFault = ⊥
+IsComplete TooLong = ⊥

@@ -1,13 +1,13 @@
 //! The top call.
-ghost use Rattle.std.specs.Prelude.{◌≡◌, ◌≤◌, ◌↔◌, true, List, ℕ, IsTrue, IsNone, IfSome};
+ghost use Rattle.std.specs.Prelude.{◌≡◌, ◌≤◌, ◌↔◌, true, List, ℕ, IsTrue, IsNone, IsSome, IfSome};
 ghost use Rattle.map_words.specs.Names.{is_plain};
-ghost use Rattle.map_machine.specs.Play.{pair_text, pair_opening, run_text, run_opening};
+ghost use Rattle.map_machine.specs.Play.{pair_text, pair_opening, run_text, run_opening, goes_on};
 ghost use Rattle.map_machine.specs.Text.{session_text};
 ghost use Rattle.map_machine.specs.Words.{pair_of};
 ghost use Rattle.map_outside.specs.Contents.{Grows};
 ghost use Rattle.map_cli.specs.Front.{WritesFront};
 ghost use Rattle.map_cli.specs.Parts.{KeepsParts};
-ghost use Rattle.map_cli.specs.Run.{WhereTold, RunCounts, IsWhole, IsQuiet, FailsAfter, OpensSo, EndsSo, taken_text};
+ghost use Rattle.map_cli.specs.Run.{WhereTold, RunCounts, IsWhole, IsQuiet, FailsAfter, OpensSo, EndsSo, NoneRose, ComesToEnd, IsComplete, taken_text};
 
 use crate::Status;
 use crate::opening::{Loaded, load_file};
@@ -92,6 +92,9 @@ pub(crate) fn run_within<F: Shelf, S: Source, K: Sink, M: Tally + Send>(
         FailsAfter (taken_text most files (pair_of words.now)) (S.left source.old) (S.left source.new) (K.held sink.old) (K.held sink.new)) }
     ensures opens { IfSome (F.files shelf.old) (λ files. OpensSo result (run_opening most words.now files)) }
     ensures ended { EndsSo limit (S.left source.old) (S.left source.new) result }
+    ensures complete { NoneRose (F.faults shelf.old) (F.faults shelf.new) (S.faults source.old) (S.faults source.new) (K.faults sink.old) (K.faults sink.new)
+        → IsSome (pair_of words.now) → WhereTold (F.files shelf.old) (S.left source.old) (λ files session.
+        run_opening most words.now files ≡ goes_on → ComesToEnd limit session → IsComplete result) }
 {
     match pair_in(words) {
         Some(pair) => run_pair(
@@ -131,6 +134,11 @@ pub fn run<F: Shelf, S: Source, K: Sink, M: Tally + Send>(
     // How the answer goes together with the load, and with the bytes taken.
     ensures opens { IfSome (F.files shelf.old) (λ files. OpensSo result (run_opening FILE_LIMIT words.now files)) }
     ensures ended { EndsSo SESSION_LIMIT (S.left source.old) (S.left source.new) result }
+
+    // Where no fault came, the load is accepted and the session comes to an end, the run is done, or wants memory.
+    ensures complete { NoneRose (F.faults shelf.old) (F.faults shelf.new) (S.faults source.old) (S.faults source.new) (K.faults sink.old) (K.faults sink.new)
+        → IsSome (pair_of words.now) → WhereTold (F.files shelf.old) (S.left source.old) (λ files session.
+        run_opening FILE_LIMIT words.now files ≡ goes_on → ComesToEnd SESSION_LIMIT session → IsComplete result) }
 {
     run_within(
         alloc,
