@@ -1,11 +1,12 @@
 -- Cells that are read one after another.
-use Rattle.std.proofs.Common.{◌≡◌, ℕ, ◌+◌, ◌<◌, ◌≤◌, ◌==◌, true, replicate, ⊎_elim, List, [], ◌∷◌, ◌++◌, length, Option, Some, None, Ok, Err, ℤ, refl, sym, ap, ◌∙◌, arith, length-append, append_assoc}
+use Rattle.std.proofs.Common.{◌≡◌, ℕ, ◌<◌, ◌==◌, true, replicate, ⊎_elim, List, [], ◌∷◌, ◌++◌, length, Option, Some, None, Ok, Err, ℤ, refl, sym, ◌∙◌, arith, length-append, append_assoc}
 use Rattle.std.specs.Option.{option_map}
 use Rattle.std.proofs.lemmas.List.{append-nil}
 use Rattle.std.proofs.lemmas.Bool.{ne_eqb, eq-eqb, cond-true, cond-false, cases_Bool, and_from, and_right, lt-ltb, le-leb}
 use Rattle.map_nums.specs.Grids.{Cells, Size, IsSize, is_size, cells_in, longest_side, largest_area}
-use Rattle.layer_tiles.specs.Tiles.{tiles_in, LayerState}
-use Rattle.grid_text.specs.Plain.{cell_of, cell_number, with_first, cells_of, corner, sized, plain_grid, plain_tokens}
+use Rattle.layer_tiles.specs.Tiles.{tiles_in}
+use Rattle.layer_tiles.specs.Layers.{LayerState}
+use Rattle.grid_text.specs.Plain.{cell_of, with_first, cells_of, corner, sized, plain_grid, plain_tokens}
 use Rattle.grid_text.specs.Reads.{counted, Reads, ReadsCells}
 use Rattle.grid_text.specs.Tokens.{tokens_of}
 use Rattle.grid_text.specs.declared.Header.{Header}

@@ -1,5 +1,5 @@
 -- The lines of a header.
-use Rattle.std.proofs.Common.{◌≡◌, List, ℕ, ◌++◌, refl, codes, decimal, append_assoc}
+use Rattle.std.proofs.Common.{◌≡◌, List, ℕ, ◌++◌, codes, decimal, append_assoc}
 use Rattle.std.specs.Fmt.{signed_decimal}
 use Rattle.map_nums.specs.Grids.{Size}
 use Rattle.grid_text.specs.declared.Header.{Header}

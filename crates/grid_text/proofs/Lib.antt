@@ -6,3 +6,4 @@ mod Spaces
 mod RowsOfTiles
 mod RowTexts
 mod Looks
+mod GridRows

@@ -1,12 +1,11 @@
 -- A row of a grid, from the tiles that it crosses.
-use Rattle.std.proofs.Common.{◌≡◌, ℕ, zero, suc, ◌+◌, ◌-◌, ◌*◌, ◌/◌, ◌%◌, ◌<◌, ◌≤◌, min, List, length, take, drop, Option, ℤ, refl, sym, ap, ◌∙◌, ◌++◌, arith, append_assoc}
-use Rattle.std.specs.List.{flat_map, range_with_len}
+use Rattle.std.proofs.Common.{◌≡◌, ℕ, ◌+◌, ◌-◌, ◌*◌, ◌/◌, ◌%◌, ◌<◌, ◌≤◌, min, length, take, drop, refl, sym, ap, ◌∙◌, ◌++◌, arith}
 use Rattle.std.proofs.Math.Seq.{take-add}
-use Rattle.std.proofs.lemmas.List.{drop-drop, append-nil, take_all, length-drop}
+use Rattle.std.proofs.lemmas.List.{drop-drop}
 use Rattle.std.proofs.lemmas.Nat.{div-mul-add, mod-mul-add, mul-add-lt, mul-le}
 use Rattle.map_nums.specs.Grids.{Size, IsSize, Cells, cells_in}
-use Rattle.layer_tiles.specs.Tiles.{tiles_across, tiles_down, tiles_in, tile_top, tile_left, tile_height, tile_width, tile_start, tile_cells, strided, IsStrided}
-use Rattle.layer_tiles.proofs.Strides.{row_of-strided}
+use Rattle.layer_tiles.specs.Tiles.{tiles_across, tiles_down, tiles_in, tile_top, tile_left, tile_height, tile_width, tile_start, tile_cells, IsStrided}
+use Rattle.layer_tiles.proofs.Strides.{block_row-strided}
 use Rattle.layer_tiles.proofs.Places.{tile_strided}
 
 -- tile t is the k-th that row r crosses
@@ -54,7 +53,7 @@ crosses s r k across e l m = rw e (crosses_here s r k l (omega arith))
 pub row-tile : (s : Size) (cells : Cells) (r k t : ℕ) → IsSize s → length cells ≡ cells_in s → Crosses s r k t → take (tile_width s t) (drop (r % 32 * tile_width s t) (tile_cells s cells t)) ≡ take (tile_width s t) (drop (r * s.columns + 32 * k) cells)
 row-tile s cells r k t h n c =
     let strides : IsStrided (length cells) (tile_start s t) s.columns (tile_height s t) (tile_width s t) = rw n (tile_strided s t h c.within) in
-    sym (row_of-strided cells (tile_start s t) s.columns (tile_height s t) (tile_width s t) (r % 32) strides c.row)
+    sym (block_row-strided cells (tile_start s t) s.columns (tile_height s t) (tile_width s t) (r % 32) strides c.row)
     ∙ ap (λ i. take (tile_width s t) (drop i cells)) c.start
 
 -- one more tile

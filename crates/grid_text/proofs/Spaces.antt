@@ -1,6 +1,6 @@
 -- Words with single spaces between.
 use Rattle.std.proofs.Common.{◌≡◌, ◌<◌, ℕ, zero, suc, ◌+◌, List, [], ◌∷◌, ◌++◌, length, take, get_or, map, Option, ℤ, refl, sym, ap, ◌∙◌, append_assoc, codes, arith}
-use Rattle.std.proofs.lemmas.List.{map_more, append-nil, get_or_read}
+use Rattle.std.proofs.lemmas.List.{map_more}
 use Rattle.map_nums.specs.Grids.{Cells}
 use Rattle.grid_text.specs.Printed.{spaced, cell_text}
 

@@ -1,5 +1,5 @@
 -- The plain form of a grid's text: five keys in lower case and in one order, each with its value, and then the cells.
-use Rattle.std.specs.Prelude.{ℕ, ◌+◌, ◌-◌, ◌*◌, nat_lt, nat_le, ◌==◌, Bool, true, false, not, ◌&&◌, ℤ, pos, negsuc, neg_ℤ, List, [], ◌∷◌, length, Option, Some, None, option_and_then, codes, bytes_eq, if◌then◌else◌}
+use Rattle.std.specs.Prelude.{ℕ, ◌+◌, ◌-◌, ◌*◌, nat_lt, nat_le, ◌==◌, Bool, false, ◌&&◌, ℤ, pos, negsuc, neg_ℤ, List, [], ◌∷◌, length, Option, Some, None, option_and_then, codes, bytes_eq, if◌then◌else◌}
 use Rattle.std.specs.List.{fold, list_all}
 use Rattle.std.specs.Char.{is_ascii_digit}
 use Rattle.std.specs.Ordering.{int_eq}

@@ -8,6 +8,8 @@ mod heads;
 mod numbers;
 mod print;
 mod read;
+#[cfg(test)]
+mod tests;
 mod tokens;
 
 ghost use Rattle.std.specs.Prelude.{◌≡◌};

@@ -1,7 +1,6 @@
-use Rattle.std.proofs.Common.{◌≡◌, ◌<◌, ◌+◌, ◌*◌, ◌-◌, ◌^◌, take, get_or, length, refl, sym, ap, ◌∙◌, arith}
+use Rattle.std.proofs.Common.{◌+◌, ◌*◌, ◌-◌, get_or, refl, sym, ap, ◌∙◌, arith}
 use Rattle.std.proofs.lemmas.List.Sums.{fold_more}
-use Rattle.std.proofs.lemmas.List.{take_all}
-use Rattle.grid_text.proofs.Digits.{digit_fits, nine_digits}
+use Rattle.grid_text.proofs.Digits.{digit_fits}
 use Rattle.grid_text.proofs.numbers.digits_number.Goals as goal
 
 pub overflow_mul-number : goal.overflow_mul-number

@@ -1,4 +1,4 @@
-use Rattle.std.proofs.Common.{drop, take, length, sym, ap, ◌∙◌, refl}
+use Rattle.std.proofs.Common.{drop, length, sym, ap, ◌∙◌, refl}
 use Rattle.std.proofs.lemmas.List.{take_rest, nil_from_length}
 use Rattle.std.proofs.lemmas.Bool.{eqb-true, eqb-false}
 use Rattle.grid_text.proofs.Splits.{no_token, first_token}
