@@ -1,5 +1,5 @@
 -- The text of a whole run: the load of its file, and then its session.
-use Rattle.std.specs.Prelude.{ℕ, List, [], ◌∷◌, ◌++◌, length, if◌then◌else◌, nat_lt, Option, Some, None, String}
+use Rattle.std.specs.Prelude.{ℕ, List, [], ◌++◌, length, if◌then◌else◌, nat_lt, Option, Some, None, String}
 use Rattle.std.specs.declared.alloc.Global.{Global}
 use Rattle.map_machine.specs.States.{MapState, Name}
 use Rattle.map_machine.specs.Loads.{Opened, ready, turned_away, first_load, long_file_reply}

@@ -1,5 +1,5 @@
 -- What one line does to a state, and what is replied.
-use Rattle.std.specs.Prelude.{ℕ, ℤ, nat_lt, Bool, false, ◌&&◌, not, List, ◌∷◌, is_some, Option, Some, None, if◌then◌else◌}
+use Rattle.std.specs.Prelude.{ℕ, ℤ, nat_lt, Bool, false, ◌&&◌, List, ◌∷◌, is_some, Option, Some, None, if◌then◌else◌}
 use Rattle.map_nums.specs.Counts.{raised}
 use Rattle.map_nums.specs.Grids.{Grid}
 use Rattle.grid_text.specs.Printed.{grid_text}

@@ -1,5 +1,7 @@
 -- The text of a session: the replies to its lines, put end to end.
 use Rattle.std.specs.Prelude.{ℕ, Bool, List, [], ◌∷◌, ◌++◌, length, take, if◌then◌else◌, nat_lt}
+use Rattle.map_machine.specs.declared.Kind.{Kind}
+use Rattle.map_machine.specs.declared.Kind.TheVariants.{Refused}
 use Rattle.map_machine.specs.Lines.{ended_lines, lines_of}
 use Rattle.map_machine.specs.States.{MapState}
 use Rattle.map_machine.specs.Steps.{step_of, is_quit, long_reply}
@@ -18,6 +20,10 @@ reply_to s line = if is_long line then long_reply (length line) else (step_of s 
 -- the state after any line: one that is too long changes nothing
 abbrev pub state_to : MapState → List ℕ → MapState
 state_to s line = if is_long line then s else (step_of s line).state
+
+-- what becomes of any line
+abbrev pub kind_to : MapState → List ℕ → Kind
+kind_to s line = if is_long line then Refused else (step_of s line).kind
 
 -- the replies to these lines, up to the first that ends the session
 abbrev pub replies_to : MapState → List (List ℕ) → List ℕ

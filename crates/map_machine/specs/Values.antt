@@ -2,7 +2,7 @@
 use Rattle.std.specs.Prelude.{ℤ, Bool, List, [], ◌∷◌, Option, Some, None, bytes_eq, not, if◌then◌else◌}
 use Rattle.std.specs.List.{list_all}
 use Rattle.std.specs.Option.{option_map}
-use Rattle.map_nums.specs.Grids.{Size, Cells, Grid, constant}
+use Rattle.map_nums.specs.Grids.{Size, Grid, constant}
 use Rattle.map_nums.specs.Answers.{is_wide}
 use Rattle.map_nums.specs.declared.Stat.TheVariants.{Sum}
 use Rattle.map_defs.specs.Local.{local_grid, of_stat}

@@ -2,7 +2,6 @@
 use Rattle.std.specs.Prelude.{ℕ, nat_lt, ◌==◌, ◌&&◌, List, [], ◌∷◌, length, Option, Some, None, String, string_bytes, codes, bytes_eq, if◌then◌else◌}
 use Rattle.std.specs.declared.alloc.Global.{Global}
 use Rattle.map_words.specs.Names.{is_plain}
-use Rattle.map_machine.specs.States.{Name}
 
 -- NAME=FILE
 pub record Pair : Type 0 where
