@@ -16,6 +16,7 @@ ghost use Rattle.std.specs.Prelude.{◌≡◌};
 
 use layer_tiles::{Layer, Text};
 use map_nums::NoMemory;
+pub use numbers::cell_number;
 pub use print::print_grid;
 pub use read::read_grid;
 use std::alloc::{AllocError, AllocFailed};

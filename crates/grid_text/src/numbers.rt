@@ -52,8 +52,8 @@ pub(crate) fn number(text: &[u8], most: usize) -> Option<u32>
     }
 }
 
-// The number of a cell: one to nine digits, after a minus sign or none.
-fn cell_number(token: &[u8]) -> Option<Value>
+/// The number of a cell: one to nine digits, after a minus sign or none.
+pub fn cell_number(token: &[u8]) -> Option<Value>
     ensures value { result ≡ cell_number token.now }
     ensures range { IfSome result (λ z. IsTrue (is_value z)) }
 {
