@@ -1,10 +1,11 @@
 -- A line's pieces, by its first space.
-use Rattle.std.proofs.Common.{◌≡◌, ℕ, suc, ◌+◌, ◌-◌, ◌==◌, Bool, true, false, not, cond, List, [], ◌∷◌, length, take, drop, refl, sym, ap, ◌∙◌}
+use Rattle.std.proofs.Common.{◌≡◌, ℕ, ◌+◌, ◌-◌, ◌==◌, Bool, true, false, not, cond, List, [], ◌∷◌, length, take, drop, refl, sym, ap, ◌∙◌, subst, Option, Some, None, MatchOption, Bor}
+use Rattle.std.specs.Prelude.{is_some}
 use Rattle.std.specs.List.{prefix_len}
 use Rattle.std.proofs.Math.Numerals.{one-add}
 use Rattle.std.proofs.lemmas.List.{take_rest}
 use Rattle.map_machine.specs.Lines.{onto_first}
-use Rattle.map_machine.specs.Forms.{pieces_of}
+use Rattle.map_machine.specs.Forms.{pieces_of, other, line_of}
 
 -- how many bytes stand before the first space
 abbrev pub piece_len : List ℕ → ℕ
@@ -39,3 +40,41 @@ first_piece bytes piece (c ∷ rest) k n p b e =
     pieces_of-cut bytes c rest (ap (λ i. drop i bytes) (sym n) ∙ sym b)
     ∙ ap (λ these. these ∷ pieces_of rest) (ap (λ i. take i bytes) (sym n) ∙ sym p)
     ∙ ap (λ these. piece ∷ pieces_of these) (sym (take_rest (c ∷ rest) 1))
+
+some_piece : (bytes : List ℕ) → (x : List ℕ) × (xs : List (List ℕ)) × (pieces_of bytes ≡ x ∷ xs)
+some_piece [] = ([], [], refl)
+some_piece (b ∷ bytes) =
+    let rest = some_piece bytes in
+    elim (b == 32) as (λ w. (x : List ℕ) × (xs : List (List ℕ)) × (cond w ([] ∷ pieces_of bytes) (onto_first b (pieces_of bytes)) ≡ x ∷ xs)) [
+      | true ↦ ([], pieces_of bytes, refl)
+      | false ↦ (b ∷ rest.0, rest.1, ap (onto_first b) rest.2)
+    ]
+
+-- a piece, and what stands after it
+abbrev pub Cuts : List ℕ → List ℕ → Option (Bor (List ℕ)) → Type 0
+Cuts bytes piece rest = MatchOption rest (pieces_of bytes ≡ piece ∷ []) (λ r. pieces_of bytes ≡ piece ∷ pieces_of r.now)
+
+pub cut_some : (bytes piece : List ℕ) (rest : Option (Bor (List ℕ))) (r : Bor (List ℕ)) → rest ≡ Some r → Cuts bytes piece rest → pieces_of bytes ≡ piece ∷ pieces_of r.now
+cut_some bytes piece rest r e h = subst (λ o. Cuts bytes piece o) e h
+
+cut_more : (bytes piece : List ℕ) (rest : Option (Bor (List ℕ))) → is_some rest ≡ true → Cuts bytes piece rest → (x : List ℕ) × (xs : List (List ℕ)) × (pieces_of bytes ≡ piece ∷ x ∷ xs)
+cut_more bytes piece None e h = absurd (cc)
+cut_more bytes piece (Some r) e h =
+    let more = some_piece r.now in
+    (more.0, more.1, h ∙ ap (λ these. piece ∷ these) more.2)
+
+-- more than seven pieces
+pub too_many : (line a b c d e f g r₁ r₂ r₃ r₄ r₅ r₆ : List ℕ) (rest : Option (Bor (List ℕ)))
+    → pieces_of line ≡ a ∷ pieces_of r₁
+    → pieces_of r₁ ≡ b ∷ pieces_of r₂
+    → pieces_of r₂ ≡ c ∷ pieces_of r₃
+    → pieces_of r₃ ≡ d ∷ pieces_of r₄
+    → pieces_of r₄ ≡ e ∷ pieces_of r₅
+    → pieces_of r₅ ≡ f ∷ pieces_of r₆
+    → Cuts r₆ g rest
+    → is_some rest ≡ true
+    → other ≡ line_of line
+unfolding line_of
+too_many line a b c d e f g r₁ r₂ r₃ r₄ r₅ r₆ rest h₁ h₂ h₃ h₄ h₅ h₆ h₇ s =
+    let more = cut_more r₆ g rest s h₇ in
+    rw (h₁, h₂, h₃, h₄, h₅, h₆, more.2) refl

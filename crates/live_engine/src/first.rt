@@ -5,7 +5,7 @@ ghost use Rattle.map_machine.specs.Forms.{ask};
 ghost use Rattle.map_machine.specs.Steps.{is_quit, define_step, step_by};
 ghost use Rattle.map_machine.specs.Text.{reply_to, state_to, kind_to};
 
-use crate::entries::{NamedLayer, Origin, layer_named, statements};
+use crate::entries::{NamedLayer, Origin, layer_named, named_sum, put_first, statements};
 use crate::forms::{Spoken, read_line};
 use crate::replies::{Reply, accepted, load_refused, refused, undefined};
 use crate::sums::sum_layer;
@@ -118,7 +118,10 @@ impl First {
         ensures parts { (M.counts tally.new).parts_out ≡ (M.counts tally.old).parts_out }
         ensures part { (M.counts tally.new).is_part ≡ (M.counts tally.old).is_part }
     {
-        if layer_named(&self.held, name).is_some() || statements(&self.held) >= MOST_STATEMENTS {
+        if layer_named(&self.held, name).is_some() {
+            return refused(self.alloc);
+        }
+        if statements(&self.held) >= MOST_STATEMENTS {
             return refused(self.alloc);
         }
         let Some(source) = layer_named(&self.held, operand) else {
@@ -128,13 +131,9 @@ impl First {
         let Some(layer) = sum_layer(self.alloc, source, number, next, tally)? else {
             return refused(self.alloc);
         };
-        let sum = NamedLayer {
-            name: Vec::from_slice(self.alloc, name)?,
-            origin: Origin::Sum(Vec::from_slice(self.alloc, operand)?, number),
-            layer,
-        };
+        let sum = named_sum(self.alloc, name, operand, number, layer)?;
         let reply = accepted(self.alloc, next)?;
-        self.held.insert(0, sum)?;
+        put_first(&mut self.held, sum)?;
         self.number = next;
         Ok(reply)
     }

@@ -1,11 +1,9 @@
 //! The sum of a layer and a number.
-ghost use Rattle.std.specs.Prelude.{◌≡◌, IsTrue, IsFalse, IfOk, IfSome, MatchOption, true, false};
+ghost use Rattle.std.specs.Prelude.{◌≡◌, IfOk, MatchOption, true, false};
 ghost use Rattle.map_nums.specs.Answers.{is_wide};
 ghost use Rattle.map_nums.specs.Grids.{cells_in};
 ghost use Rattle.layer_tiles.specs.Tallies.{RisesBy};
-ghost use Rattle.map_machine.specs.Values.{sum_grid, is_in_range};
-ghost use Rattle.live_engine.specs.Held.{grid_of};
-ghost use Rattle.live_engine.specs.Sums.{plus, sums, all_fit};
+ghost use Rattle.live_engine.specs.Sums.{plus, SumsCells, SumsLayer};
 
 use layer_tiles::{Cell, Layer, Tally};
 use map_nums::{NoMemory, Value, in_range};
@@ -28,9 +26,7 @@ fn sum_cells<M: Tally>(
     number: Value,
     tally: &mut M,
 ) -> Result<Option<Vec<Cell>>, NoMemory>
-    ensures cells { IfOk result (λ sum. MatchOption sum
-        (all_fit (sums number layer.now.cells) ≡ false)
-        (λ v. (v.items ≡ sums number layer.now.cells) × (all_fit (sums number layer.now.cells) ≡ true))) }
+    ensures cells { IfOk result (SumsCells number layer.now.cells) }
     ensures picks { RisesBy 0 (cells_in layer.now.size) (M.counts tally.old) (M.counts tally.new) }
 {
     let count = layer.extent().cells();
@@ -52,13 +48,12 @@ pub(crate) fn sum_layer<M: Tally>(
     stamp: u64,
     tally: &mut M,
 ) -> Result<Option<Layer>, NoMemory>
-    ensures layer { IfOk result (λ sum. MatchOption sum
-        (is_in_range (sum_grid layer.now.size number (grid_of layer.now)) ≡ false)
-        (λ l. (grid_of l ≡ sum_grid layer.now.size number (grid_of layer.now)) × (is_in_range (sum_grid layer.now.size number (grid_of layer.now)) ≡ true))) }
+    ensures layer { IfOk result (SumsLayer number layer.now) }
     ensures picks { RisesBy 0 (cells_in layer.now.size) (M.counts tally.old) (M.counts tally.new) }
 {
+    let extent = layer.extent();
     let Some(cells) = sum_cells(alloc, layer, number, tally)? else {
         return Ok(None);
     };
-    Ok(Some(Layer::from_cells(alloc, layer.extent(), &cells, stamp)?))
+    Ok(Some(Layer::from_cells(alloc, extent, &cells, stamp)?))
 }
