@@ -9,6 +9,8 @@ mod first;
 mod forms;
 mod replies;
 mod sums;
+#[cfg(test)]
+mod tests;
 
 pub use first::{Begun, First};
 pub use replies::Reply;
