@@ -1,4 +1,4 @@
-//! A whole grid of cells, with a stamp for each tile.
+//! A whole grid of cells, kept row by row in one list, with a stamp for each tile.
 ghost use Rattle.std.specs.Prelude.{◌≡◌, ◌<◌, ◌≤◌, [], length, slice_index, IfOk};
 ghost use Rattle.map_nums.specs.Grids.{cells_in, cell_at, constant};
 ghost use Rattle.layer_tiles.specs.Tiles.{tiles_in, tile_block};
@@ -63,7 +63,7 @@ impl Layer {
         Layer::of(alloc, extent, Vec::from_slice(alloc, cells)?, stamp)
     }
 
-    /// The layer of a patch that holds every tile, with one stamp for all tiles.
+    /// The layer of a patch that holds every tile, with one stamp for all tiles. Its one list of cells is new memory.
     pub fn fresh(alloc: Global, patch: Patch, stamp: u64) -> Result<Layer, NoMemory>
         requires { HoldsAll patch }
         ensures { IfOk result (λ layer. layer ≡ layer_of patch.size (patched patch.size [] patch.tiles) stamp) }
@@ -74,7 +74,7 @@ impl Layer {
         Layer::of(alloc, extent, cells, stamp)
     }
 
-    /// A layer that takes its cells over.
+    /// A layer that takes the cells over.
     fn of(alloc: Global, extent: Extent, cells: Vec<Cell>, stamp: u64) -> Result<Layer, NoMemory>
         requires { length cells.items ≡ cells_in extent }
         ensures { IfOk result (λ layer. layer ≡ layer_of extent cells.items stamp) }
