@@ -1,5 +1,5 @@
 -- The plain form of a grid's text: five keys in lower case and in one order, each with its value, and then the cells.
-use Rattle.std.specs.Prelude.{ℕ, ◌+◌, ◌-◌, ◌*◌, nat_lt, nat_le, ◌==◌, Bool, true, false, not, ◌&&◌, ℤ, pos, negsuc, neg_ℤ, List, [], ◌∷◌, length, Option, Some, None, codes, bytes_eq, if◌then◌else◌}
+use Rattle.std.specs.Prelude.{ℕ, ◌+◌, ◌-◌, ◌*◌, nat_lt, nat_le, ◌==◌, Bool, false, ◌&&◌, ℤ, pos, negsuc, neg_ℤ, List, [], ◌∷◌, length, Option, Some, None, option_and_then, codes, bytes_eq, if◌then◌else◌}
 use Rattle.std.specs.List.{fold, list_all}
 use Rattle.std.specs.Char.{is_ascii_digit}
 use Rattle.std.specs.Ordering.{int_eq}
@@ -35,6 +35,7 @@ cell_number (b ∷ text) =
 abbrev pub null_mark : ℤ
 null_mark = negsuc 9998
 
+-- the cell that a number stands for
 abbrev pub cell_of : ℤ → Option ℤ
 cell_of z = if int_eq z null_mark then None else Some z
 
@@ -49,6 +50,10 @@ abbrev pub cells_of : List (List ℕ) → Option Cells
 cells_of [] = Some []
 cells_of (token ∷ tokens) = with_first (cell_number token) (cells_of tokens)
 
+infixl 10 ◌>>=◌
+abbrev pub ◌>>=◌ : {A B : Type 0} → Option A → (A → Option B) → Option B
+o >>= f = option_and_then f o
+
 -- what a grid's text holds
 pub record Headed : Type 0 where
   pub header : Header
@@ -62,14 +67,32 @@ abbrev pub sized : Header → Size → Option Cells → Option Headed
 sized header size None = None
 sized header size (Some cells) = if is_size size && (length cells == cells_in size) then Some (record { header = header; grid = record { size = size; cells = cells } }) else None
 
+-- a key's value, and the tokens after it
+pub record Keyed : Type 0 where
+  pub value : List ℕ
+  pub rest : List (List ℕ)
+
+-- where this key stands first, and a token after it
+abbrev pub after_key : List ℕ → List (List ℕ) → Option Keyed
+after_key key (token ∷ value ∷ tokens) = if bytes_eq token key then Some (record { value = value; rest = tokens }) else None
+after_key key _ = None
+
+-- the grid of these header values and the tokens of its cells
+abbrev pub headed : Keyed → Keyed → Keyed → Keyed → Keyed → Option Headed
+headed columns rows x y size =
+    if is_count columns.value && is_count rows.value && is_measure x.value && is_measure y.value && is_measure size.value
+    then sized (record { x = corner x.value; y = corner y.value; size = size.value }) (record { rows = digits_number rows.value; columns = digits_number columns.value }) (cells_of size.rest)
+    else None
+
 -- the grid that these tokens are in the plain form
 abbrev pub plain_tokens : List (List ℕ) → Option Headed
-plain_tokens (a ∷ columns ∷ b ∷ rows ∷ c ∷ x ∷ d ∷ y ∷ e ∷ size ∷ cells) =
-    if bytes_eq a (codes "ncols") && is_count columns && bytes_eq b (codes "nrows") && is_count rows && bytes_eq c (codes "xllcorner") && is_measure x
-        && bytes_eq d (codes "yllcorner") && is_measure y && bytes_eq e (codes "cellsize") && is_measure size
-    then sized (record { x = corner x; y = corner y; size = size }) (record { rows = digits_number rows; columns = digits_number columns }) (cells_of cells)
-    else None
-plain_tokens _ = None
+plain_tokens tokens = do
+  columns ← after_key (codes "ncols") tokens
+  rows ← after_key (codes "nrows") columns.rest
+  x ← after_key (codes "xllcorner") rows.rest
+  y ← after_key (codes "yllcorner") x.rest
+  size ← after_key (codes "cellsize") y.rest
+  headed columns rows x y size
 
 -- the grid that these bytes are in the plain form
 unfoldable pub plain_grid : List ℕ → Option Headed

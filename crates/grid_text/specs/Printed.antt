@@ -37,8 +37,8 @@ y_key corner = if corner.center then codes "yllcenter " else codes "yllcorner "
 abbrev pub header_text : Header → Size → List ℕ
 header_text h s =
     codes "ncols " ++ decimal s.columns ++ codes "\nnrows " ++ decimal s.rows ++ codes "\n"
-        ++ x_key h.x ++ h.x.text ++ codes "\n" ++ y_key h.y ++ h.y.text ++ codes "\ncellsize " ++ h.size
-        ++ codes "\nNODATA_value " ++ signed_decimal null_number ++ codes "\n"
+    ++ x_key h.x ++ h.x.text ++ codes "\n" ++ y_key h.y ++ h.y.text ++ codes "\ncellsize " ++ h.size
+    ++ codes "\nNODATA_value " ++ signed_decimal null_number ++ codes "\n"
 
 -- the header, and a line for each row
 unfoldable pub grid_text : Header → Size → Cells → List ℕ

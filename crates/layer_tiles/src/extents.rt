@@ -38,7 +38,10 @@ impl Extent {
 
     /// One cell.
     pub(crate) fn one() -> Extent {
-        Extent { rows: 1, columns: 1 }
+        Extent {
+            rows: 1,
+            columns: 1,
+        }
     }
 
     pub fn rows(&self) -> u32

@@ -3,3 +3,4 @@ pub mod Causes
 pub mod Contents
 pub mod Endings
 pub mod Forms
+pub mod Writers

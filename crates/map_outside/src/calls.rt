@@ -1,7 +1,7 @@
 //! The calls of a form in memory, and which of them are to fail.
 ghost use Rattle.std.specs.Prelude.{◌≡◌};
 ghost use Rattle.map_nums.specs.Counts.{raised};
-ghost use Rattle.map_outside.specs.Calls.{CallState, is_next_listed, called};
+ghost use Rattle.map_outside.specs.Calls.{is_next_listed, called};
 
 use std::marker::Model;
 

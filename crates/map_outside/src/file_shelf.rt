@@ -1,5 +1,5 @@
 //! The files of the system.
-ghost use Rattle.std.specs.Prelude.{◌≡◌, ◌+◌, ◌<◌, ◌≤◌, ℕ, None, true, [], length, vec_len};
+ghost use Rattle.std.specs.Prelude.{◌≡◌, ◌<◌, None, true, [], length};
 ghost use Rattle.map_outside.specs.Endings.{EndsReading};
 
 use crate::{FetchFault, Shelf};

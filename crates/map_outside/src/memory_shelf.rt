@@ -1,8 +1,8 @@
 //! Files in memory.
-ghost use Rattle.std.specs.Prelude.{◌≡◌, ◌≤◌, ℕ, Some, None, true, IfOk, vec_len, MatchOption};
+ghost use Rattle.std.specs.Prelude.{◌≡◌, ◌≤◌, Some, None, true, IfOk, vec_len, MatchOption};
 ghost use Rattle.map_outside.specs.Causes.{FetchCounts};
 ghost use Rattle.map_outside.specs.Contents.{Fetches};
-ghost use Rattle.map_outside.specs.Forms.{ShelfState, named_bytes, file_named, MemoryFetches};
+ghost use Rattle.map_outside.specs.Forms.{named_bytes, file_named, MemoryFetches};
 
 use crate::calls::Calls;
 use crate::{FetchFault, Shelf};

@@ -2,7 +2,7 @@
 ghost use Rattle.std.specs.Prelude.{◌≡◌, Some, []};
 ghost use Rattle.map_outside.specs.Causes.{PutCounts};
 ghost use Rattle.map_outside.specs.Contents.{PutGrows};
-ghost use Rattle.map_outside.specs.Forms.{SinkState, MemoryPuts};
+ghost use Rattle.map_outside.specs.Forms.{MemoryPuts};
 
 use crate::calls::Calls;
 use crate::{PutFault, Sink};

@@ -1,9 +1,9 @@
 //! Bytes in memory, given in pieces.
-ghost use Rattle.std.specs.Prelude.{◌≡◌, ◌<◌, ◌≤◌, ℕ, Some, drop, length, vec_len};
+ghost use Rattle.std.specs.Prelude.{◌≡◌, ◌<◌, Some, length};
 ghost use Rattle.std.specs.Io.{ReadsAtMost};
 ghost use Rattle.std.specs.Io.KnownBytes.{ReadConsumes};
 ghost use Rattle.map_outside.specs.Causes.{TakeCounts};
-ghost use Rattle.map_outside.specs.Forms.{SourceState, MemoryTakes};
+ghost use Rattle.map_outside.specs.Forms.{MemoryTakes};
 
 use crate::calls::Calls;
 use crate::{Failed, Source};

@@ -1,7 +1,8 @@
 //! A sink over any writer.
-ghost use Rattle.std.specs.Prelude.{◌≡◌, ℕ, None, take, MatchResult};
+ghost use Rattle.std.specs.Prelude.{◌≡◌, None, take, MatchResult};
 ghost use Rattle.std.specs.Io.KnownBytes.{Appends};
 ghost use Rattle.map_outside.specs.Causes.{PutCounts};
+ghost use Rattle.map_outside.specs.Writers.{WriterPuts};
 
 use crate::{PutFault, Sink};
 use std::io::Write;
@@ -51,9 +52,7 @@ impl<W: Write> Sink for WriteSink<W> {
 
     /// Writes all of the bytes and flushes, or stops at the first fault.
     fn put(&mut self, bytes: &[u8]) -> Result<(), PutFault>
-        ensures writes { MatchResult result
-            (λ _. Appends (W.contents self.old.inner) (W.contents self.new.inner) bytes.now)
-            (λ _. (n : ℕ) × Appends (W.contents self.old.inner) (W.contents self.new.inner) (take n bytes.now)) }
+        ensures writes { WriterPuts (W.contents self.old.inner) (W.contents self.new.inner) result bytes.now }
         ensures cause { PutCounts self.old.faults self.new.faults result }
     {
         match write_whole(&mut self.inner, bytes) {

@@ -1,0 +1,17 @@
+pub mod Words
+pub mod Edits
+pub mod LocalRows
+pub mod FocalRows
+pub mod ZonalRows
+pub mod FormRows
+pub mod DrainageRows
+pub mod SightRows
+pub mod SpreadRows
+pub mod RegionRows
+pub mod ExpansionRows
+pub mod NodeRows
+pub mod CountRows
+pub mod TileRows
+pub mod Samples
+pub mod NearRows
+pub mod WholeRows

@@ -1,0 +1,7 @@
+ghost use Rattle.map_rows.specs.WholeRows.{WholeRows};
+
+/// Operations of whole grids on small grids with nulls.
+pub fn wholes_rows()
+    ensures { WholeRows }
+{
+}
