@@ -4,7 +4,7 @@ use Rattle.std.specs.Prelude.{String, string_bytes}
 use Rattle.std.specs.declared.alloc.Global.{Global}
 use Rattle.std.specs.Fmt.{digits}
 use Rattle.map_defs.specs.Local.{local_grid}
-use Rattle.map_words.specs.Names.{keywords, operations, is_reserved, is_plain}
+use Rattle.map_words.specs.Names.{is_among, is_reserved, is_plain}
 use Rattle.grid_text.specs.Plain.{plain_grid}
 use Rattle.grid_text.specs.Printed.{grid_text}
 use Rattle.map_machine.specs.Forms.{line_of}
@@ -32,7 +32,7 @@ sum_of_three_by_three : Runs 67108864 1073741824
     (codes "B = LocalSum of A and 3\ngrid B\n")
     (codes "ok 1\nok 2\nncols 3\nnrows 3\nxllcorner 0\nyllcorner 0\ncellsize 1\nNODATA_value -2000000001\n4 5 6\n7 8 9\n10 11 12\n")
     goes_on
-unfolding digits local_grid keywords operations is_reserved is_plain plain_grid grid_text line_of first_load long_file_reply step_of is_quit long_reply sum_grid
+unfolding digits local_grid is_among is_reserved is_plain plain_grid grid_text line_of first_load long_file_reply step_of is_quit long_reply sum_grid
 sum_of_three_by_three run workers model pair are = rw (are.0, are.1, are.2, are.3) (refl, refl)
 
 -- a line of no form, and a request on a layer that is not there
@@ -41,7 +41,7 @@ first_refused_lines : Runs 67108864 1073741824
     (codes "hello\ngrid Z\n")
     (codes "ok 1\nrefused later\nundefined Z: Z\n")
     goes_on
-unfolding digits local_grid keywords operations is_reserved is_plain plain_grid grid_text line_of first_load long_file_reply step_of is_quit long_reply sum_grid
+unfolding digits local_grid is_among is_reserved is_plain plain_grid grid_text line_of first_load long_file_reply step_of is_quit long_reply sum_grid
 first_refused_lines run workers model pair are = rw (are.0, are.1, are.2, are.3) (refl, refl)
 
 -- a file that is not of the plain form
@@ -50,7 +50,7 @@ upper_case_keys : Runs 67108864 1073741824
     []
     (codes "refused load A later\n")
     turned_back
-unfolding digits local_grid keywords operations is_reserved is_plain plain_grid grid_text line_of first_load long_file_reply step_of is_quit long_reply sum_grid
+unfolding digits local_grid is_among is_reserved is_plain plain_grid grid_text line_of first_load long_file_reply step_of is_quit long_reply sum_grid
 upper_case_keys run workers model pair are = rw (are.0, are.1, are.2, are.3) (refl, refl)
 
 -- a sum that leaves the range is refused, and its name stays free
@@ -59,7 +59,7 @@ out_of_range : Runs 67108864 1073741824
     (codes "B = LocalSum of A and 999999999\r\nC = LocalSum of B and 999999999\r\nD = LocalSum of C and 2\r\nD = LocalSum of C and 1\r\ngrid D\r\nE = LocalSum of C and -00\r\ngrid A\n")
     (codes "ok 1\nok 2\nok 3\nrefused later\nok 4\nncols 2\nnrows 1\nxllcorner 10\nyllcorner 007\ncellsize 30\nNODATA_value -2000000001\n2000000000 -2000000001\nok 5\nncols 2\nnrows 1\nxllcorner 10\nyllcorner 007\ncellsize 30\nNODATA_value -2000000001\n1 -2000000001\n")
     goes_on
-unfolding digits local_grid keywords operations is_reserved is_plain plain_grid grid_text line_of first_load long_file_reply step_of is_quit long_reply sum_grid
+unfolding digits local_grid is_among is_reserved is_plain plain_grid grid_text line_of first_load long_file_reply step_of is_quit long_reply sum_grid
 out_of_range run workers model pair are = rw (are.0, are.1, are.2, are.3) (refl, refl)
 
 -- a name that is there already, an operand that is not, and lines that are almost of a form
@@ -68,7 +68,7 @@ refused_statements : Runs 67108864 1073741824
     (codes "A = LocalSum of A and 1\nB = LocalSum of B and 1\nB = LocalSum of A and 1\nB = LocalSum of A and 2\nC = LocalSum of Q and 1\ngrid  A\ngrid A \nC = LocalSum of A and 1000000000\nC = LocalSum of A and +1\nend = LocalSum of A and 1\n\n#\nquit\ngrid B")
     (codes "ok 1\nrefused later\nrefused later\nok 2\nrefused later\nrefused later\nrefused later\nrefused later\nrefused later\nrefused later\nrefused later\nrefused later\nrefused later\nrefused later\nncols 2\nnrows 1\nxllcorner 10\nyllcorner 007\ncellsize 30\nNODATA_value -2000000001\n2 -2000000001\n")
     goes_on
-unfolding digits local_grid keywords operations is_reserved is_plain plain_grid grid_text line_of first_load long_file_reply step_of is_quit long_reply sum_grid
+unfolding digits local_grid is_among is_reserved is_plain plain_grid grid_text line_of first_load long_file_reply step_of is_quit long_reply sum_grid
 refused_statements run workers model pair are = rw (are.0, are.1, are.2, are.3) (refl, refl)
 
 -- fewer cells than the header says
@@ -77,7 +77,7 @@ few_cells : Runs 67108864 1073741824
     (codes "grid A\n")
     (codes "refused load A later\n")
     turned_back
-unfolding digits local_grid keywords operations is_reserved is_plain plain_grid grid_text line_of first_load long_file_reply step_of is_quit long_reply sum_grid
+unfolding digits local_grid is_among is_reserved is_plain plain_grid grid_text line_of first_load long_file_reply step_of is_quit long_reply sum_grid
 few_cells run workers model pair are = rw (are.0, are.1, are.2, are.3) (refl, refl)
 
 -- more cells than the header says
@@ -86,7 +86,7 @@ more_cells : Runs 67108864 1073741824
     (codes "grid A\n")
     (codes "refused load A later\n")
     turned_back
-unfolding digits local_grid keywords operations is_reserved is_plain plain_grid grid_text line_of first_load long_file_reply step_of is_quit long_reply sum_grid
+unfolding digits local_grid is_among is_reserved is_plain plain_grid grid_text line_of first_load long_file_reply step_of is_quit long_reply sum_grid
 more_cells run workers model pair are = rw (are.0, are.1, are.2, are.3) (refl, refl)
 
 -- a cell of ten digits
@@ -95,7 +95,7 @@ long_cell : Runs 67108864 1073741824
     (codes "grid A\n")
     (codes "refused load A later\n")
     turned_back
-unfolding digits local_grid keywords operations is_reserved is_plain plain_grid grid_text line_of first_load long_file_reply step_of is_quit long_reply sum_grid
+unfolding digits local_grid is_among is_reserved is_plain plain_grid grid_text line_of first_load long_file_reply step_of is_quit long_reply sum_grid
 long_cell run workers model pair are = rw (are.0, are.1, are.2, are.3) (refl, refl)
 
 -- no rows
@@ -104,7 +104,7 @@ no_rows : Runs 67108864 1073741824
     (codes "grid A\n")
     (codes "refused load A later\n")
     turned_back
-unfolding digits local_grid keywords operations is_reserved is_plain plain_grid grid_text line_of first_load long_file_reply step_of is_quit long_reply sum_grid
+unfolding digits local_grid is_among is_reserved is_plain plain_grid grid_text line_of first_load long_file_reply step_of is_quit long_reply sum_grid
 no_rows run workers model pair are = rw (are.0, are.1, are.2, are.3) (refl, refl)
 
 -- a file of more bytes than are fetched
@@ -113,7 +113,7 @@ long_file : Runs 62 1073741824
     (codes "grid A\n")
     (codes "refused load A later\n")
     turned_back
-unfolding digits local_grid keywords operations is_reserved is_plain plain_grid grid_text line_of first_load long_file_reply step_of is_quit long_reply sum_grid
+unfolding digits local_grid is_among is_reserved is_plain plain_grid grid_text line_of first_load long_file_reply step_of is_quit long_reply sum_grid
 long_file run workers model pair are = rw (are.0, are.1, are.2, are.3) (refl, refl)
 
 -- a file of as many bytes as are fetched
@@ -122,7 +122,7 @@ longest_file : Runs 63 1073741824
     []
     (codes "ok 1\n")
     goes_on
-unfolding digits local_grid keywords operations is_reserved is_plain plain_grid grid_text line_of first_load long_file_reply step_of is_quit long_reply sum_grid
+unfolding digits local_grid is_among is_reserved is_plain plain_grid grid_text line_of first_load long_file_reply step_of is_quit long_reply sum_grid
 longest_file run workers model pair are = rw (are.0, are.1, are.2, are.3) (refl, refl)
 
 -- nothing is held under the name
@@ -131,7 +131,7 @@ no_file : Runs 67108864 1073741824
     (codes "grid A\n")
     []
     not_held
-unfolding digits local_grid keywords operations is_reserved is_plain plain_grid grid_text line_of first_load long_file_reply step_of is_quit long_reply sum_grid
+unfolding digits local_grid is_among is_reserved is_plain plain_grid grid_text line_of first_load long_file_reply step_of is_quit long_reply sum_grid
 no_file run workers model pair are = rw (are.0, are.1, are.2, are.3) (refl, refl)
 
 -- of a session that reaches the limit the ended lines are answered
@@ -140,7 +140,7 @@ long_session : Runs 67108864 12
     (codes "grid B\ngrid C")
     (codes "ok 1\nundefined B: B\n")
     goes_on
-unfolding digits local_grid keywords operations is_reserved is_plain plain_grid grid_text line_of first_load long_file_reply step_of is_quit long_reply sum_grid
+unfolding digits local_grid is_among is_reserved is_plain plain_grid grid_text line_of first_load long_file_reply step_of is_quit long_reply sum_grid
 long_session run workers model pair are = rw (are.0, are.1, are.2, are.3) (refl, refl)
 
 -- of a session just below the limit all lines are answered
@@ -149,5 +149,5 @@ almost_long_session : Runs 67108864 14
     (codes "grid B\ngrid C")
     (codes "ok 1\nundefined B: B\nundefined C: C\n")
     goes_on
-unfolding digits local_grid keywords operations is_reserved is_plain plain_grid grid_text line_of first_load long_file_reply step_of is_quit long_reply sum_grid
+unfolding digits local_grid is_among is_reserved is_plain plain_grid grid_text line_of first_load long_file_reply step_of is_quit long_reply sum_grid
 almost_long_session run workers model pair are = rw (are.0, are.1, are.2, are.3) (refl, refl)

@@ -2,7 +2,7 @@
 use Rattle.std.proofs.Common.{◌≡◌, List, [], ◌∷◌, ℕ, ◌&&◌, refl, Option, Some, None, codes, bytes_eq, if◌then◌else◌}
 use Rattle.std.specs.Prelude.{String, string_bytes}
 use Rattle.std.specs.declared.alloc.Global.{Global}
-use Rattle.map_words.specs.Names.{keywords, operations, is_reserved, is_plain}
+use Rattle.map_words.specs.Names.{is_among, is_reserved, is_plain}
 use Rattle.map_machine.specs.Words.{Pair, cut, sound, pair_of}
 
 -- the bytes of four words
@@ -16,59 +16,59 @@ of_bytes : (a b c d : String Global) (ta tb tc td : List ℕ) → AreWords a b c
 of_bytes a b c d ta tb tc td are = rw (are.0, are.1, are.2, are.3) refl
 
 a_pair : (a b c d : String Global) → AreWords a b c d (codes "run") (codes "1") (codes "-") (codes "A=a") → pair_of (a ∷ b ∷ c ∷ d ∷ []) ≡ Some (record { name = (codes "A"); file = (codes "a") })
-unfolding keywords operations is_reserved is_plain
+unfolding is_among is_reserved is_plain
 a_pair a b c d are = of_bytes a b c d (codes "run") (codes "1") (codes "-") (codes "A=a") are
 
 a_sign_in_the_file : (a b c d : String Global) → AreWords a b c d (codes "run") (codes "1") (codes "-") (codes "Ab_9=x=y") → pair_of (a ∷ b ∷ c ∷ d ∷ []) ≡ Some (record { name = (codes "Ab_9"); file = (codes "x=y") })
-unfolding keywords operations is_reserved is_plain
+unfolding is_among is_reserved is_plain
 a_sign_in_the_file a b c d are = of_bytes a b c d (codes "run") (codes "1") (codes "-") (codes "Ab_9=x=y") are
 
 another_command : (a b c d : String Global) → AreWords a b c d (codes "Run") (codes "1") (codes "-") (codes "A=a") → pair_of (a ∷ b ∷ c ∷ d ∷ []) ≡ None
-unfolding keywords operations is_reserved is_plain
+unfolding is_among is_reserved is_plain
 another_command a b c d are = of_bytes a b c d (codes "Run") (codes "1") (codes "-") (codes "A=a") are
 
 two_workers : (a b c d : String Global) → AreWords a b c d (codes "run") (codes "2") (codes "-") (codes "A=a") → pair_of (a ∷ b ∷ c ∷ d ∷ []) ≡ None
-unfolding keywords operations is_reserved is_plain
+unfolding is_among is_reserved is_plain
 two_workers a b c d are = of_bytes a b c d (codes "run") (codes "2") (codes "-") (codes "A=a") are
 
 a_model : (a b c d : String Global) → AreWords a b c d (codes "run") (codes "1") (codes "m") (codes "A=a") → pair_of (a ∷ b ∷ c ∷ d ∷ []) ≡ None
-unfolding keywords operations is_reserved is_plain
+unfolding is_among is_reserved is_plain
 a_model a b c d are = of_bytes a b c d (codes "run") (codes "1") (codes "m") (codes "A=a") are
 
 no_sign : (a b c d : String Global) → AreWords a b c d (codes "run") (codes "1") (codes "-") (codes "Aa") → pair_of (a ∷ b ∷ c ∷ d ∷ []) ≡ None
-unfolding keywords operations is_reserved is_plain
+unfolding is_among is_reserved is_plain
 no_sign a b c d are = of_bytes a b c d (codes "run") (codes "1") (codes "-") (codes "Aa") are
 
 no_name : (a b c d : String Global) → AreWords a b c d (codes "run") (codes "1") (codes "-") (codes "=a") → pair_of (a ∷ b ∷ c ∷ d ∷ []) ≡ None
-unfolding keywords operations is_reserved is_plain
+unfolding is_among is_reserved is_plain
 no_name a b c d are = of_bytes a b c d (codes "run") (codes "1") (codes "-") (codes "=a") are
 
 no_file : (a b c d : String Global) → AreWords a b c d (codes "run") (codes "1") (codes "-") (codes "A=") → pair_of (a ∷ b ∷ c ∷ d ∷ []) ≡ None
-unfolding keywords operations is_reserved is_plain
+unfolding is_among is_reserved is_plain
 no_file a b c d are = of_bytes a b c d (codes "run") (codes "1") (codes "-") (codes "A=") are
 
 reserved_name : (a b c d : String Global) → AreWords a b c d (codes "run") (codes "1") (codes "-") (codes "grid=a") → pair_of (a ∷ b ∷ c ∷ d ∷ []) ≡ None
-unfolding keywords operations is_reserved is_plain
+unfolding is_among is_reserved is_plain
 reserved_name a b c d are = of_bytes a b c d (codes "run") (codes "1") (codes "-") (codes "grid=a") are
 
 later_reserved_name : (a b c d : String Global) → AreWords a b c d (codes "run") (codes "1") (codes "-") (codes "branch=a") → pair_of (a ∷ b ∷ c ∷ d ∷ []) ≡ None
-unfolding keywords operations is_reserved is_plain
+unfolding is_among is_reserved is_plain
 later_reserved_name a b c d are = of_bytes a b c d (codes "run") (codes "1") (codes "-") (codes "branch=a") are
 
 dotted_name : (a b c d : String Global) → AreWords a b c d (codes "run") (codes "1") (codes "-") (codes "A.b=a") → pair_of (a ∷ b ∷ c ∷ d ∷ []) ≡ None
-unfolding keywords operations is_reserved is_plain
+unfolding is_among is_reserved is_plain
 dotted_name a b c d are = of_bytes a b c d (codes "run") (codes "1") (codes "-") (codes "A.b=a") are
 
 name_of_a_digit : (a b c d : String Global) → AreWords a b c d (codes "run") (codes "1") (codes "-") (codes "1=a") → pair_of (a ∷ b ∷ c ∷ d ∷ []) ≡ None
-unfolding keywords operations is_reserved is_plain
+unfolding is_among is_reserved is_plain
 name_of_a_digit a b c d are = of_bytes a b c d (codes "run") (codes "1") (codes "-") (codes "1=a") are
 
 longest_name : (a b c d : String Global) → AreWords a b c d (codes "run") (codes "1") (codes "-") (codes "aaaaaaaaaaaaaaaaaaaaaaaaaaaaaaaa=a") → pair_of (a ∷ b ∷ c ∷ d ∷ []) ≡ Some (record { name = (codes "aaaaaaaaaaaaaaaaaaaaaaaaaaaaaaaa"); file = (codes "a") })
-unfolding keywords operations is_reserved is_plain
+unfolding is_among is_reserved is_plain
 longest_name a b c d are = of_bytes a b c d (codes "run") (codes "1") (codes "-") (codes "aaaaaaaaaaaaaaaaaaaaaaaaaaaaaaaa=a") are
 
 longer_name : (a b c d : String Global) → AreWords a b c d (codes "run") (codes "1") (codes "-") (codes "aaaaaaaaaaaaaaaaaaaaaaaaaaaaaaaaa=a") → pair_of (a ∷ b ∷ c ∷ d ∷ []) ≡ None
-unfolding keywords operations is_reserved is_plain
+unfolding is_among is_reserved is_plain
 longer_name a b c d are = of_bytes a b c d (codes "run") (codes "1") (codes "-") (codes "aaaaaaaaaaaaaaaaaaaaaaaaaaaaaaaaa=a") are
 
 no_words : pair_of [] ≡ None
