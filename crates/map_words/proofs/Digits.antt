@@ -1,5 +1,5 @@
 -- Digits read with a cap.
-use Rattle.std.proofs.Common.{◌≡◌, ℕ, suc, ◌+◌, ◌-◌, ◌*◌, ◌^◌, ◌<◌, ◌≤◌, min, ℤ, pos, negsuc, Bool, true, false, cond, ◌&&◌, List, [], ◌∷◌, length, Option, Some, None, refl, sym, ap, subst, ◌∙◌, arith, nat_eq, inl, inr, w64}
+use Rattle.std.proofs.Common.{◌≡◌, ℕ, ◌+◌, ◌-◌, ◌*◌, ◌≤◌, min, ℤ, pos, Bool, true, false, cond, ◌&&◌, [], ◌∷◌, length, Option, Some, None, refl, sym, ap, ◌∙◌, arith, nat_eq, inl, inr, w64}
 use Rattle.std.specs.Prelude.{option_map, int_le, neg_ℤ, FitsSigned}
 use Rattle.std.specs.List.{list_all}
 use Rattle.std.specs.Char.{is_ascii_digit, digit_value}
@@ -10,7 +10,7 @@ use Rattle.std.proofs.lemmas.Bool.Decides.{nat_tests}
 use Rattle.std.proofs.lemmas.Bool.{cases_lt}
 use Rattle.std.proofs.lemmas.Int.{ints}
 use Rattle.map_words.specs.Bytes.{Text}
-use Rattle.map_words.specs.Numbers.{are_digits, unsigned_text, with_sign, signed_text, if_between}
+use Rattle.map_words.specs.Numbers.{are_digits, unsigned_text, with_sign, if_between}
 use Rattle.map_words.specs.Capped.{capped, capped_from}
 
 pub all_is : (t : Text) → nat_eq (length t) 0 ≡ false → list_all is_ascii_digit t ≡ are_digits t

@@ -1,12 +1,12 @@
 -- The parts between dots, by where the first dot stands.
-use Rattle.std.proofs.Common.{◌≡◌, ℕ, suc, ◌+◌, ◌-◌, ◌<◌, ◌≤◌, Bool, true, false, cond, not, ◌&&◌, ◌||◌, List, [], ◌∷◌, ◌++◌, length, take, drop, Option, Some, None, refl, sym, ap, subst, ◌∙◌, arith, append_assoc, nat_eq, nat_lt, add-one, length-drop}
-use Rattle.std.specs.Prelude.{position, nat_le, codes}
+use Rattle.std.proofs.Common.{◌≡◌, ℕ, suc, ◌+◌, ◌-◌, ◌<◌, ◌≤◌, Bool, true, false, cond, not, ◌&&◌, List, [], ◌∷◌, ◌++◌, length, take, drop, Option, Some, None, refl, sym, ap, ◌∙◌, arith, append_assoc, nat_eq, nat_lt, add-one, length-drop}
+use Rattle.std.specs.Prelude.{position}
 use Rattle.std.specs.List.{list_all, prefix_len}
 use Rattle.std.proofs.lemmas.List.{append-nil}
 use Rattle.std.proofs.lemmas.Bool.Decides.{nat_tests}
 use Rattle.std.proofs.Math.Seq.{take-length}
 use Rattle.map_words.specs.Bytes.{Text}
-use Rattle.map_words.specs.Names.{parts_from, are_parts, is_plain, is_dotted, is_later_part}
+use Rattle.map_words.specs.Names.{parts_from, are_parts, is_plain, is_later_part}
 
 abbrev pub no_dot : ℕ → Bool
 no_dot b = not (nat_eq b 46)

@@ -1,7 +1,7 @@
 -- The words of a line are slices of it, in order.
-use Rattle.std.proofs.Common.{◌≡◌, ℕ, suc, ◌+◌, ◌-◌, ◌<◌, ◌≤◌, Bool, true, false, cond, List, [], ◌∷◌, ◌++◌, length, take, drop, get_or, Option, Some, None, refl, sym, ap, subst, ◌∙◌, arith, length-drop, length-append, get_or-drop, drop-cons, add-one}
+use Rattle.std.proofs.Common.{◌≡◌, ℕ, suc, ◌+◌, ◌-◌, ◌<◌, ◌≤◌, Bool, true, false, cond, List, [], ◌∷◌, ◌++◌, length, take, drop, get_or, Option, Some, None, refl, sym, ap, ◌∙◌, arith, length-drop, length-append, get_or-drop, drop-cons, add-one}
 use Rattle.std.proofs.lemmas.List.{take_more}
-use Rattle.map_words.specs.Bytes.{Text, is_blank, is_mark, first_bad}
+use Rattle.map_words.specs.Bytes.{Text, is_blank, is_mark}
 use Rattle.map_words.specs.Words.{Placed, closed, longer, words_from, words_of, AreSlices}
 
 -- the word under way is the slice before this place

@@ -1,9 +1,9 @@
 -- One byte more of a line that is cut into words.
-use Rattle.std.proofs.Common.{◌≡◌, ℕ, suc, ◌+◌, ◌-◌, ◌<◌, ◌≤◌, Bool, true, false, cond, List, [], ◌∷◌, ◌++◌, map, length, take, drop, get_or, Option, Some, None, refl, sym, ap, subst, ◌∙◌, arith, append_assoc, drop-cons, add-one, length-drop, get_or-drop}
+use Rattle.std.proofs.Common.{◌≡◌, ℕ, suc, ◌+◌, ◌-◌, ◌<◌, ◌≤◌, true, false, List, [], ◌∷◌, ◌++◌, length, take, drop, get_or, Option, Some, None, refl, sym, ap, ◌∙◌, arith, append_assoc, drop-cons, add-one, length-drop, get_or-drop}
 use Rattle.std.specs.Prelude.{unwrap_or}
 use Rattle.std.proofs.lemmas.List.{take_more, map-append}
 use Rattle.map_words.specs.Bytes.{Text, is_blank, is_mark}
-use Rattle.map_words.specs.Words.{Placed, closed, longer, words_from, words_of}
+use Rattle.map_words.specs.Words.{Placed, closed, longer, words_from}
 use Rattle.map_words.specs.declared.cutting.Word.{Word}
 use Rattle.map_words.specs.Cut.{placed, placed_all, under_way, IsStarted, GoesOn}
 

@@ -1,5 +1,5 @@
 -- The bytes of a line.
-use Rattle.std.specs.Prelude.{ℕ, ◌==◌, nat_le, Bool, true, false, not, ◌&&◌, ◌||◌, List, [], ◌∷◌, position, Option, Some, None, option_map, suc, if◌then◌else◌}
+use Rattle.std.specs.Prelude.{ℕ, ◌==◌, nat_le, Bool, true, not, ◌&&◌, ◌||◌, List, [], ◌∷◌, position, Option, option_map, suc, if◌then◌else◌}
 
 abbrev pub Text : Type 0
 Text = List ℕ

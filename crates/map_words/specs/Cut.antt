@@ -1,5 +1,5 @@
 -- Words as the code holds them, and what it has cut so far.
-use Rattle.std.specs.Prelude.{◌≡◌, ℕ, suc, ◌+◌, ◌-◌, ◌<◌, List, ◌++◌, map, length, take, drop, Option, Some, None, Result, Ok, Err}
+use Rattle.std.specs.Prelude.{◌≡◌, ℕ, suc, ◌-◌, ◌<◌, List, ◌++◌, map, take, drop, Option, Some, None, Result, Ok, Err}
 use Rattle.map_words.specs.declared.cutting.Word.{Word}
 use Rattle.map_words.specs.declared.cutting.WordRefusal.{WordRefusal}
 use Rattle.map_words.specs.declared.cutting.WordRefusal.TheVariants.{Byte, NoMemory}

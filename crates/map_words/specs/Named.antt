@@ -1,5 +1,5 @@
 -- What making a name of a text answers.
-use Rattle.std.specs.Prelude.{◌≡◌, Bool, true, false, List, Result, Ok, Err, IsTrue, IsFalse}
+use Rattle.std.specs.Prelude.{◌≡◌, Bool, Result, Ok, Err, IsTrue, IsFalse}
 use Rattle.map_words.specs.declared.naming.NameRefusal.{NameRefusal}
 use Rattle.map_words.specs.declared.naming.NameRefusal.TheVariants.{Form, NoMemory}
 use Rattle.map_words.specs.Bytes.{Text}

@@ -30,7 +30,9 @@ fn names_are_their_bytes(rt: HostRuntime) -> Result<(), Fail> {
     let again = outer.copy(rt.alloc()).ok().ok_or("memory")?;
     assert!(rt; again == outer);
     assert!(rt; outer < inner);
-    let joined = Name::dotted(rt.alloc(), b"B.result")?;
+    let joined = outer.join(rt.alloc(), &inner).ok().ok_or("memory")?;
+    assert_eq!(rt; joined.bytes(), b"B.result".as_slice());
+    assert!(rt; joined == Name::dotted(rt.alloc(), b"B.result")?);
     assert!(rt; outer < joined);
     Ok(())
 }

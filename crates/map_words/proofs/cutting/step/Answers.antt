@@ -1,8 +1,6 @@
-use Rattle.std.proofs.Common.{rules, ◌≡◌, ◌+◌, ◌-◌, suc, true, false, sym, ap, ◌∙◌, get_or, List, [], ◌∷◌, ◌++◌, take, drop, map, Option, Some, subst, arith}
-use Rattle.std.specs.Prelude.{unwrap_or}
+use Rattle.std.proofs.Common.{rules, ◌≡◌, true, false, sym, ap, get_or, Some, subst}
 use Rattle.map_words.specs.Bytes.{is_blank, is_mark}
-use Rattle.map_words.specs.Words.{Placed, closed}
-use Rattle.map_words.specs.Cut.{placed_all, under_way, GoesOn}
+use Rattle.map_words.specs.Cut.{placed_all, GoesOn}
 use Rattle.map_words.proofs.Steps.{blank_step, mark_pushed, plain_step}
 use Rattle.map_words.proofs.cutting.step.Goals as goal
 

@@ -1,6 +1,6 @@
-use Rattle.std.proofs.Common.{◌≡◌, ℕ, suc, Option, Some, None, ap, sym, ◌∙◌, subst, add-one}
+use Rattle.std.proofs.Common.{suc, Some, ap, sym, ◌∙◌, subst, add-one}
 use Rattle.std.specs.Prelude.{option_map}
-use Rattle.map_words.specs.Words.{Placed, AreSlices}
+use Rattle.map_words.specs.Words.{AreSlices}
 use Rattle.map_words.proofs.Slices.{slices}
 use Rattle.map_words.proofs.cutting.words.Goals as goal
 

@@ -1,4 +1,4 @@
-use Rattle.std.proofs.Common.{rules, ◌≡◌, ◌∙◌}
+use Rattle.std.proofs.Common.{rules, ◌≡◌}
 use Rattle.map_words.specs.Numbers.{if_between, unsigned_text, with_sign}
 use Rattle.std.proofs.Common.{Some}
 use Rattle.map_words.proofs.Digits.{signed_is}

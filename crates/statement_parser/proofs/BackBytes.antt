@@ -1,0 +1,276 @@
+-- The words of a canonical text.
+use Rattle.std.proofs.Common.{◌≡◌, ◌⊎◌, inl, inr, ℕ, zero, suc, ◌≤◌, ◌<◌, ◌+◌, ◌-◌, ℤ, pos, negsuc, Bool, true, false, not, cond, ◌&&◌, ◌||◌, List, [], ◌∷◌, ◌++◌, map, length, Option, Some, None, refl, sym, ap, subst, ◌∙◌, append_assoc, arith, nat_eq, nat_lt}
+use Rattle.std.specs.Prelude.{codes, bytes_eq, option_map, position, IsTrue, nat_le}
+use Rattle.std.specs.List.{list_all, prefix_len}
+use Rattle.std.specs.Char.{is_ascii_alphabetic, is_ascii_digit}
+use Rattle.std.specs.Fmt.{signed_decimal}
+use Rattle.std.specs.Ordering.{int_eq}
+use Rattle.std.proofs.lemmas.List.{append-nil, map-append}
+use Rattle.std.proofs.lemmas.List.Folds.{list_all-append}
+use Rattle.std.proofs.lemmas.Bool.Decides.{nat_tests}
+use Rattle.map_nums.specs.declared.Stat.{Stat}
+use Rattle.map_nums.specs.declared.Stat.TheVariants.{Sum, Product, Maximum, Minimum, Mean, Median, Majority, Minority, Variety}
+use Rattle.map_nums.specs.declared.Rate.{Rate}
+use Rattle.map_nums.specs.Numbers.{is_value}
+use Rattle.map_words.specs.Bytes.{Text, is_blank, is_mark, is_good, first_bad, is_silent}
+use Rattle.map_words.specs.Words.{Placed, closed, longer, words_from, words_of, text_of}
+use Rattle.map_words.specs.Names.{is_plain, has_name_form, is_name_byte, is_reserved}
+use Rattle.statement_parser.specs.Lines.{Manner, Term, layer, value, Op, local, difference, ratio, rating, Written, plain, define, Line, edit}
+use Rattle.statement_parser.specs.Grammar.{IsLine}
+use Rattle.statement_parser.specs.Formed.{Each, IsTerm, IsCell, IsRate, IsOp, IsWritten}
+use Rattle.statement_parser.specs.Canonical.{term_text, cell_text, stat_text, terms_after, terms_texts, to_texts, rate_texts, rates_texts, op_texts, written_tail, written_texts, spaced, joined, written_text}
+use Rattle.statement_parser.specs.Texts.{seen, is_short, LineText, worded}
+use Rattle.statement_parser.specs.Printing.{ReadsBack}
+use Rattle.statement_parser.proofs.Numerals.{is_run_byte, number_run, number_some}
+use Rattle.statement_parser.proofs.BackWords.{words_back}
+
+both : (a b : Bool) → (a && b) ≡ true → (a ≡ true) × (b ≡ true)
+both true true e = (refl, refl)
+both true false e = absurd cc
+both false b e = absurd cc
+
+-- ---- words without columns
+
+abbrev closed_text : Option Text → List Text
+closed_text None = []
+closed_text (Some t) = t ∷ []
+
+abbrev longer_text : Option Text → ℕ → Option Text
+longer_text None b = Some (b ∷ [])
+longer_text (Some t) b = Some (t ++ b ∷ [])
+
+abbrev texts_from : Option Text → Text → List Text
+texts_from now [] = closed_text now
+texts_from now (b ∷ bs) =
+    cond (is_blank b) (closed_text now ++ texts_from None bs) (cond (is_mark b) (closed_text now ++ (b ∷ []) ∷ texts_from None bs) (texts_from (longer_text now b) bs))
+
+closed_is : (now : Option Placed) → map text_of (closed now) ≡ closed_text (option_map text_of now)
+closed_is None = refl
+closed_is (Some w) = refl
+
+longer_is : (now : Option Placed) (b at : ℕ) → option_map text_of (longer now b at) ≡ longer_text (option_map text_of now) b
+longer_is None b at = refl
+longer_is (Some w) b at = refl
+
+texts_are : (at : ℕ) (now : Option Placed) (bs : Text) → map text_of (words_from at now bs) ≡ texts_from (option_map text_of now) bs
+texts_are at now [] = closed_is now
+texts_are at now (b ∷ bs) = go (is_blank b) (is_mark b) (texts_are (suc at) None bs) (texts_are (suc at) (longer now b at) bs)
+  where
+    go : (blank mark : Bool) → map text_of (words_from (suc at) None bs) ≡ texts_from None bs → map text_of (words_from (suc at) (longer now b at) bs) ≡ texts_from (option_map text_of (longer now b at)) bs
+        → map text_of (cond blank (closed now ++ words_from (suc at) None bs) (cond mark (closed now ++ record { text = b ∷ []; at = at } ∷ words_from (suc at) None bs) (words_from (suc at) (longer now b at) bs)))
+        ≡ cond blank (closed_text (option_map text_of now) ++ texts_from None bs) (cond mark (closed_text (option_map text_of now) ++ (b ∷ []) ∷ texts_from None bs) (texts_from (longer_text (option_map text_of now) b) bs))
+    go true mark e f = map-append text_of (closed now) (words_from (suc at) None bs) ∙ ap (λ ts. ts ++ map text_of (words_from (suc at) None bs)) (closed_is now) ∙ ap (λ ts. closed_text (option_map text_of now) ++ ts) e
+    go false true e f = map-append text_of (closed now) (record { text = b ∷ []; at = at } ∷ words_from (suc at) None bs) ∙ ap (λ ts. ts ++ (b ∷ []) ∷ map text_of (words_from (suc at) None bs)) (closed_is now) ∙ ap (λ ts. closed_text (option_map text_of now) ++ (b ∷ []) ∷ ts) e
+    go false false e f = f ∙ ap (λ o. texts_from o bs) (longer_is now b at)
+
+-- ---- a word, and what follows it
+
+-- a longest run of other bytes, or a mark
+abbrev IsRun : Text → Type 0
+IsRun t = (t ≡ [] → ⊥) × (list_all is_run_byte t ≡ true)
+
+abbrev IsMark : Text → Type 0
+IsMark t = (b : ℕ) × (t ≡ b ∷ []) × (is_blank b ≡ false) × (is_mark b ≡ true) × (is_good b ≡ true)
+
+abbrev IsWord : Text → Type 0
+IsWord t = IsRun t ⊎ IsMark t
+
+record IsRunByte (b : ℕ) : Type 0 where
+  pub good : is_good b ≡ true
+  pub blank : is_blank b ≡ false
+  pub mark : is_mark b ≡ false
+
+not_true : (b : Bool) → not b ≡ true → b ≡ false
+not_true true e = absurd cc
+not_true false e = refl
+
+run_byte : (b : ℕ) → is_run_byte b ≡ true → IsRunByte b
+run_byte b e =
+    let h = both (is_good b && not (is_blank b)) (not (is_mark b)) e in
+    let k = both (is_good b) (not (is_blank b)) h.0 in
+    record { good = k.0; blank = not_true (is_blank b) k.1; mark = not_true (is_mark b) h.1 }
+
+run_on : (now t rest : Text) → list_all is_run_byte t ≡ true → texts_from (Some now) (t ++ rest) ≡ texts_from (Some (now ++ t)) rest
+run_on now [] rest e = ap (λ n. texts_from (Some n) rest) (sym (append-nil now))
+run_on now (b ∷ bs) rest e =
+    let h = both (is_run_byte b) (list_all is_run_byte bs) e in
+    let r = run_byte b h.0 in
+    rw (r.blank, r.mark) (run_on (now ++ b ∷ []) bs rest h.1 ∙ ap (λ n. texts_from (Some n) rest) (append_assoc now (b ∷ []) bs))
+
+run_start : (t rest : Text) → IsRun t → texts_from None (t ++ rest) ≡ texts_from (Some t) rest
+run_start [] rest h = absurd (h.0 refl)
+run_start (b ∷ bs) rest h =
+    let k = both (is_run_byte b) (list_all is_run_byte bs) h.1 in
+    let r = run_byte b k.0 in
+    rw (r.blank, r.mark) (run_on (b ∷ []) bs rest k.1)
+
+from_word : (u rest : Text) (us : List Text) → IsWord u → ((t : Text) → texts_from (Some t) rest ≡ t ∷ us) → texts_from None rest ≡ us → texts_from None (u ++ rest) ≡ u ∷ us
+from_word u rest us w run mark = elim w [
+  | inl h ↦ run_start u rest h ∙ run u
+  | inr h ↦ ap (λ t. texts_from None (t ++ rest)) h.1 ∙ rw (h.2, h.3) (ap (λ ts. (h.0 ∷ []) ∷ ts) mark) ∙ ap (λ t. t ∷ us) (sym h.1)
+]
+
+-- the words of a spaced text, after a run and after a mark
+spaced_texts : (ts : List Text) → Each IsWord ts → ((t : Text) → texts_from (Some t) (spaced ts) ≡ t ∷ ts) × (texts_from None (spaced ts) ≡ ts)
+spaced_texts [] h = (λ t. refl, refl)
+spaced_texts (u ∷ us) h =
+    let ih = spaced_texts us h.1 in
+    let w = from_word u (spaced us) us h.0 ih.0 ih.1 in
+    (λ t. ap (λ ts. t ∷ ts) w, w)
+
+seen_joined : (ts : List Text) → Each IsWord ts → seen (joined ts) ≡ ts
+seen_joined [] h = refl
+seen_joined (t ∷ ts) h =
+    let ih = spaced_texts ts h.1 in
+    texts_are 1 None (t ++ spaced ts) ∙ from_word t (spaced ts) ts h.0 ih.0 ih.1
+
+-- ---- bytes of a line
+
+run_good : (t : Text) → list_all is_run_byte t ≡ true → list_all is_good t ≡ true
+run_good [] e = refl
+run_good (b ∷ bs) e = let h = both (is_run_byte b) (list_all is_run_byte bs) e in rw ((run_byte b h.0).good, run_good bs h.1) refl
+
+word_good : (t : Text) → IsWord t → list_all is_good t ≡ true
+word_good t w = elim w [
+  | inl h ↦ run_good t h.1
+  | inr h ↦ ap (list_all is_good) h.1 ∙ rw h.4 refl
+]
+
+spaced_good : (ts : List Text) → Each IsWord ts → list_all is_good (spaced ts) ≡ true
+spaced_good [] h = refl
+spaced_good (t ∷ ts) h = list_all-append is_good t (spaced ts) ∙ rw (word_good t h.0, spaced_good ts h.1) refl
+
+joined_good : (ts : List Text) → Each IsWord ts → list_all is_good (joined ts) ≡ true
+joined_good [] h = refl
+joined_good (t ∷ ts) h = list_all-append is_good t (spaced ts) ∙ rw (word_good t h.0, spaced_good ts h.1) refl
+
+all_prefix : (t : Text) → list_all is_good t ≡ true → prefix_len (λ x. not (not (is_good x))) t ≡ length t
+all_prefix [] e = refl
+all_prefix (b ∷ bs) e =
+    let h = both (is_good b) (list_all is_good bs) e in
+    let s : 1 + length bs ≡ suc (length bs) = omega arith in
+    rw h.0 (ap (λ n. 1 + n) (all_prefix bs h.1) ∙ s)
+
+not_below : (n : ℕ) → nat_lt n n ≡ false
+not_below n = grind (arith, nat_tests)
+
+no_bad : (t : Text) → list_all is_good t ≡ true → first_bad t ≡ None
+no_bad t e = rw (all_prefix t e, not_below (length t)) refl
+
+-- ---- the words of a statement
+
+name_run_byte : (b : ℕ) → is_name_byte b ≡ true → is_run_byte b ≡ true
+name_run_byte b e = grind (arith, nat_tests)
+
+letter_name_byte : (b : ℕ) → is_ascii_alphabetic b ≡ true → is_name_byte b ≡ true
+letter_name_byte b e = rw e refl
+
+names_run : (t : Text) → list_all is_name_byte t ≡ true → list_all is_run_byte t ≡ true
+names_run [] e = refl
+names_run (b ∷ bs) e = let h = both (is_name_byte b) (list_all is_name_byte bs) e in rw (name_run_byte b h.0, names_run bs h.1) refl
+
+-- a plain name's first letter, and its other bytes
+record IsNamed (b : ℕ) (bs : Text) : Type 0 where
+  pub letter : is_ascii_alphabetic b ≡ true
+  pub others : list_all is_name_byte bs ≡ true
+
+named : (b : ℕ) (bs : Text) → is_plain (b ∷ bs) ≡ true → IsNamed b bs
+unfolding is_plain
+named b bs e =
+    let form = (both (has_name_form (b ∷ bs)) (not (is_reserved (b ∷ bs))) e).0 in
+    let h = both (is_ascii_alphabetic b) (list_all is_name_byte bs) (both (is_ascii_alphabetic b && list_all is_name_byte bs) (nat_le (length bs) 31) form).0 in
+    record { letter = h.0; others = h.1 }
+
+not_empty : is_plain [] ≡ true → ⊥
+unfolding is_plain
+not_empty e = cc
+
+plain_word : (n : Text) → is_plain n ≡ true → IsWord n
+plain_word [] p = absurd (not_empty p)
+plain_word (b ∷ bs) p =
+    let h = named b bs p in
+    inl (λ e. cc, rw (name_run_byte b (letter_name_byte b h.letter), names_run bs h.others) refl)
+
+number_word : (z : ℤ) → IsTrue (is_value z) → IsWord (signed_decimal z)
+number_word z h = inl (number_some z h, number_run z h)
+
+term_word : (t : Term) → IsTerm t → IsWord (term_text t)
+term_word (layer n) h = plain_word n h
+term_word (value z) h = number_word z h
+
+cell_word : (c : Option ℤ) → IsCell c → IsWord (cell_text c)
+cell_word None h = inl (λ e. cc, refl)
+cell_word (Some z) h = number_word z h
+
+stat_word : (s : Stat) → IsWord (stat_text s)
+stat_word Sum = inl (λ e. cc, refl)
+stat_word Product = inl (λ e. cc, refl)
+stat_word Maximum = inl (λ e. cc, refl)
+stat_word Minimum = inl (λ e. cc, refl)
+stat_word Mean = inl (λ e. cc, refl)
+stat_word Median = inl (λ e. cc, refl)
+stat_word Majority = inl (λ e. cc, refl)
+stat_word Minority = inl (λ e. cc, refl)
+stat_word Variety = inl (λ e. cc, refl)
+
+of_word : IsWord (codes "of")
+of_word = inl (λ e. cc, refl)
+
+and_word : IsWord (codes "and")
+and_word = inl (λ e. cc, refl)
+
+after_words : (ts : List Term) → Each IsTerm ts → Each IsWord (terms_after (codes "and") ts)
+after_words [] h = tt
+after_words (t ∷ ts) h = (and_word, (term_word t h.0, after_words ts h.1))
+
+terms_words : (ts : List Term) → Each IsTerm ts → Each IsWord (terms_texts ts)
+terms_words [] h = tt
+terms_words (t ∷ ts) h = (term_word t h.0, after_words ts h.1)
+
+each-append : (ts us : List Text) → Each IsWord ts → Each IsWord us → Each IsWord (ts ++ us)
+each-append [] us h k = k
+each-append (t ∷ ts) us h k = (h.0, each-append ts us h.1 k)
+
+to_words : (low high : ℤ) → IsTrue (is_value high) → Each IsWord (to_texts low high)
+to_words low high h = go (int_eq high low)
+  where
+    go : (b : Bool) → Each IsWord (cond b [] (codes "to" ∷ signed_decimal high ∷ []))
+    go true = tt
+    go false = (inl (λ e. cc, refl), (number_word high h, tt))
+
+rates_words : (rs : List Rate) → Each IsRate rs → Each IsWord (rates_texts rs)
+rates_words [] h = tt
+rates_words (r ∷ rs) h =
+    (inl (λ e. cc, refl), (cell_word r.give h.0.give, (inl (λ e. cc, refl), (number_word r.low h.0.low, each-append (to_texts r.low r.high) (rates_texts rs) (to_words r.low r.high h.0.high) (rates_words rs h.1)))))
+
+op_words : (o : Op) → IsOp o → Each IsWord (op_texts o)
+op_words (local s ts) h = (stat_word s, (of_word, terms_words ts h.2))
+op_words (difference l r) h = (inl (λ e. cc, refl), (of_word, (term_word l h.0, (and_word, (term_word r h.1, tt)))))
+op_words (ratio l r) h = (inl (λ e. cc, refl), (of_word, (term_word l h.0, (and_word, (term_word r h.1, tt)))))
+op_words (rating t rs) h = (inl (λ e. cc, refl), (of_word, (term_word t h.0, rates_words rs h.3)))
+
+equals_word : IsWord (codes "=")
+equals_word = inr (61, refl, refl, refl, refl)
+
+written_words : (n : Text) (w : Written) → is_plain n ≡ true → IsWritten w → Each IsWord (written_texts n w)
+written_words n (plain o) p h = (plain_word n p, (equals_word, op_words o h))
+
+-- ---- back
+
+letter_loud : (b : ℕ) → is_ascii_alphabetic b ≡ true → (is_blank b ≡ false) × (nat_eq b 35 ≡ false)
+letter_loud b e = (grind (arith, nat_tests), grind (arith, nat_tests))
+
+not_silent : (n : Text) (ts : List Text) → is_plain n ≡ true → is_silent (joined (n ∷ ts)) ≡ false
+not_silent [] ts p = absurd (not_empty p)
+not_silent (b ∷ bs) ts p = let h = letter_loud b (named b bs p).letter in rw (h.0, h.1) refl
+
+-- what is written of a formed statement, and is no longer than a line, is its line
+pub written_back : (m : Manner) (n : Text) (w : Written) → IsTrue (is_plain n) → IsWritten w → is_short (written_text n w) ≡ true → LineText m (written_text n w) (edit (define n w))
+written_back m n w p h short =
+    let words = written_words n w p h in
+    worded short (not_silent n (codes "=" ∷ written_tail w) p) (no_bad (written_text n w) (joined_good (written_texts n w) words))
+    (subst (λ ts. IsLine m ts (edit (define n w))) (sym (seen_joined (written_texts n w) words)) (words_back m n w p h))
+
+pub reads_back : (n : Text) (w : Written) (text : Text) → text ≡ written_text n w → ReadsBack n w text
+reads_back n w text e m p h short =
+    subst (λ t. LineText m t (edit (define n w))) (sym e) (written_back m n w p h (subst (λ t. is_short t ≡ true) e short))

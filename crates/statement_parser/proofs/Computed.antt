@@ -1,0 +1,50 @@
+-- The worked lines, computed.
+use Rattle.std.proofs.Common.{◌≡◌, Bool, true, false, List, [], ◌∷◌, ◌++◌, Option, Some, None, Result, Ok, Err, refl, sym, ◌∙◌}
+use Rattle.std.specs.Prelude.{codes}
+use Rattle.map_words.specs.Bytes.{Text, first_bad, is_silent}
+use Rattle.map_words.specs.Names.{is_plain, is_dotted, is_reserved, is_among}
+use Rattle.map_words.specs.Numbers.{number_text}
+use Rattle.grammar_core.specs.declared.Fault.{Fault}
+use Rattle.grammar_core.specs.Run.{run}
+use Rattle.grammar_core.proofs.FirstFault.{found_so, refused_so}
+use Rattle.statement_parser.specs.Lines.{Line, first_language}
+use Rattle.statement_parser.specs.Places.{tests}
+use Rattle.statement_parser.specs.Operations.{operation_named}
+use Rattle.statement_parser.specs.Grammar.{line_rule, command_named}
+use Rattle.statement_parser.specs.ReadLocal.{and_at, statistic_at, pair_at, difference_at, ratio_at, to_at, range_at, rate_at, with_at, rating_at, body_at}
+use Rattle.statement_parser.specs.ReadLine.{define_at, corners_at, paint_at, drop_at, value_at, grid_at, list_at, quit_at, line_at}
+use Rattle.statement_parser.specs.Texts.{seen, column, is_short, LineText, silent, worded, refusal_of, RefusedText, bad_byte, bad_word}
+use Rattle.statement_parser.specs.Rows.{Rows}
+use Rattle.statement_parser.proofs.SoundLines.{healthy_line}
+use Rattle.statement_parser.proofs.ReadsLines.{line_reads}
+
+line_row : (bytes : Text) (x : Line) → is_short bytes ≡ true → is_silent bytes ≡ false → first_bad bytes ≡ None → line_at (seen bytes) ≡ Ok x → LineText first_language bytes x
+line_row bytes x s e f h = worded s e f (found_so tests (line_rule first_language) (seen bytes) x (sym (line_reads first_language (seen bytes)) ∙ h))
+
+refused_row : (bytes : Text) (f : Fault) → is_short bytes ≡ true → is_silent bytes ≡ false → first_bad bytes ≡ None → line_at (seen bytes) ≡ Err f → RefusedText first_language bytes (refusal_of f.kind (column bytes f.left))
+refused_row bytes f s e g h =
+    bad_word f.kind f.left s e g (refused_so tests (line_rule first_language) (seen bytes) f (healthy_line first_language).sound refl (sym (line_reads first_language (seen bytes)) ∙ h))
+
+pub rows : Rows
+unfolding line_at define_at corners_at paint_at drop_at value_at grid_at list_at quit_at and_at statistic_at pair_at difference_at ratio_at to_at range_at rate_at with_at rating_at body_at operation_named command_named is_plain is_dotted is_reserved is_among number_text
+rows = record {
+  empty = silent refl refl;
+  note = silent refl refl;
+  whole = line_row (codes "B = LocalSum of A and 3") _ refl refl refl refl;
+  rated = line_row (codes "R = LocalRating of A with 9 for 1 to 3 with null for -5") _ refl refl refl refl;
+  painted = line_row (codes "paint A 01 +1 2 2 -0") _ refl refl refl refl;
+  dotted = line_row (codes "grid A.result.b") _ refl refl refl refl;
+  alone = refused_row (codes "foo") _ refl refl refl refl;
+  unknown = refused_row (codes "C = LocalSun of A and 1") _ refl refl refl refl;
+  cut = refused_row (codes "C = LocalSum of A and") _ refl refl refl refl;
+  blanks = refused_row (codes "C = LocalSum of A and  ") _ refl refl refl refl;
+  zero_row = refused_row (codes "paint A 0 1 1 1 1") _ refl refl refl refl;
+  huge = refused_row (codes "B = LocalSum of A and 99999999999999999999") _ refl refl refl refl;
+  reserved = refused_row (codes "C = of") _ refl refl refl refl;
+  reserved_call = refused_row (codes "C = of(A)") _ refl refl refl refl;
+  not_yet = refused_row (codes "C = FocalSum of A") _ refl refl refl refl;
+  reserved_name = refused_row (codes "end = LocalSum of A and 1") _ refl refl refl refl;
+  later_form = refused_row (codes "new C 1") _ refl refl refl refl;
+  bad_byte = bad_byte refl refl refl;
+  ninth = refused_row (codes "B = LocalSum of 1 and 2 and 3 and 4 and 5 and 6 and 7 and 8 and 9") _ refl refl refl refl;
+}

@@ -1,0 +1,12 @@
+pub mod PlaceFacts
+pub mod SoundBodies
+pub mod SoundLines
+pub mod ReadsBodies
+pub mod ReadsLines
+pub mod Whole
+pub mod Adding
+pub mod FormedLines
+pub mod Numerals
+pub mod BackWords
+pub mod BackBytes
+pub mod Computed

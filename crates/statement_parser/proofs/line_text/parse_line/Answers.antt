@@ -1,0 +1,7 @@
+use Rattle.statement_parser.specs.Lines.{first_language}
+use Rattle.statement_parser.specs.Views.{line_view}
+use Rattle.statement_parser.proofs.FormedLines.{formed_parsed}
+use Rattle.statement_parser.proofs.line_text.parse_line.Goals as goal
+
+pub returns-clause-formed : goal.returns-clause-formed
+returns-clause-formed c = formed_parsed first_language line_view c.args.line.now c.read_line.result c.read_line.ensures

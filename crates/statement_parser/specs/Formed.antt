@@ -1,0 +1,56 @@
+-- What every line that is read keeps: names, ranges and counts.
+use Rattle.std.specs.Prelude.{ℕ, ℤ, ◌≤◌, ◌||◌, Bool, List, [], ◌∷◌, length, Option, Some, None, IsTrue, IfSome}
+use Rattle.map_nums.specs.declared.Rate.{Rate}
+use Rattle.map_nums.specs.Numbers.{is_value}
+use Rattle.map_words.specs.Bytes.{Text}
+use Rattle.map_words.specs.Names.{is_plain, is_dotted}
+use Rattle.statement_parser.specs.Lines.{Term, layer, value, Op, local, difference, ratio, rating, Written, plain, Edit, define, paint, drop, Request, ask_value, ask_grid, ask_list, Line, blank, edit, ask, quit}
+
+abbrev pub Each : {A : Type 0} → (A → Type 0) → List A → Type 0
+Each P [] = Unit {0}
+Each P (x ∷ xs) = P x × Each P xs
+
+abbrev pub IsTerm : Term → Type 0
+IsTerm (layer n) = IsTrue (is_plain n)
+IsTerm (value z) = IsTrue (is_value z)
+
+abbrev pub IsCell : Option ℤ → Type 0
+IsCell c = IfSome c (λ z. IsTrue (is_value z))
+
+pub record IsRate (r : Rate) : Type 0 where
+  pub low : IsTrue (is_value r.low)
+  pub high : IsTrue (is_value r.high)
+  pub give : IsCell r.give
+
+abbrev pub IsOp : Op → Type 0
+IsOp (local s ts) = (2 ≤ length ts) × (length ts ≤ 8) × Each IsTerm ts
+IsOp (difference l r) = IsTerm l × IsTerm r
+IsOp (ratio l r) = IsTerm l × IsTerm r
+IsOp (rating t rs) = IsTerm t × (1 ≤ length rs) × (length rs ≤ 32) × Each IsRate rs
+
+abbrev pub IsWritten : Written → Type 0
+IsWritten (plain o) = IsOp o
+
+-- a row or a column
+abbrev pub IsSide : ℕ → Type 0
+IsSide n = (1 ≤ n) × (n ≤ 4096)
+
+abbrev pub IsEdit : Edit → Type 0
+IsEdit (define n w) = IsTrue (is_plain n) × IsWritten w
+IsEdit (paint n r1 c1 r2 c2 v) = IsTrue (is_plain n) × IsSide r1 × IsSide c1 × IsSide r2 × IsSide c2 × IsCell v
+IsEdit (drop n) = IsTrue (is_plain n)
+
+-- a plain or a dotted name
+abbrev pub IsAny : Text → Type 0
+IsAny n = IsTrue (is_plain n || is_dotted n)
+
+abbrev pub IsRequest : Request → Type 0
+IsRequest (ask_value n r c) = IsAny n × IsSide r × IsSide c
+IsRequest (ask_grid n) = IsAny n
+IsRequest ask_list = Unit {0}
+
+abbrev pub IsFormed : Line → Type 0
+IsFormed blank = Unit {0}
+IsFormed (edit e) = IsEdit e
+IsFormed (ask r) = IsRequest r
+IsFormed quit = Unit {0}

@@ -1,0 +1,15 @@
+pub mod Lines
+pub mod Operations
+pub mod Places
+pub mod Bodies
+pub mod Grammar
+pub mod Views
+pub mod Gives
+pub mod ReadLocal
+pub mod ReadLine
+pub mod Texts
+pub mod Parsed
+pub mod Formed
+pub mod Canonical
+pub mod Printing
+pub mod Rows

@@ -1,0 +1,16 @@
+-- What printing appends.
+use Rattle.std.specs.Prelude.{◌≡◌, List, ◌++◌, IsTrue}
+use Rattle.map_words.specs.Bytes.{Text}
+use Rattle.map_words.specs.Names.{is_plain}
+use Rattle.statement_parser.specs.Lines.{Manner, Written, define, edit}
+use Rattle.statement_parser.specs.Canonical.{spaced}
+use Rattle.statement_parser.specs.Formed.{IsWritten}
+use Rattle.statement_parser.specs.Texts.{is_short, LineText}
+
+-- the bytes grew by these words, with a space before each
+pub record Adds (old new : Text) (words : List Text) : Type 0 where
+  pub grown : new ≡ old ++ spaced words
+
+-- the text of a formed statement under a plain name is its line, where it is no longer than one
+abbrev pub ReadsBack : Text → Written → Text → Type 0
+ReadsBack n w text = (m : Manner) → IsTrue (is_plain n) → IsWritten w → IsTrue (is_short text) → LineText m text (edit (define n w))

@@ -1,0 +1,34 @@
+-- Worked lines.
+use Rattle.std.specs.Prelude.{pos, negsuc, List, [], ◌∷◌, ◌++◌, Option, Some, None, codes}
+use Rattle.map_nums.specs.declared.Stat.TheVariants as stats
+use Rattle.map_words.specs.Bytes.{Text}
+use Rattle.statement_parser.specs.Lines.{Manner, first_language, Term, layer, value, Op, local, difference, ratio, rating, Written, plain, define, paint, drop, ask_value, ask_grid, ask_list, Line, blank, edit, ask, quit}
+use Rattle.statement_parser.specs.Texts.{LineText, Refusal, long, syntax, operation, number, RefusedText}
+
+abbrev pub Is : Text → Line → Type 0
+Is bytes x = LineText first_language bytes x
+
+abbrev pub IsRefused : Text → Refusal → Type 0
+IsRefused bytes r = RefusedText first_language bytes r
+
+pub record Rows : Type 0 where
+  pub empty : Is [] blank
+  pub note : Is (codes "# note (") blank
+  pub whole : Is (codes "B = LocalSum of A and 3") (edit (define (codes "B") (plain (local stats.Sum (layer (codes "A") ∷ value (pos 3) ∷ [])))))
+  pub rated : Is (codes "R = LocalRating of A with 9 for 1 to 3 with null for -5") (edit (define (codes "R") (plain (rating (layer (codes "A"))
+      (record { low = pos 1; high = pos 3; give = Some (pos 9) } ∷ record { low = negsuc 4; high = negsuc 4; give = None } ∷ [])))))
+  pub painted : Is (codes "paint A 01 +1 2 2 -0") (edit (paint (codes "A") 1 1 2 2 (Some (pos 0))))
+  pub dotted : Is (codes "grid A.result.b") (ask (ask_grid (codes "A.result.b")))
+  pub alone : IsRefused (codes "foo") (syntax 4)
+  pub unknown : IsRefused (codes "C = LocalSun of A and 1") (operation 5)
+  pub cut : IsRefused (codes "C = LocalSum of A and") (syntax 22)
+  pub blanks : IsRefused (codes "C = LocalSum of A and  ") (syntax 24)
+  pub zero_row : IsRefused (codes "paint A 0 1 1 1 1") (number 9)
+  pub huge : IsRefused (codes "B = LocalSum of A and 99999999999999999999") (number 23)
+  pub reserved : IsRefused (codes "C = of") (operation 5)
+  pub reserved_call : IsRefused (codes "C = of(A)") (syntax 5)
+  pub not_yet : IsRefused (codes "C = FocalSum of A") (operation 5)
+  pub reserved_name : IsRefused (codes "end = LocalSum of A and 1") (syntax 1)
+  pub later_form : IsRefused (codes "new C 1") (syntax 1)
+  pub bad_byte : IsRefused (codes "C = LocalSun of " ++ 127 ∷ []) (syntax 17)
+  pub ninth : IsRefused (codes "B = LocalSum of 1 and 2 and 3 and 4 and 5 and 6 and 7 and 8 and 9") (syntax 61)

@@ -1,0 +1,16 @@
+//! Laws of the definitions.
+
+ghost use Rattle.map_words.specs.Bytes.{Text};
+ghost use Rattle.statement_parser.specs.Lines.{Manner};
+ghost use Rattle.statement_parser.specs.Rows.{Rows};
+ghost use Rattle.statement_parser.specs.Texts.{IsSettledText};
+
+/// All bytes are either one line, or refused in one way.
+pub fn lines_are_settled()
+    ensures { (m : Manner) (bytes : Text) → IsSettledText m bytes }
+{}
+
+/// Worked lines are what the definitions make of them.
+pub fn worked_lines()
+    ensures { Rows }
+{}

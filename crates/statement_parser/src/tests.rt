@@ -1,0 +1,152 @@
+use super::*;
+use std::test::Fail;
+
+#[test]
+fn refused_lines(rt: HostRuntime) -> Result<(), Fail> {
+    let lines: [(&[u8], LineRefusal); 24] = [
+        (b"foo", LineRefusal::Syntax(4)),
+        (b"C = LocalSun of A and 1", LineRefusal::Operation(5)),
+        (b"C = LocalSum of A and", LineRefusal::Syntax(22)),
+        (b"C = LocalSum of A and  ", LineRefusal::Syntax(24)),
+        (b"new of 1", LineRefusal::Syntax(1)),
+        (b"paint A 0 1 1 1 1", LineRefusal::Number(9)),
+        (b"paint A 1 1 1 4097 1", LineRefusal::Number(15)),
+        (b"paint A 1 1 1 1 2000000001", LineRefusal::Number(17)),
+        (b"paint A 1 1 1 1", LineRefusal::Syntax(16)),
+        (b"drop of", LineRefusal::Syntax(6)),
+        (b"drop A.b", LineRefusal::Syntax(6)),
+        (b"grid A.paint", LineRefusal::Syntax(6)),
+        (b"symbol A 1 ab", LineRefusal::Syntax(1)),
+        (b"label Z 1 x", LineRefusal::Syntax(1)),
+        (b"legend Q", LineRefusal::Syntax(1)),
+        (b"C = end", LineRefusal::Operation(5)),
+        (b"C = paint(A)", LineRefusal::Syntax(5)),
+        (b"C = Twice(A, 3)", LineRefusal::Syntax(5)),
+        (b"C = FocalSum of A at 2", LineRefusal::Operation(5)),
+        (b"C = LocalSum(A)", LineRefusal::Syntax(13)),
+        (
+            b"C = LocalRating of A with 1 for 1 to",
+            LineRefusal::Syntax(37),
+        ),
+        (b"C = LocalRatio of A and 1 and 2", LineRefusal::Syntax(27)),
+        (b"C = LocalSun of\x1FA", LineRefusal::Syntax(16)),
+        (
+            b"C = LocalMean of 1 and 2 and 3 and 4 and 5 and 6 and 7 and 8 and 9",
+            LineRefusal::Syntax(62),
+        ),
+    ];
+    for (line, want) in lines {
+        assert_eq!(rt; parse_line(rt.alloc(), line).err(), Some(want));
+    }
+    let mut long = Vec::new(rt.alloc());
+    for _ in 0..4096 {
+        long.push(b'x')?;
+    }
+    assert_eq!(rt;
+        parse_line(rt.alloc(), long.as_slice()).err(),
+        Some(LineRefusal::Syntax(1))
+    );
+    long.push(b'x')?;
+    assert_eq!(rt;
+        parse_line(rt.alloc(), long.as_slice()).err(),
+        Some(LineRefusal::Long(4097))
+    );
+    Ok(())
+}
+
+#[test]
+fn rates_end_at_thirty_two(rt: HostRuntime) -> Result<(), Fail> {
+    let mut line = Vec::from_slice(rt.alloc(), b"R = LocalRating of A")?;
+    for _ in 0..32 {
+        line.extend_from_slice(b" with 1 for 1")?;
+    }
+    assert!(rt; parse_line(rt.alloc(), line.as_slice()).is_ok());
+    line.extend_from_slice(b" with 1 for 1")?;
+    assert_eq!(rt;
+        parse_line(rt.alloc(), line.as_slice()).err(),
+        Some(LineRefusal::Syntax(438))
+    );
+    Ok(())
+}
+
+#[test]
+fn lines_are_read(rt: HostRuntime) {
+    assert!(rt; matches!(parse_line(rt.alloc(), b"\t # note \x80"), Ok(Line::Blank)));
+    assert!(rt; matches!(parse_line(rt.alloc(), b" quit "), Ok(Line::Quit)));
+    assert!(rt;
+        matches!(
+            parse_line(rt.alloc(), b"list"),
+            Ok(Line::Ask(Request::List))
+        )
+    );
+    assert!(rt;
+        matches!(
+            parse_line(rt.alloc(), b"value A.b 1 2"),
+            Ok(Line::Ask(Request::Value { r: 1, c: 2, .. }))
+        )
+    );
+    assert!(rt;
+        matches!(
+            parse_line(rt.alloc(), b"drop Q"),
+            Ok(Line::Edit(LineEdit::Drop { .. }))
+        )
+    );
+    assert!(rt;
+        matches!(
+            parse_line(rt.alloc(), b"paint A 1 2 3 4 null"),
+            Ok(Line::Edit(LineEdit::Paint {
+                r1: 1,
+                c1: 2,
+                r2: 3,
+                c2: 4,
+                ..
+            }))
+        )
+    );
+}
+
+#[test]
+fn texts_are_canonical(rt: HostRuntime) -> Result<(), Fail> {
+    let texts: [(&[u8], &[u8]); 3] = [
+        (
+            b"B=LocalSum\tof A and  +03 and -0",
+            b"B = LocalSum of A and 3 and 0",
+        ),
+        (b"D = LocalRatio of 1 and D", b"D = LocalRatio of 1 and D"),
+        (
+            b"R = LocalRating of A with +9 for 01 to 3 with null for -5 to -5",
+            b"R = LocalRating of A with 9 for 1 to 3 with null for -5",
+        ),
+    ];
+    for (line, want) in texts {
+        match parse_line(rt.alloc(), line) {
+            Ok(Line::Edit(LineEdit::Define { name, written })) => {
+                let text = print_written(rt.alloc(), &name, &written)
+                    .ok()
+                    .ok_or("memory")?;
+                assert_eq!(rt; text.as_slice(), want);
+            }
+            _ => assert!(rt; false),
+        }
+    }
+    Ok(())
+}
+
+#[test]
+fn terms_are_in_order(rt: HostRuntime) {
+    match parse_line(rt.alloc(), b"D = LocalDifference of 4 and 7") {
+        Ok(
+            Line::Edit(
+                LineEdit::Define {
+                    written: Written::Plain(op),
+                    ..
+                },
+            ),
+        ) => {
+            assert!(rt; matches!(op.term(0), Some(Term::Number(4))));
+            assert!(rt; matches!(op.term(1), Some(Term::Number(7))));
+            assert!(rt; op.term(2).is_none());
+        }
+        _ => assert!(rt; false),
+    }
+}
