@@ -65,8 +65,8 @@ returns-in-NoMemory-play_session-clause-front g c =
     played_front c.args.most c.args.limit (F.files c.args.shelf.now) (S.left c.args.source.now) (S.left c.play_session.new.source) (K.held c.args.sink.now) (K.held c.load_file.new.sink) (K.held c.play_session.new.sink)
     pair c.in-Ready.first ending.NoMemory c.in-Ready.ensures.loads c.in-NoMemory-play_session.ensures.plays
 
-pub returns-in-TooLong-clause-front : goal.returns-in-TooLong-clause-front
-returns-in-TooLong-clause-front g c =
+pub returns-clause-front : goal.returns-clause-front
+returns-clause-front g c =
     let F = g.F.Shelf in
     let S = g.S.Source in
     let K = g.K.Sink in
@@ -83,8 +83,8 @@ returns-in-Done-clause-whole g c whole =
     played_done c.args.most c.args.limit (F.files c.args.shelf.now) (S.left c.args.source.now) (S.left c.play_session.new.source) (K.held c.args.sink.now) (K.held c.load_file.new.sink) (K.held c.play_session.new.sink)
     pair c.in-Ready.first c.in-Ready.ensures.loads c.in-Done.ensures.plays
 
-pub returns-in-TooLong-clause-whole : goal.returns-in-TooLong-clause-whole
-returns-in-TooLong-clause-whole g c whole =
+pub returns-clause-whole : goal.returns-clause-whole
+returns-clause-whole g c whole =
     let F = g.F.Shelf in
     let S = g.S.Source in
     let K = g.K.Sink in
@@ -117,8 +117,8 @@ returns-in-SourceFault-clause-opens g c =
     let pair : Pair = record { name = c.args.name.now; file = c.args.file.now } in
     ready_opens c.args.most (F.files c.args.shelf.now) (K.held c.args.sink.now) (K.held c.load_file.new.sink) pair c.in-Ready.first status.SourceFault tt c.in-Ready.ensures.loads
 
-pub returns-in-TooLong-clause-opens : goal.returns-in-TooLong-clause-opens
-returns-in-TooLong-clause-opens g c =
+pub returns-clause-opens : goal.returns-clause-opens
+returns-clause-opens g c =
     let F = g.F.Shelf in
     let S = g.S.Source in
     let K = g.K.Sink in
@@ -141,8 +141,8 @@ returns-in-SourceFault-clause-ended g c =
     let pair : Pair = record { name = c.args.name.now; file = c.args.file.now } in
     ends_faulty c.args.limit c.in-Ready.first (S.left c.args.source.now) (S.left c.play_session.new.source) (K.held c.load_file.new.sink) (K.held c.play_session.new.sink) c.in-SourceFault.ensures.plays
 
-pub returns-in-TooLong-clause-ended : goal.returns-in-TooLong-clause-ended
-returns-in-TooLong-clause-ended g c =
+pub returns-clause-ended : goal.returns-clause-ended
+returns-clause-ended g c =
     let F = g.F.Shelf in
     let S = g.S.Source in
     let K = g.K.Sink in
