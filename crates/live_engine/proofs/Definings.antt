@@ -44,22 +44,22 @@ pub refused_full : (h : Header) (size : Size) (held : List NamedLayer) (n : ℕ)
 refused_full h size held n name operand number l =
     same_cond _ _ _ (full (seen h size held n) name operand number (value_of size (entries_of held) operand) (rw (statements_in-entries held) l))
 
--- the sum of the operand
-sum_value : (size : Size) (held : List NamedLayer) (operand : List ℕ) (number : ℤ) (l : LayerState) → AreValues size held → layer_in held operand ≡ Some l → value_of size (entries_of held) operand ≡ Some (grid_of l)
-sum_value size held operand number l v e = value_of-entries size held operand v ∙ ap (option_map grid_of) e
+-- the operand's value
+operand_value : (size : Size) (held : List NamedLayer) (operand : List ℕ) (l : LayerState) → AreValues size held → layer_in held operand ≡ Some l → value_of size (entries_of held) operand ≡ Some (grid_of l)
+operand_value size held operand l v e = value_of-entries size held operand v ∙ ap (option_map grid_of) e
 
 -- a cell that leaves the range
 pub refused_wide : (h : Header) (size : Size) (held : List NamedLayer) (n : ℕ) (name operand : List ℕ) (number : ℤ) (l : LayerState) → AreValues size held → layer_in held operand ≡ Some l → is_in_range (sum_grid l.size number (grid_of l)) ≡ false → define_step (seen h size held n) name operand number ≡ refused_step (seen h size held n)
 refused_wide h size held n name operand number l v e w =
     same_cond _ _ _
-    (ap (λ (g : Option Grid). sum_step (seen h size held n) name operand number g) (sum_value size held operand number l v e)
+    (ap (λ (g : Option Grid). sum_step (seen h size held n) name operand number g) (operand_value size held operand l v e)
     ∙ cond-false _ _ _ (and_right _ _ (ap (λ (z : Size). is_in_range (sum_grid z number (grid_of l))) (sym (layer_in-size size held operand l v e)) ∙ w)))
 
 -- an accepted statement
 pub defined_here : (h : Header) (size : Size) (held : List NamedLayer) (n : ℕ) (name operand : List ℕ) (number : ℤ) (l : LayerState) → AreValues size held → is_some (layer_in held name) ≡ false → count_by is_sum held < most_statements → layer_in held operand ≡ Some l → is_in_range (sum_grid l.size number (grid_of l)) ≡ true → define_step (seen h size held n) name operand number ≡ defined_step (seen h size held n) name (sum_of operand number)
 defined_here h size held n name operand number l v new few e w =
     cond-false _ _ _ (find-entries held name ∙ new)
-    ∙ ap (λ (g : Option Grid). sum_step (seen h size held n) name operand number g) (sum_value size held operand number l v e)
+    ∙ ap (λ (g : Option Grid). sum_step (seen h size held n) name operand number g) (operand_value size held operand l v e)
     ∙ cond-true _ _ _
     (and_from _ _ (lt-ltb (statements_in (entries_of held)) most_statements (rw (statements_in-entries held) few))
     (ap (λ (z : Size). is_in_range (sum_grid z number (grid_of l))) (sym (layer_in-size size held operand l v e)) ∙ w))
@@ -67,7 +67,7 @@ defined_here h size held n name operand number l v new few e w =
 -- the new layer is the value of its name
 pub new_value : (size : Size) (held : List NamedLayer) (operand : List ℕ) (number : ℤ) (l m : LayerState) → AreValues size held → layer_in held operand ≡ Some l → grid_of m ≡ sum_grid l.size number (grid_of l) → def_value size (sum_of operand number) (value_of size (entries_of held)) ≡ Some (grid_of m)
 new_value size held operand number l m v e g =
-    ap (option_map (sum_grid size number)) (sum_value size held operand number l v e)
+    ap (option_map (sum_grid size number)) (operand_value size held operand l v e)
     ∙ ap Some (ap (λ (z : Size). sum_grid z number (grid_of l)) (sym (layer_in-size size held operand l v e)) ∙ sym g)
 
 -- what a look-up tells of a name
