@@ -1,4 +1,4 @@
--- Worked texts of grids. The numbers and texts were given by another program.
+-- Worked texts of grids: the first is a row of the specification; the others were worked out by hand.
 use Rattle.std.proofs.Common.{◌≡◌, ℕ, List, [], ◌∷◌, Some, None, pos, negsuc, true, map, refl, codes}
 use Rattle.std.specs.Fmt.{digits}
 use Rattle.map_nums.specs.Grids.{Size, Cells}
