@@ -1,10 +1,10 @@
 -- From a tile and a place in it to the grid, and back.
-use Rattle.std.proofs.Common.{◌≡◌, ℕ, zero, suc, ◌+◌, ◌-◌, ◌*◌, ◌/◌, ◌%◌, ◌<◌, ◌≤◌, min, refl, sym, ◌∙◌, ap, arith, ⊎_elim}
+use Rattle.std.proofs.Common.{◌≡◌, ℕ, ◌+◌, ◌*◌, ◌/◌, ◌%◌, ◌<◌, ◌≤◌, refl, ◌∙◌, ap, arith, ⊎_elim}
 use Rattle.std.proofs.lemmas.Bool.{cases_lt}
 use Rattle.std.proofs.lemmas.Nat.{div_below, mod_below, mul-le, div-mul-add, mod-mul-add, mul-add-lt, div-add-mod'}
 use Rattle.map_nums.specs.Grids.{Size, IsSize, cells_in}
-use Rattle.layer_tiles.specs.Tiles.{tiles_across, tiles_down, tiles_in, tile_top, tile_left, tile_height, tile_width, tile_start, tile_of, place_in, IsPlaced}
-use Rattle.layer_tiles.proofs.Places.{placed, across_some, across_is}
+use Rattle.layer_tiles.specs.Tiles.{tiles_across, tiles_down, tiles_in, tile_top, tile_left, tile_height, tile_width, tile_start, tile_of, place_in}
+use Rattle.layer_tiles.proofs.Places.{placed, across_is}
 
 pub record IsHere (s : Size) (t r c : ℕ) : Type 0 where
   pub within : tile_start s t + r * s.columns + c < cells_in s
@@ -28,7 +28,7 @@ here s t r c h l p q =
     let r32 : r < 32 = omega (arith, a.most_rows) in
     let c32 : c < 32 = omega (arith, a.most_columns) in
     let tile : tile_of s (tile_start s t + r * s.columns + c) ≡ t =
-        rw (d, m, top_row (t / tiles_across s) r r32, top_row (t % tiles_across s) c c32) (div-add-mod' t (tiles_across s)) in
+    rw (d, m, top_row (t / tiles_across s) r r32, top_row (t % tiles_across s) c c32) (div-add-mod' t (tiles_across s)) in
     record {
       within = omega (arith, e, mul-add-lt (tile_top s t + r) s.columns (tile_left s t + c) s.rows (omega (arith, a.last_row)) column);
       tile = tile;
@@ -73,7 +73,7 @@ before s t r c r' c' h l p q b =
     ⊎_elim
     (λ (k : r < r'). omega (arith, mul-le (r + 1) (tile_width s t) r' (tile_width s t) (omega arith) (omega arith)))
     (λ (k : r' ≤ r). ⊎_elim
-        (λ (k' : r' < r). absurd (omega (arith, mul-le (r' + 1) s.columns r s.columns (omega arith) (omega arith), a.last_column)))
-        (λ (k' : r ≤ r'). let e : r ≡ r' = omega arith in omega (arith, ap (λ x. x * s.columns) e, ap (λ x. x * tile_width s t) e))
-        (cases_lt r' r))
+    (λ (k' : r' < r). absurd (omega (arith, mul-le (r' + 1) s.columns r s.columns (omega arith) (omega arith), a.last_column)))
+    (λ (k' : r ≤ r'). let e : r ≡ r' = omega arith in omega (arith, ap (λ x. x * s.columns) e, ap (λ x. x * tile_width s t) e))
+    (cases_lt r' r))
     (cases_lt r r')

@@ -1,9 +1,12 @@
 //! An operand before and after an edit.
-ghost use Rattle.std.specs.Prelude.{◌≡◌, ◌<◌, ◌≤◌, [], slice_index_or, replicate, None};
-ghost use Rattle.map_nums.specs.Grids.{IsSize, cells_in};
-ghost use Rattle.layer_tiles.specs.Tiles.{ChangeState, tile_block, tiles_in, patched, window_of, span_of, tiles_lent};
+ghost use Rattle.std.specs.Prelude.{◌≡◌, ◌<◌, ◌≤◌, ◌↔◌, IsSome, IsTrue, Contains};
+ghost use Rattle.map_nums.specs.Grids.{IsSize, cells_in, cell_at};
+ghost use Rattle.layer_tiles.specs.Tiles.{tile_block, tiles_in};
+ghost use Rattle.layer_tiles.specs.Patches.{HoldsAll};
+ghost use Rattle.layer_tiles.specs.Windows.{window_of, span_of, tiles_lent, LendsInReach};
 ghost use Rattle.layer_tiles.specs.Tallies.{looked, picked};
-ghost use Rattle.layer_tiles.specs.Changes.{HoldsAll, change_of, IsChangeBody, IsRowOfOne, same_change, patched_change, fresh_change, constant_change};
+ghost use Rattle.layer_tiles.specs.Changes.{same_change, patched_change, fresh_change, constant_change, cells_before};
+ghost use Rattle.layer_tiles.specs.ChangeBodies.{change_of, IsChangeBody, IsRowOfOne};
 
 use crate::cells::Cell;
 use crate::extents::Extent;
@@ -30,11 +33,11 @@ pub(crate) enum Body<'a> {
 }
 
 impl<'a> Model for Change<'a> {
-    ghost use Rattle.layer_tiles.specs.Tiles.{ChangeState};
+    ghost use Rattle.layer_tiles.specs.Changes.{ChangeState};
 
     ghost Value = { ChangeState };
 
-    ghost use Rattle.layer_tiles.specs.Changes.{change_of, IsChangeBody};
+    ghost use Rattle.layer_tiles.specs.ChangeBodies.{change_of, IsChangeBody};
 
     ghost view = { λ c. change_of c.body };
 
@@ -46,7 +49,7 @@ impl<'a> Body<'a> {
     pub(crate) fn cell(&self, at: u32) -> Cell
         requires body { IsChangeBody self.now }
         requires within { at < cells_in (change_of self.now).size }
-        ensures { result ≡ slice_index_or (change_of self.now).cells at None }
+        ensures { result ≡ cell_at (change_of self.now).cells at }
     {
         match self {
             Body::Same(layer) => layer.peek(at),
@@ -61,7 +64,7 @@ impl<'a> Body<'a> {
 fn patched_cell(layer: &Layer, patch: &Patch, at: u32) -> Cell
     requires within { at < cells_in layer.now.size }
     requires same { patch.now.size ≡ layer.now.size }
-    ensures { result ≡ slice_index_or (patched layer.now.size layer.now.cells patch.now.tiles) at None }
+    ensures { result ≡ cell_at (patched_change layer.now patch.now).cells at }
 {
     let extent = patch.extent();
     match patch.find(extent.tile_of(at)) {
@@ -74,7 +77,7 @@ fn patched_cell(layer: &Layer, patch: &Patch, at: u32) -> Cell
 fn fresh_cell(patch: &Patch, at: u32) -> Cell
     requires within { at < cells_in patch.now.size }
     requires all { HoldsAll patch.now }
-    ensures { result ≡ slice_index_or (patched patch.now.size [] patch.now.tiles) at None }
+    ensures { result ≡ cell_at (fresh_change patch.now).cells at }
 {
     let extent = patch.extent();
     let place = extent.place_in(at);
@@ -145,6 +148,7 @@ impl<'a> Change<'a> {
         requires within { tile < tiles_in self.now.size }
         requires reach { reach ≤ 64 }
         ensures window { result ≡ window_of self.now.size self.now.cells tile reach }
+        ensures lent { LendsInReach self.now.size tile reach (span_of self.now.size tile reach) }
         ensures looks { M.counts tally.new ≡ looked (tiles_lent (span_of self.now.size tile reach)) (M.counts tally.old) }
     {
         let lent = span(self.extent(), tile, reach, tally);
@@ -159,7 +163,7 @@ impl<'a> Change<'a> {
     /// One cell after the edit. One pick.
     pub fn cell<M: Tally>(&self, at: u32, tally: &mut M) -> Cell
         requires { at < cells_in self.now.size }
-        ensures cell { result ≡ slice_index_or self.now.cells at None }
+        ensures cell { result ≡ cell_at self.now.cells at }
         ensures pick { M.counts tally.new ≡ picked 1 (M.counts tally.old) }
     {
         tally.pick();
@@ -179,6 +183,49 @@ impl<'a> Change<'a> {
             Body::Constant(extent, row) => return view_constant(*extent, row, tile, tally),
         }
     }
+
+    /// A tile before the edit. One look.
+    pub fn view_before<M: Tally>(&self, tile: u32, tally: &mut M) -> TileView<'_>
+        requires there { IsSome self.now.before }
+        requires within { tile < tiles_in self.now.size }
+        ensures tile { result ≡ tile_block self.now.size (cells_before self.now) tile }
+        ensures look { M.counts tally.new ≡ looked 1 (M.counts tally.old) }
+    {
+        match &self.body {
+            Body::Same(layer) => return layer.view(tile, tally),
+            Body::Patched(layer, _) => return layer.view(tile, tally),
+            Body::Fresh(_) => unreachable!(),
+            Body::Constant(extent, row) => return view_constant(*extent, row, tile, tally),
+        }
+    }
+
+    /// One cell before the edit. One pick.
+    pub fn cell_before<M: Tally>(&self, at: u32, tally: &mut M) -> Cell
+        requires there { IsSome self.now.before }
+        requires within { at < cells_in self.now.size }
+        ensures cell { result ≡ cell_at (cells_before self.now) at }
+        ensures pick { M.counts tally.new ≡ picked 1 (M.counts tally.old) }
+    {
+        tally.pick();
+        match &self.body {
+            Body::Same(layer) => layer.peek(at),
+            Body::Patched(layer, _) => layer.peek(at),
+            Body::Fresh(_) => unreachable!(),
+            Body::Constant(_, row) => row[0],
+        }
+    }
+
+    /// Whether the edit's patch holds the tile.
+    pub fn touched(&self, tile: u32) -> bool
+        ensures { IsTrue result ↔ Contains self.now.touched tile }
+    {
+        match &self.body {
+            Body::Same(_) => false,
+            Body::Patched(_, patch) => patch.has(tile),
+            Body::Fresh(patch) => patch.has(tile),
+            Body::Constant(..) => false,
+        }
+    }
 }
 
 /// A tile of a layer after tiles were replaced.
@@ -190,7 +237,7 @@ fn view_patched<'b, M: Tally>(
 ) -> TileView<'b>
     requires within { tile < tiles_in layer.now.size }
     requires same { patch.now.size ≡ layer.now.size }
-    ensures tile { result ≡ tile_block layer.now.size (patched layer.now.size layer.now.cells patch.now.tiles) tile }
+    ensures tile { result ≡ tile_block layer.now.size (patched_change layer.now patch.now).cells tile }
     ensures look { M.counts tally.new ≡ looked 1 (M.counts tally.old) }
 {
     let _extent = patch.extent();
@@ -207,7 +254,7 @@ fn view_patched<'b, M: Tally>(
 fn view_fresh<'b, M: Tally>(patch: &'b Patch, tile: u32, tally: &mut M) -> TileView<'b>
     requires within { tile < tiles_in patch.now.size }
     requires all { HoldsAll patch.now }
-    ensures tile { result ≡ tile_block patch.now.size (patched patch.now.size [] patch.now.tiles) tile }
+    ensures tile { result ≡ tile_block patch.now.size (fresh_change patch.now).cells tile }
     ensures look { M.counts tally.new ≡ looked 1 (M.counts tally.old) }
 {
     let _extent = patch.extent();
@@ -227,7 +274,7 @@ fn view_constant<'b, M: Tally>(
 ) -> TileView<'b>
     requires within { tile < tiles_in extent }
     requires one { IsRowOfOne row.now }
-    ensures tile { result ≡ tile_block extent (replicate (cells_in extent) (slice_index_or row.now 0 None)) tile }
+    ensures tile { result ≡ tile_block extent (constant_change extent (cell_at row.now 0)).cells tile }
     ensures look { M.counts tally.new ≡ looked 1 (M.counts tally.old) }
 {
     tally.look();

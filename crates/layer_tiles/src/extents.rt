@@ -26,6 +26,7 @@ impl Model for Extent {
 }
 
 impl Extent {
+    /// The extent of 1 to 4096 rows and columns and at most 1,500,000 cells, none for any other.
     pub fn new(rows: u32, columns: u32) -> Option<Extent>
         ensures fits { IsSome result ↔ IsSize (record { rows = rows; columns = columns }) }
         ensures size { IfSome result (λ e. e ≡ record { rows = rows; columns = columns }) }
@@ -36,9 +37,12 @@ impl Extent {
         Some(Extent { rows, columns })
     }
 
-    /// One cell.
+    /// The extent of one cell.
     pub(crate) fn one() -> Extent {
-        Extent { rows: 1, columns: 1 }
+        Extent {
+            rows: 1,
+            columns: 1,
+        }
     }
 
     pub fn rows(&self) -> u32
@@ -71,6 +75,7 @@ impl Extent {
         (self.columns + 31) / 32
     }
 
+    /// How many tiles lie one above the other.
     #[tactic(auto, unfolding(crate::specs::Tiles::tiles_down))]
     pub fn tiles_down(&self) -> u32
         ensures down { result ≡ tiles_down self.now }

@@ -1,7 +1,10 @@
-//! A whole grid of cells, with a stamp for each tile.
-ghost use Rattle.std.specs.Prelude.{◌≡◌, ◌<◌, ◌≤◌, length, replicate, slice_index, slice_index_or, IfOk, None};
-ghost use Rattle.map_nums.specs.Grids.{cells_in};
-ghost use Rattle.layer_tiles.specs.Tiles.{LayerState, IsLayer, tiles_in, tile_block, window_of, span_of, tiles_lent, IsCommitted};
+//! A whole grid of cells, kept row by row in one list, with a stamp for each tile.
+ghost use Rattle.std.specs.Prelude.{◌≡◌, ◌<◌, ◌≤◌, [], length, slice_index, IfOk};
+ghost use Rattle.map_nums.specs.Grids.{cells_in, cell_at, constant};
+ghost use Rattle.layer_tiles.specs.Tiles.{tiles_in, tile_block};
+ghost use Rattle.layer_tiles.specs.Patches.{HoldsAll, patched};
+ghost use Rattle.layer_tiles.specs.Layers.{IsLayer, IsCommitted, layer_of};
+ghost use Rattle.layer_tiles.specs.Windows.{window_of, span_of, tiles_lent, LendsInReach};
 ghost use Rattle.layer_tiles.specs.Tallies.{looked, picked};
 
 use crate::cells::Cell;
@@ -24,7 +27,7 @@ pub struct Layer {
 }
 
 impl Model for Layer {
-    ghost use Rattle.layer_tiles.specs.Tiles.{LayerState, IsLayer};
+    ghost use Rattle.layer_tiles.specs.Layers.{LayerState, IsLayer};
 
     ghost Value = { LayerState };
 
@@ -34,26 +37,71 @@ impl Model for Layer {
 }
 
 impl Layer {
+    /// One cell everywhere, with one stamp for all tiles.
+    pub fn constant(
+        alloc: Global,
+        extent: Extent,
+        cell: Cell,
+        stamp: u64,
+    ) -> Result<Layer, NoMemory>
+        ensures { IfOk result (λ layer. layer ≡ layer_of extent (constant extent cell).cells stamp) }
+    {
+        let cells = vec![in alloc; cell; extent.cells() as usize]?;
+        Layer::of(alloc, extent, cells, stamp)
+    }
+
+    /// The cells row by row, with one stamp for all tiles.
+    pub fn from_cells(
+        alloc: Global,
+        extent: Extent,
+        cells: &[Cell],
+        stamp: u64,
+    ) -> Result<Layer, NoMemory>
+        requires { length cells.now ≡ cells_in extent }
+        ensures { IfOk result (λ layer. layer ≡ layer_of extent cells.now stamp) }
+    {
+        Layer::of(alloc, extent, Vec::from_slice(alloc, cells)?, stamp)
+    }
+
+    /// The layer of a patch that holds every tile, with one stamp for all tiles. Its one list of cells is new memory.
+    pub fn fresh(alloc: Global, patch: Patch, stamp: u64) -> Result<Layer, NoMemory>
+        requires { HoldsAll patch }
+        ensures { IfOk result (λ layer. layer ≡ layer_of patch.size (patched patch.size [] patch.tiles) stamp) }
+    {
+        let extent = patch.extent();
+        let mut cells = vec![in alloc; Cell::null(); extent.cells() as usize]?;
+        write_tiles(extent, &patch, &mut cells);
+        Layer::of(alloc, extent, cells, stamp)
+    }
+
+    /// A layer that takes the cells over.
+    fn of(alloc: Global, extent: Extent, cells: Vec<Cell>, stamp: u64) -> Result<Layer, NoMemory>
+        requires { length cells.items ≡ cells_in extent }
+        ensures { IfOk result (λ layer. layer ≡ layer_of extent cells.items stamp) }
+    {
+        let stamps = vec![in alloc; stamp; extent.tiles() as usize]?;
+        Ok(Layer {
+            extent,
+            cells,
+            stamps,
+        })
+    }
+
+    pub fn copy(&self, alloc: Global) -> Result<Layer, NoMemory>
+        ensures { IfOk result (λ layer. layer ≡ self.now) }
+    {
+        Ok(Layer {
+            extent: self.extent,
+            cells: Vec::from_slice(alloc, &self.cells)?,
+            stamps: Vec::from_slice(alloc, &self.stamps)?,
+        })
+    }
+
     pub fn extent(&self) -> Extent
         ensures extent { result ≡ self.now.size }
         ensures layer { IsLayer self.now }
     {
         self.extent
-    }
-
-    /// A layer of cells, row by row, with one stamp for all tiles.
-    pub fn from_cells(alloc: Global, extent: Extent, cells: &[Cell], stamp: u64) -> Result<Layer, NoMemory>
-        requires { length cells.now ≡ cells_in extent }
-        ensures { IfOk result (λ layer. layer ≡ record { size = extent; cells = cells.now; stamps = replicate (tiles_in extent) stamp }) }
-    {
-        let count = extent.tiles() as usize;
-        let kept = Vec::from_slice(alloc, cells)?;
-        let stamps = vec![in alloc; stamp; count]?;
-        Ok(Layer {
-            extent,
-            cells: kept,
-            stamps,
-        })
     }
 
     /// A tile of the layer. One look.
@@ -77,7 +125,7 @@ impl Layer {
     /// One cell. One pick.
     pub fn cell<M: Tally>(&self, at: u32, tally: &mut M) -> Cell
         requires { at < cells_in self.now.size }
-        ensures cell { result ≡ slice_index_or self.now.cells at None }
+        ensures cell { result ≡ cell_at self.now.cells at }
         ensures pick { M.counts tally.new ≡ picked 1 (M.counts tally.old) }
     {
         tally.pick();
@@ -101,11 +149,19 @@ impl Layer {
         write_tiles(self.extent, &patch, &mut self.cells);
     }
 
+    /// Gives every tile the stamp.
+    pub fn restamp(&mut self, stamp: u64)
+        ensures { self.new ≡ layer_of self.old.size self.old.cells stamp }
+    {
+        self.stamps.fill(stamp);
+    }
+
     /// The tiles that meet a tile's square grown by a reach. One look each.
     pub fn window<M: Tally>(&self, tile: u32, reach: u32, tally: &mut M) -> Window<'_>
         requires within { tile < tiles_in self.now.size }
         requires reach { reach ≤ 64 }
         ensures window { result ≡ window_of self.now.size self.now.cells tile reach }
+        ensures lent { LendsInReach self.now.size tile reach (span_of self.now.size tile reach) }
         ensures looks { M.counts tally.new ≡ looked (tiles_lent (span_of self.now.size tile reach)) (M.counts tally.old) }
     {
         let lent = span(self.extent(), tile, reach, tally);
@@ -115,7 +171,7 @@ impl Layer {
     /// One cell, uncounted.
     pub(crate) fn peek(&self, at: u32) -> Cell
         requires { at < cells_in self.now.size }
-        ensures { result ≡ slice_index_or self.now.cells at None }
+        ensures { result ≡ cell_at self.now.cells at }
     {
         self.cells[at as usize]
     }

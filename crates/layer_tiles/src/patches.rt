@@ -1,7 +1,9 @@
 //! Tiles that are to replace those of a layer.
 ghost use Rattle.std.specs.Prelude.{◌≡◌, ◌<◌, ◌++◌, ◌∷◌, [], ◌↔◌, OnOk, OnErr, IsTrue, IsSome};
 ghost use Rattle.std.specs.Option.{option_copied};
-ghost use Rattle.layer_tiles.specs.Tiles.{PatchState, IsPatch, IsBlockOf, AllBelow, patch_get, tiles_in};
+ghost use Rattle.std.specs.List.Sorted.{IsStrictlyIncreasing};
+ghost use Rattle.layer_tiles.specs.Tiles.{IsBlockOf, tiles_in};
+ghost use Rattle.layer_tiles.specs.Patches.{IsPatch, IsAboveLast, numbers_of, patch_get};
 
 use crate::extents::Extent;
 use crate::tiles::Tile;
@@ -17,7 +19,7 @@ pub struct Patch {
 }
 
 impl Model for Patch {
-    ghost use Rattle.layer_tiles.specs.Tiles.{PatchState, IsPatch};
+    ghost use Rattle.layer_tiles.specs.Patches.{PatchState, IsPatch};
 
     ghost Value = { PatchState };
 
@@ -47,7 +49,7 @@ impl Patch {
 
     /// Adds a tile above the last one.
     pub fn push(&mut self, tile: u32, cells: Tile) -> Result<(), NoMemory>
-        requires ascending { AllBelow self.old.tiles tile }
+        requires ascending { IsAboveLast self.old.tiles tile }
         requires within { tile < tiles_in self.old.size }
         requires size { IsBlockOf self.old.size tile cells }
         ensures ok { OnOk result (self.new ≡ record self.old { tiles = self.old.tiles ++ (tile, cells) ∷ [] }) }
@@ -61,7 +63,7 @@ impl Patch {
     pub fn has(&self, tile: u32) -> bool
         ensures { IsTrue result ↔ IsSome (patch_get self.now.tiles tile) }
     {
-        find_in(&self.tiles, tile).is_some()
+        self.find(tile).is_some()
     }
 
     /// The tile, where the patch holds it.
@@ -72,12 +74,14 @@ impl Patch {
     }
 }
 
-/// The first entry of a tile.
+/// The tile of a number, where it is there.
 fn find_in(tiles: &[(u32, Tile)], tile: u32) -> Option<&Tile>
+    requires { IsStrictlyIncreasing (numbers_of tiles.now) }
     ensures { option_copied result ≡ patch_get tiles.now tile }
 {
-    for i in 0..tiles.len() {
-        let entry = &tiles[i];
+    let at = tiles.partition_point(|entry| entry.0 < tile);
+    if at < tiles.len() {
+        let entry = &tiles[at];
         if entry.0 == tile {
             return Some(&entry.1);
         }

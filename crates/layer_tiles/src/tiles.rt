@@ -1,6 +1,7 @@
 //! One tile of cells.
-ghost use Rattle.std.specs.Prelude.{◌≡◌, ◌+◌, ◌*◌, ◌<◌, length, replicate, slice_set, slice_index_or, IfOk, None, IsTrue, ◌↔◌};
-ghost use Rattle.layer_tiles.specs.Tiles.{Block, row_of, tiles_in, tile_size, tile_height, tile_width};
+ghost use Rattle.std.specs.Prelude.{◌≡◌, ◌+◌, ◌*◌, ◌<◌, length, replicate, slice_set, IfOk, IsTrue, ◌↔◌};
+ghost use Rattle.map_nums.specs.Grids.{cell_at};
+ghost use Rattle.layer_tiles.specs.Tiles.{Block, block_row, tiles_in, tile_size, tile_height, tile_width};
 
 use crate::cells::Cell;
 use crate::extents::Extent;
@@ -57,7 +58,7 @@ impl Tile {
     /// A row of the tile, counted from 0 within it.
     pub fn row(&self, r: u32) -> &[Cell]
         requires { r < self.now.height }
-        ensures row { result.now ≡ row_of self.now r }
+        ensures row { result.now ≡ block_row self.now r }
         ensures width { length result.now ≡ self.now.width }
     {
         let first = r as usize * self.width;
@@ -74,7 +75,7 @@ impl Tile {
     /// The cell at a place, row by row.
     pub(crate) fn cell(&self, k: usize) -> Cell
         requires { k < length self.now.cells }
-        ensures { result ≡ slice_index_or self.now.cells k None }
+        ensures { result ≡ cell_at self.now.cells k }
     {
         self.cells[k]
     }

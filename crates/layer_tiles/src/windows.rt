@@ -1,10 +1,13 @@
 //! The tiles round a tile, lent.
-ghost use Rattle.std.specs.Prelude.{◌≡◌, ◌≤◌, ◌<◌, [], replicate, slice_index_or, None};
-ghost use Rattle.map_nums.specs.Grids.{cells_in};
-ghost use Rattle.layer_tiles.specs.Tiles.{window_cell, span_of, tiles_in, tiles_lent, patched};
+ghost use Rattle.std.specs.Prelude.{◌≡◌, ◌≤◌, ◌<◌};
+ghost use Rattle.map_nums.specs.Grids.{cells_in, cell_at};
+ghost use Rattle.layer_tiles.specs.Tiles.{tiles_in};
+ghost use Rattle.layer_tiles.specs.Patches.{HoldsAll};
+ghost use Rattle.layer_tiles.specs.Windows.{window_cell, span_of, tiles_lent, LendsInReach};
 ghost use Rattle.layer_tiles.specs.Tallies.{looked};
-ghost use Rattle.layer_tiles.specs.Changes.{HoldsAll, IsRowOfOne};
-ghost use Rattle.layer_tiles.specs.Windows.{IsSpanOf, span_from};
+ghost use Rattle.layer_tiles.specs.Changes.{same_change, patched_change, fresh_change, constant_change};
+ghost use Rattle.layer_tiles.specs.ChangeBodies.{IsRowOfOne};
+ghost use Rattle.layer_tiles.specs.Spans.{IsSpanOf, span_from};
 
 use crate::cells::Cell;
 use crate::changes::Body;
@@ -19,12 +22,12 @@ use std::marker::Model;
 pub struct Window<'a> {
     body: Body<'a>,
     extent: Extent,
-    span: Rows,
+    span: TileSpan,
 }
 
-/// Rows and columns of tiles, from a low to a high one.
+/// Rows and columns of tiles, each from a low to a high one.
 #[derive(Clone, Copy)]
-pub struct Rows {
+pub struct TileSpan {
     pub low_row: u32,
     pub high_row: u32,
     pub low_column: u32,
@@ -33,12 +36,12 @@ pub struct Rows {
 
 impl<'a> Model for Window<'a> {
     ghost use Rattle.std.specs.Prelude.{◌≡◌};
-    ghost use Rattle.layer_tiles.specs.Tiles.{WindowState};
+    ghost use Rattle.layer_tiles.specs.Windows.{WindowState};
 
     ghost Value = { WindowState };
 
-    ghost use Rattle.layer_tiles.specs.Changes.{change_of, IsChangeBody};
-    ghost use Rattle.layer_tiles.specs.Windows.{span_from};
+    ghost use Rattle.layer_tiles.specs.ChangeBodies.{change_of, IsChangeBody};
+    ghost use Rattle.layer_tiles.specs.Spans.{span_from};
 
     ghost view = { λ w. record { size = (change_of w.body).size; span = span_from w.span; cells = (change_of w.body).cells } };
 
@@ -47,8 +50,8 @@ impl<'a> Model for Window<'a> {
 
 impl<'a> Window<'a> {
     /// Lends tiles of a layer.
-    pub(crate) fn of_layer(layer: &'a Layer, span: Rows) -> Window<'a>
-        ensures { result ≡ record { size = layer.now.size; span = span_from span; cells = layer.now.cells } }
+    pub(crate) fn of_layer(layer: &'a Layer, span: TileSpan) -> Window<'a>
+        ensures { result ≡ record { size = layer.now.size; span = span_from span; cells = (same_change layer.now).cells } }
     {
         let extent = layer.extent();
         Window {
@@ -59,9 +62,9 @@ impl<'a> Window<'a> {
     }
 
     /// Lends tiles of a layer after a patch.
-    pub(crate) fn of_patched(layer: &'a Layer, patch: &'a Patch, span: Rows) -> Window<'a>
+    pub(crate) fn of_patched(layer: &'a Layer, patch: &'a Patch, span: TileSpan) -> Window<'a>
         requires { patch.now.size ≡ layer.now.size }
-        ensures { result ≡ record { size = layer.now.size; span = span_from span; cells = patched layer.now.size layer.now.cells patch.now.tiles } }
+        ensures { result ≡ record { size = layer.now.size; span = span_from span; cells = (patched_change layer.now patch.now).cells } }
     {
         let extent = layer.extent();
         let _same = patch.extent();
@@ -73,9 +76,9 @@ impl<'a> Window<'a> {
     }
 
     /// Lends tiles of a patch that holds every tile.
-    pub(crate) fn of_patch(patch: &'a Patch, span: Rows) -> Window<'a>
+    pub(crate) fn of_patch(patch: &'a Patch, span: TileSpan) -> Window<'a>
         requires { HoldsAll patch.now }
-        ensures { result ≡ record { size = patch.now.size; span = span_from span; cells = patched patch.now.size [] patch.now.tiles } }
+        ensures { result ≡ record { size = patch.now.size; span = span_from span; cells = (fresh_change patch.now).cells } }
     {
         let extent = patch.extent();
         Window {
@@ -86,9 +89,9 @@ impl<'a> Window<'a> {
     }
 
     /// Lends tiles of one cell everywhere.
-    pub(crate) fn of_cell(extent: Extent, row: [Cell; 32], span: Rows) -> Window<'a>
+    pub(crate) fn of_cell(extent: Extent, row: [Cell; 32], span: TileSpan) -> Window<'a>
         requires { IsRowOfOne row }
-        ensures { result ≡ record { size = extent; span = span_from span; cells = replicate (cells_in extent) (slice_index_or row 0 None) } }
+        ensures { result ≡ record { size = extent; span = span_from span; cells = (constant_change extent (cell_at row 0)).cells } }
     {
         let _rows = extent.rows();
         Window {
@@ -119,11 +122,12 @@ impl<'a> Window<'a> {
     }
 }
 
-/// The rows and columns of tiles that meet a tile's square grown by a reach. One look each.
-pub(crate) fn span<M: Tally>(extent: Extent, tile: u32, reach: u32, tally: &mut M) -> Rows
+/// Those of the tiles that meet a tile's square grown by a reach, with one look each.
+pub(crate) fn span<M: Tally>(extent: Extent, tile: u32, reach: u32, tally: &mut M) -> TileSpan
     requires within { tile < tiles_in extent }
     requires reach { reach ≤ 64 }
     ensures span { span_from result ≡ span_of extent tile reach }
+    ensures lent { LendsInReach extent tile reach (span_of extent tile reach) }
     ensures looks { M.counts tally.new ≡ looked (tiles_lent (span_of extent tile reach)) (M.counts tally.old) }
 {
     let span = bounds(extent, tile, reach);
@@ -133,16 +137,17 @@ pub(crate) fn span<M: Tally>(extent: Extent, tile: u32, reach: u32, tally: &mut 
     span
 }
 
-/// Those rows and columns.
-fn bounds(extent: Extent, tile: u32, reach: u32) -> Rows
+/// The rows and columns of tiles that meet a tile's square grown by a reach.
+fn bounds(extent: Extent, tile: u32, reach: u32) -> TileSpan
     requires within { tile < tiles_in extent }
     requires reach { reach ≤ 64 }
     ensures span { IsSpanOf extent tile reach result }
+    ensures lent { LendsInReach extent tile reach (span_of extent tile reach) }
 {
     let place = extent.place(tile);
     let down = extent.tiles_down();
     let across = extent.tiles_across();
-    Rows {
+    TileSpan {
         low_row: place.top.saturating_sub(reach) / 32,
         high_row: (down - 1).min((place.top + place.height - 1 + reach) / 32),
         low_column: place.left.saturating_sub(reach) / 32,

@@ -1,13 +1,14 @@
 //! Tiles put into a list of cells.
 ghost use Rattle.std.specs.Prelude.{◌≡◌, ◌≢◌, ◌↔◌, ◌<◌, length, IsTrue};
 ghost use Rattle.map_nums.specs.Grids.{cells_in};
-ghost use Rattle.layer_tiles.specs.Tiles.{tiles_in, tile_cells, patched, IsStamped, IsBlockOf};
+ghost use Rattle.layer_tiles.specs.Tiles.{tiles_in, tile_cells, IsBlockOf};
+ghost use Rattle.layer_tiles.specs.Patches.{patched};
+ghost use Rattle.layer_tiles.specs.Layers.{IsStamped};
 
 use crate::cells::Cell;
 use crate::extents::Extent;
 use crate::patches::Patch;
-use crate::tiles::Tile;
-use crate::tiles::same_cells;
+use crate::tiles::{Tile, same_cells};
 use crate::views::TileView;
 
 /// Puts each tile of a patch in place of the cells of a grid.

@@ -1,14 +1,23 @@
 //! Whole-number arithmetic, the statistics of a list of values, and the numbers and small types that every crate shares.
+//!
+//! `statistic` gives any of the nine statistics of a list; `in_range` is the one test of what a cell may hold.
 #![tactic(auto)]
 
-ghost use Rattle.std.specs.Prelude.{◌≡◌, ◌≢◌, ◌↔◌, pos, negsuc, ◌+ℤ◌, ◌*ℤ◌, length, IsNone, IfSome, IsTrue, IfOk};
-ghost use Rattle.std.specs.Ordering.{int_cmp};
-ghost use Rattle.map_nums.specs.Numbers.{in_value_range, IsFloor, IsFloorRoot};
-ghost use Rattle.map_nums.specs.Stats.{total_of, median_of, statistic_of};
-ghost use Rattle.map_nums.specs.Answers.{IsAnswer};
+ghost use Rattle.std.specs.Prelude.{◌≡◌};
 
-use std::alloc::{AllocError, AllocFailed, Global};
-use std::cmp::Ordering;
+mod numbers;
+mod ranks;
+mod rounding;
+mod runs;
+mod statistics;
+mod sums;
+#[cfg(test)]
+mod tests;
+
+pub use numbers::{cmp_cross, in_range};
+pub use rounding::{floor_div, floor_root};
+pub use statistics::statistic;
+use std::alloc::{AllocError, AllocFailed};
 
 /// A number that a cell holds.
 pub type Value = i32;
@@ -62,68 +71,12 @@ pub enum StatRefusal {
     NoMemory,
 }
 
-/// The number where a cell may hold it.
-pub fn in_range(n: i128) -> Option<Value>
-    ensures { result ≡ in_value_range n }
-{
-    if n < -(VMAX as i128) || n > VMAX as i128 {
-        None
-    } else {
-        Some(n as i32)
-    }
-}
+impl From<AllocError> for StatRefusal {
+    ghost use Rattle.map_nums.specs.declared.StatRefusal.TheVariants.{NoMemory};
 
-/// The greatest whole number that is not above `a / b`, none at a divisor of zero.
-pub fn floor_div(a: i64, b: i64) -> Option<i64>
-    requires { a ≢ negsuc 9223372036854775807 }
-    ensures none { IsNone result ↔ (b ≡ pos 0) }
-    ensures floor { IfSome result (IsFloor a b) }
-{
-    if b == 0 {
-        return None;
-    }
-    let quotient = a / b;
-    let rest = a % b;
-    if b > 0 {
-        if rest < 0 {
-            return Some(quotient - 1);
-        }
-        return Some(quotient);
-    }
-    if rest > 0 {
-        return Some(quotient - 1);
-    }
-    Some(quotient)
-}
+    ghost from_gives = { λ _ refusal. refusal ≡ NoMemory };
 
-/// Compares `a * n` with `b * k`.
-pub fn cmp_cross(a: i64, n: i64, b: i64, k: i64) -> Ordering
-    ensures { result ≡ int_cmp (a *ℤ n) (b *ℤ k) }
-{
-    let left = a as i128 * n as i128;
-    let right = b as i128 * k as i128;
-    left.cmp(&right)
-}
-
-/// The sum.
-fn total(values: &[Value]) -> i128
-    ensures { result ≡ total_of values.now }
-{
-    let mut sum: i128 = 0;
-    for value in values {
-        sum += *value as i128;
+    fn from(_: AllocError) -> Self {
+        StatRefusal::NoMemory
     }
-    sum
-}
-
-/// The value at the lower middle of the ascending order.
-fn median(alloc: Global, values: &[Value]) -> Result<Option<Value>, AllocError>
-    ensures { IfOk result (λ m. m ≡ median_of values.now) }
-{
-    if values.is_empty() {
-        return Ok(None);
-    }
-    let mut sorted = Vec::from_slice(alloc, values)?;
-    sorted.sort()?;
-    Ok(Some(sorted[(values.len() - 1) / 2]))
 }

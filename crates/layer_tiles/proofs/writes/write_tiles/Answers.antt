@@ -1,7 +1,7 @@
-use Rattle.std.proofs.Common.{◌≡◌, ◌<◌, refl, None, arith, length, ◌∙◌}
+use Rattle.std.proofs.Common.{None, arith, ◌∙◌}
 use Rattle.std.proofs.lemmas.List.FromFn.{fill_by_all}
 use Rattle.map_nums.specs.Grids.{cells_in}
-use Rattle.layer_tiles.specs.Tiles.{patched, cell_after}
+use Rattle.layer_tiles.specs.Patches.{patched, cell_after}
 use Rattle.layer_tiles.proofs.writes.write_tiles.Goals as goal
 
 pub returns : goal.returns

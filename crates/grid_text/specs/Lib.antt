@@ -1,0 +1,4 @@
+pub mod Tokens
+pub mod Plain
+pub mod Printed
+pub mod Reads

@@ -1,0 +1,7 @@
+mod Pieces
+mod Totals
+mod Values
+mod Definings
+mod Steppings
+mod Openings
+mod Showings

@@ -1,0 +1,54 @@
+-- The numbers of cells, one cell after another, and the operations on them.
+use Rattle.std.proofs.Common.{◌≡◌, ℕ, zero, suc, ◌<◌, ◌≤◌, List, [], ◌∷◌, ◌++◌, length, get_or, Option, Some, None, ℤ, pos, refl, ◌∙◌, ap, arith, option_map, inl, inr, Bool, true, false, Decides, FitsSigned, to_z, of_z, w32, w64}
+use Rattle.std.proofs.lemmas.Int.{ints}
+use Rattle.std.proofs.lemmas.Bool.Decides.{Decides-int_eq}
+use Rattle.std.specs.Ordering.{int_eq}
+use Rattle.std.specs.Int.{w128}
+use Rattle.map_nums.specs.Numbers.{IsFloor}
+use Rattle.map_nums.specs.Grids.{Cells}
+use Rattle.map_defs.specs.Local.{LocalOp, of_stat, difference, ratio, rating, all_numbers, ratio_of}
+use Rattle.map_defs.proofs.Floors.{floor_only}
+use Rattle.local_ops.specs.Operations.{Takes}
+
+pushed : (y z : ℤ) (zs : List ℤ) (r q : Option (List ℤ)) → ((ys : List ℤ) → r ≡ Some ys → q ≡ Some (ys ++ z ∷ [])) → option_map (λ ys. y ∷ ys) r ≡ Some zs → option_map (λ ys. y ∷ ys) q ≡ Some (zs ++ z ∷ [])
+pushed y z zs None q h e = cc
+pushed y z zs (Some ys) q h e = ap (option_map (λ ys. y ∷ ys)) (h ys refl) ∙ ap (option_map (λ ys. ys ++ z ∷ [])) e
+
+-- one more number
+pub all_numbers-push : (cells : Cells) (zs : List ℤ) (z : ℤ) → all_numbers cells ≡ Some zs → all_numbers (cells ++ Some z ∷ []) ≡ Some (zs ++ z ∷ [])
+all_numbers-push [] zs z e = ap (option_map (λ ys. ys ++ z ∷ [])) e
+all_numbers-push (None ∷ cells) zs z e = cc
+all_numbers-push (Some y ∷ cells) zs z e = pushed y z zs (all_numbers cells) (all_numbers (cells ++ Some z ∷ [])) (λ ys f. all_numbers-push cells ys z f) e
+
+-- none where one is null
+pub all_numbers-null : (cells : Cells) (k : ℕ) (d : Option ℤ) → k < length cells → get_or cells k d ≡ None → all_numbers cells ≡ None
+all_numbers-null [] k d l e = absurd (omega (arith, l))
+all_numbers-null (c ∷ cells) zero d l e = rw (e) refl
+all_numbers-null (None ∷ cells) (suc k) d l e = refl
+all_numbers-null (Some z ∷ cells) (suc k) d l e = ap (option_map (λ zs. z ∷ zs)) (all_numbers-null cells k d (omega arith) e)
+
+-- an operation takes one to eight operands
+pub takes_some : (op : LocalOp) (n : ℕ) → Takes op n → (0 < n) × (n ≤ 8)
+takes_some (of_stat stat) n t = (omega (arith, t.0), t.1)
+takes_some difference n t = (omega (arith, t), omega (arith, t))
+takes_some ratio n t = (omega (arith, t), omega (arith, t))
+takes_some (rating rates) n t = (omega (arith, t), omega (arith, t))
+
+-- a quotient that is a floor is the ratio
+pub ratio_is : (a b q : ℤ) → IsFloor a b q → Some q ≡ ratio_of a b
+ratio_is a b q h = rw (other (int_eq b (pos 0)) (b ≡ pos 0) (Decides-int_eq b (pos 0)) (not_nought a b q h)) (ap Some (floor_only a b q h))
+  where
+    other : (v : Bool) (P : Type 0) → Decides v P → (P → ⊥) → v ≡ false
+    other true P d n = absurd (n (d.0 refl))
+    other false P d n = refl
+
+    not_nought : (a b q : ℤ) → IsFloor a b q → b ≡ pos 0 → ⊥
+    not_nought a b q (inl f) e = absurd (grind (arith, ints))
+    not_nought a b q (inr f) e = absurd (grind (arith, ints))
+
+-- numbers in wider words
+pub widened : (z : ℤ) → FitsSigned w32 z → to_z w64 (of_z w64 (to_z w32 (of_z w32 z))) ≡ z
+widened z f = omega (arith, ints)
+
+pub widened_long : (z : ℤ) → FitsSigned w64 z → to_z w128 (of_z w128 (to_z w64 (of_z w64 z))) ≡ z
+widened_long z f = omega (arith, ints)

@@ -1,0 +1,9 @@
+mod PartsLemmas
+mod WordLemmas
+mod KeptLemmas
+mod AnsweredLemmas
+mod Playing
+mod LoadLemmas
+mod Whole
+mod RunLemmas
+mod Completeness

@@ -1,0 +1,8 @@
+pub mod Kept
+pub mod Front
+pub mod Parts
+pub mod Answered
+pub mod Played
+pub mod Loads
+pub mod Run
+pub mod Codes

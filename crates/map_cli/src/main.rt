@@ -1,0 +1,65 @@
+//! The program: words, files and session bytes in, replies out.
+//!
+//! [`run`] does all that the program does, over any shelf, source, sink and tally. `main` hands it the arguments, the
+//! system's files, the standard streams and a tally, and ends with the code of the [`Status`] that it answers. A run
+//! loads the file that its words name (`opening`), and then answers the session's lines (`session`, `lines`), of which
+//! `piece` keeps the one that no line feed has ended yet. What is written is proved to be the text of the map machine.
+#![tactic(auto)]
+
+ghost use Rattle.std.specs.Prelude.{◌≡◌, ◌↔◌, IsNone};
+ghost use Rattle.map_machine.specs.Words.{pair_of};
+
+mod lines;
+mod opening;
+mod piece;
+mod session;
+mod status;
+#[cfg(test)]
+mod tests;
+mod top;
+mod words;
+
+use map_outside::{Counts, FileShelf, ReadSource, WriteSink};
+pub use status::Status;
+use std::process::ExitCode;
+use std::{env, io};
+pub use top::run;
+
+// The words after the program's name.
+fn arguments(rt: &HostRuntime) -> io::Result<Vec<String>> {
+    let mut words = Vec::new(rt.alloc());
+    for word in env::args(rt)?.skip(1) {
+        words.push(word)?;
+    }
+    Ok(words)
+}
+
+// A run of these words over the system's files and the standard streams.
+fn run_here(rt: &HostRuntime, words: &[String]) -> Status
+    ensures { (result ≡ Status.Usage) ↔ IsNone (pair_of words.now) }
+{
+    let mut shelf = FileShelf::new(rt);
+    let mut source = ReadSource::new(rt.stdin());
+    let mut sink = WriteSink::new(rt.stdout());
+    let mut tally = Counts::new();
+    run(
+        rt.alloc(),
+        words,
+        &mut shelf,
+        &mut source,
+        &mut sink,
+        &mut tally,
+    )
+}
+
+// Words that are not UTF-8 are of no form.
+fn main(rt: HostRuntime) -> ExitCode {
+    let status = match arguments(&rt) {
+        Ok(words) => run_here(&rt, &words),
+        Err(error) => match error.kind() {
+            io::ErrorKind::OutOfMemory => Status::NoMemory,
+            _ => Status::Usage,
+        },
+    };
+    ExitCode::from(status.code())
+}

@@ -1,0 +1,43 @@
+//! How a run ends.
+
+/// How a run ended.
+#[derive(Clone, Copy, Debug, PartialEq, Eq)]
+pub enum Status {
+    /// The session was read to its end, or one of its lines ended it.
+    Done,
+    /// The words are not of the form of a run.
+    Usage,
+    /// The load was refused.
+    Load,
+    /// The shelf failed.
+    ShelfFault,
+    /// The source failed.
+    SourceFault,
+    /// The sink failed.
+    SinkFault,
+    /// There was no memory.
+    NoMemory,
+    /// The session is too long.
+    TooLong,
+}
+
+impl Status {
+    ghost use Rattle.std.specs.Prelude.{◌≡◌};
+    ghost use Rattle.map_cli.specs.Codes.{code_of};
+
+    /// What the process ends with.
+    pub fn code(&self) -> u8
+        ensures { result ≡ code_of self.now }
+    {
+        match self {
+            Status::Done => 0,
+            Status::Usage => 2,
+            Status::Load => 3,
+            Status::ShelfFault => 4,
+            Status::SourceFault => 5,
+            Status::SinkFault => 6,
+            Status::NoMemory => 7,
+            Status::TooLong => 8,
+        }
+    }
+}

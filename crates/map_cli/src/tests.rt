@@ -1,0 +1,275 @@
+//! Whole runs, over the forms in memory and over the adapters.
+ghost use Rattle.std.specs.Prelude.{◌≤◌};
+
+use crate::top::run_within;
+use crate::{Status, run};
+use map_outside::{
+    Counts, FileShelf, MemoryShelf, MemorySink, MemorySource, ReadSource, WriteSink,
+};
+use std::alloc::{AllocError, Global};
+use std::test::Fail;
+
+const WORDS: [&str; 4] = ["run", "1", "-", "A=a"];
+
+const FILE: &[u8] =
+    b"ncols 3\nnrows 3\nxllcorner 0\nyllcorner 0\ncellsize 1\n1 2 3\n4 5 6\n7 8 9\n";
+
+const SESSION: &[u8] = b"B = LocalSum of A and 3\ngrid B\n";
+
+// The replies to the load, then to the first line too, then to both lines.
+const LOADED: &[u8] = b"ok 1\n";
+
+const SUMMED: &[u8] = b"ok 1\nok 2\n";
+
+const SHOWN: &[u8] =
+    b"ok 1\nok 2\nncols 3\nnrows 3\nxllcorner 0\nyllcorner 0\ncellsize 1\nNODATA_value -2000000001\n4 5 6\n7 8 9\n10 11 12\n";
+
+/// The numbers of the calls that fail. No call has the number 0.
+#[derive(Clone, Copy)]
+struct Fails {
+    shelf: u64,
+    source: u64,
+    sink: u64,
+}
+
+const NONE: Fails = Fails {
+    shelf: 0,
+    source: 0,
+    sink: 0,
+};
+
+fn owned(alloc: Global, texts: &[&str]) -> Result<Vec<String>, AllocError> {
+    let mut words = Vec::new(alloc);
+    for text in texts {
+        words.push(String::from_str(alloc, text)?)?;
+    }
+    Ok(words)
+}
+
+fn shelf_of(alloc: Global, file: &[u8], fails: Fails) -> Result<MemoryShelf, AllocError> {
+    let files = vec![in alloc; (String::from_str(alloc, "a")?, file.to_vec(alloc)?)]?;
+    Ok(MemoryShelf::new(files, vec![in alloc; fails.shelf]?))
+}
+
+// A run of these words: its code, and what it wrote.
+fn play(
+    alloc: Global,
+    texts: &[&str],
+    file: &[u8],
+    session: &[u8],
+    fails: Fails,
+) -> Result<(u8, Vec<u8>), AllocError> {
+    let words = owned(alloc, texts)?;
+    let mut shelf = shelf_of(alloc, file, fails)?;
+    let mut source = MemorySource::new(session.to_vec(alloc)?, 12, vec![in alloc; fails.source]?);
+    let mut sink = MemorySink::new(alloc, vec![in alloc; fails.sink]?);
+    let mut tally = Counts::new();
+    let status = run(
+        alloc,
+        &words,
+        &mut shelf,
+        &mut source,
+        &mut sink,
+        &mut tally,
+    );
+    Ok((status.code(), sink.bytes().to_vec(alloc)?))
+}
+
+// A run with these limits.
+fn play_within(
+    alloc: Global,
+    most: u64,
+    limit: u64,
+    session: &[u8],
+) -> Result<(Status, Vec<u8>), AllocError>
+    requires { limit ≤ 1073741824 }
+{
+    let words = owned(alloc, &WORDS)?;
+    let mut shelf = shelf_of(alloc, FILE, NONE)?;
+    let mut source = MemorySource::new(session.to_vec(alloc)?, 5, vec![in alloc]?);
+    let mut sink = MemorySink::new(alloc, vec![in alloc]?);
+    let mut tally = Counts::new();
+    let status = run_within(
+        alloc,
+        &words,
+        most,
+        limit,
+        &mut shelf,
+        &mut source,
+        &mut sink,
+        &mut tally,
+    );
+    Ok((status, sink.bytes().to_vec(alloc)?))
+}
+
+#[test]
+fn shows_a_sum(rt: HostRuntime) -> Result<(), Fail> {
+    let (code, wrote) = play(rt.alloc(), &WORDS, FILE, SESSION, NONE)?;
+    assert_eq!(rt; code, 0);
+    assert_eq!(rt; wrote.as_slice(), SHOWN);
+    Ok(())
+}
+
+#[test]
+fn refuses_lines(rt: HostRuntime) -> Result<(), Fail> {
+    let (code, wrote) = play(rt.alloc(), &WORDS, FILE, b"hello\r\ngrid Z", NONE)?;
+    assert_eq!(rt; code, 0);
+    assert_eq!(rt;
+        wrote.as_slice(),
+        b"ok 1\nrefused later\nundefined Z: Z\n".as_slice()
+    );
+    Ok(())
+}
+
+#[test]
+fn refuses_a_load(rt: HostRuntime) -> Result<(), Fail> {
+    let file =
+        b"NCOLS        2\r\nNROWS        2\r\nXLLCORNER    100.5\r\nYLLCORNER    -20.000000000000\r\nCELLSIZE     60.000000000000\r\n 1 2\r\n -9999 4\r\n";
+    let (code, wrote) = play(rt.alloc(), &WORDS, file, SESSION, NONE)?;
+    assert_eq!(rt; code, 3);
+    assert_eq!(rt; wrote.as_slice(), b"refused load A later\n".as_slice());
+    Ok(())
+}
+
+#[test]
+fn refuses_words(rt: HostRuntime) -> Result<(), Fail> {
+    for pair in ["A", "=a", "A=", "grid=a", "A.b=a"] {
+        let (code, wrote) = play(rt.alloc(), &["run", "1", "-", pair], FILE, SESSION, NONE)?;
+        assert_eq!(rt; (code, wrote.len()), (2, 0), "{pair}");
+    }
+    let (code, wrote) = play(rt.alloc(), &["run", "2", "-", "A=a"], FILE, SESSION, NONE)?;
+    assert_eq!(rt; (code, wrote.len()), (2, 0));
+    let (code, wrote) = play(rt.alloc(), &[], FILE, SESSION, NONE)?;
+    assert_eq!(rt; (code, wrote.len()), (2, 0));
+    Ok(())
+}
+
+#[test]
+fn stops_at_a_fault_of_the_source(rt: HostRuntime) -> Result<(), Fail> {
+    for (call, code, wrote) in [
+        (1, 5, LOADED),
+        (2, 5, LOADED),
+        (3, 5, SUMMED),
+        (4, 5, SHOWN),
+        (5, 0, SHOWN),
+    ] {
+        let fails = Fails {
+            shelf: 0,
+            source: call,
+            sink: 0,
+        };
+        let came = play(rt.alloc(), &WORDS, FILE, SESSION, fails)?;
+        assert_eq!(rt; came.0, code, "{call}");
+        assert_eq!(rt; came.1.as_slice(), wrote, "{call}");
+    }
+    Ok(())
+}
+
+#[test]
+fn stops_at_a_fault_of_the_sink(rt: HostRuntime) -> Result<(), Fail> {
+    for (call, code, wrote) in [
+        (1, 6, b"".as_slice()),
+        (2, 6, LOADED),
+        (3, 6, SUMMED),
+        (4, 0, SHOWN),
+    ] {
+        let fails = Fails {
+            shelf: 0,
+            source: 0,
+            sink: call,
+        };
+        let came = play(rt.alloc(), &WORDS, FILE, SESSION, fails)?;
+        assert_eq!(rt; came.0, code, "{call}");
+        assert_eq!(rt; came.1.as_slice(), wrote, "{call}");
+    }
+    Ok(())
+}
+
+#[test]
+fn stops_at_a_fault_of_the_shelf(rt: HostRuntime) -> Result<(), Fail> {
+    let fails = Fails {
+        shelf: 1,
+        source: 0,
+        sink: 0,
+    };
+    let (code, wrote) = play(rt.alloc(), &WORDS, FILE, SESSION, fails)?;
+    assert_eq!(rt; (code, wrote.len()), (4, 0));
+    let (code, wrote) = play(rt.alloc(), &["run", "1", "-", "A=b"], FILE, SESSION, NONE)?;
+    assert_eq!(rt; (code, wrote.len()), (4, 0));
+    Ok(())
+}
+
+#[test]
+fn keeps_to_the_limits(rt: HostRuntime) -> Result<(), Fail> {
+    let session = b"grid B\ngrid C";
+    for (most, limit, status, wrote) in [
+        (
+            69,
+            14,
+            Status::Done,
+            b"ok 1\nundefined B: B\nundefined C: C\n".as_slice(),
+        ),
+        (
+            69,
+            13,
+            Status::TooLong,
+            b"ok 1\nundefined B: B\n".as_slice(),
+        ),
+        (69, 6, Status::TooLong, LOADED),
+        (68, 14, Status::Load, b"refused load A later\n".as_slice()),
+    ] {
+        let came = play_within(rt.alloc(), most, limit, session)?;
+        assert_eq!(rt; came.0, status, "{most} {limit}");
+        assert_eq!(rt; came.1.as_slice(), wrote, "{most} {limit}");
+    }
+    Ok(())
+}
+
+#[test]
+fn refuses_a_long_line(rt: HostRuntime) -> Result<(), Fail> {
+    let alloc = rt.alloc();
+    let mut session = vec![in alloc; b' '; 4097]?;
+    session.extend_from_slice(b"\ngrid B")?;
+    let came = play_within(alloc, 69, 5000, &session)?;
+    assert_eq!(rt; came.0, Status::Done);
+    assert_eq!(rt;
+        came.1.as_slice(),
+        b"ok 1\nrefused later\nundefined B: B\n".as_slice()
+    );
+    Ok(())
+}
+
+#[test]
+fn runs_over_the_adapters(rt: HostRuntime) -> Result<(), Fail> {
+    let alloc = rt.alloc();
+    let words = owned(alloc, &WORDS)?;
+    let mut shelf = shelf_of(alloc, FILE, NONE)?;
+    let mut source = ReadSource::new(SESSION);
+    let mut tally = Counts::new();
+    let mut wrote = Vec::new(alloc);
+    {
+        let mut sink = WriteSink::new(&mut wrote);
+        let status = run(
+            alloc,
+            &words,
+            &mut shelf,
+            &mut source,
+            &mut sink,
+            &mut tally,
+        );
+        assert_eq!(rt; status, Status::Done);
+        let mut files = FileShelf::new(&rt);
+        let missing = owned(alloc, &["run", "1", "-", "A=no/such/file"])?;
+        let status = run(
+            alloc,
+            &missing,
+            &mut files,
+            &mut source,
+            &mut sink,
+            &mut tally,
+        );
+        assert_eq!(rt; status, Status::ShelfFault);
+    }
+    assert_eq!(rt; wrote.as_slice(), SHOWN);
+    Ok(())
+}

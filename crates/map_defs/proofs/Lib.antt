@@ -1,0 +1,11 @@
+pub mod Floors
+pub mod Roots
+pub mod Nets
+pub mod Rounds
+pub mod SpreadNet
+pub mod SpreadCells
+pub mod RegionCells
+pub mod Uniform
+pub mod Courses
+pub mod ZonalDamage
+pub mod Squares

@@ -1,0 +1,10 @@
+pub mod Lines
+pub mod States
+pub mod Values
+pub mod Forms
+pub mod Replies
+pub mod Steps
+pub mod Loads
+pub mod Text
+pub mod Words
+pub mod Play

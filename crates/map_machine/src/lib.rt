@@ -1,0 +1,21 @@
+//! The map machine: what the program means, as definitions.
+//!
+//! The machine keeps sources, statements and the number of edits, and evaluates every statement on whole grids at each
+//! reply. `specs/` has it, from the lines of a session's bytes (`Lines`) to the text of a whole run (`Play`). The engine and
+//! the top call are proved against it; nothing here runs.
+#![tactic(auto)]
+
+/// What became of a line.
+#[derive(Clone, Copy, Debug, PartialEq, Eq)]
+pub enum Kind {
+    /// Nothing is replied.
+    Silent,
+    /// The line is an edit, and was accepted.
+    Accepted,
+    /// The line is a request, and was answered.
+    Shown,
+    /// The line was refused, and changed nothing.
+    Refused,
+    /// The line ends the session.
+    Quit,
+}
