@@ -1,6 +1,7 @@
 -- Rows of lent tiles, and the grids that they are tiles of.
-use Rattle.std.proofs.Common.{◌≡◌, ℕ, suc, ◌+◌, ◌*◌, ◌<◌, List, [], ◌∷◌, ◌++◌, length, get_or, set, take, drop, IsTrue, IsFalse, Option, None, ℤ, Result, refl, sym, ◌∙◌, ap, subst, arith}
-use Rattle.std.proofs.lemmas.List.{get_or-take, get_or-drop, get_or_default, map_more, get_or-map}
+use Rattle.std.proofs.Common.{◌≡◌, ℕ, zero, suc, ◌+◌, ◌*◌, ◌<◌, List, [], ◌∷◌, ◌++◌, length, map, get_or, set, take, drop, IsTrue, IsFalse, Option, None, ℤ, Result, refl, sym, ◌∙◌, ap, subst, arith, Bor}
+use Rattle.std.specs.List.{All}
+use Rattle.std.proofs.lemmas.List.{get_or-take, get_or-drop, get_or_default, map_more, map-append, get_or-map}
 use Rattle.std.proofs.lemmas.List.FromFn.{get_or-map-range_with_len}
 use Rattle.std.proofs.lemmas.Nat.{mul-add-lt}
 use Rattle.map_nums.specs.Answers.{is_wide}
@@ -20,16 +21,49 @@ use Rattle.local_ops.specs.Operands.{cells_after, blocks_of, cells_of, cell_by, 
 pub cell_read : (row : Cells) (c n : ℕ) (x y : Option ℤ) → c < n → length row ≡ n → x ≡ get_or row c x → y ≡ x → get_or row c None ≡ y
 cell_read row c n x y l e i v = get_or_default row c None x (omega arith) ∙ sym i ∙ sym v
 
--- one more rectangle's cell
-pub row_cells-more : (blocks : List Block) (k r c : ℕ) (b : Block) (cell : Option ℤ) → k < length blocks → b ≡ get_or blocks k b → get_or (block_row b r) c None ≡ cell → row_cells (take (k + 1) blocks) r c ≡ row_cells (take k blocks) r c ++ cell ∷ []
-row_cells-more blocks k r c b cell l i e =
-    map_more (λ (a : Block). get_or (block_row a r) c None) blocks k b l
-    ∙ ap (λ x. row_cells (take k blocks) r c ++ x ∷ []) (ap (λ (a : Block). get_or (block_row a r) c None) (sym i) ∙ e)
+-- one more cell of a list's column
+pub column-more : {X : Type 0} (cell_of : X → Option ℤ) (xs : List X) (k : ℕ) (x : X) (cell : Option ℤ) → k < length xs → x ≡ get_or xs k x → cell_of x ≡ cell → map cell_of (take (k + 1) xs) ≡ map cell_of (take k xs) ++ cell ∷ []
+column-more cell_of xs k x cell l i e = map_more cell_of xs k x l ∙ ap (λ y. map cell_of (take k xs) ++ y ∷ []) (ap cell_of (sym i) ∙ e)
 
-pub row_cells-get : (blocks : List Block) (k r c : ℕ) (b : Block) (cell : Option ℤ) → k < length blocks → b ≡ get_or blocks k b → get_or (block_row b r) c None ≡ cell → get_or (row_cells blocks r c) k None ≡ cell
-row_cells-get blocks k r c b cell l i e =
-    get_or-map (λ (a : Block). get_or (block_row a r) c None) blocks k b None l
-    ∙ ap (λ (a : Block). get_or (block_row a r) c None) (sym i) ∙ e
+pub column-get : {X : Type 0} (cell_of : X → Option ℤ) (xs : List X) (k : ℕ) (x : X) (cell : Option ℤ) → k < length xs → x ≡ get_or xs k x → cell_of x ≡ cell → get_or (map cell_of xs) k None ≡ cell
+column-get cell_of xs k x cell l i e = get_or-map cell_of xs k x None l ∙ ap cell_of (sym i) ∙ e
+
+-- the rows that were lent, and their cells
+pub rows-more : {Y : Type 0} (f : Bor Cells → Y) (g : Block → Y) (views : List Block) (k : ℕ) (b : Block) (old new : List (Bor Cells)) (row : Bor Cells) → k < length views → b ≡ get_or views k b → map f old ≡ map g (take k views) → new ≡ old ++ row ∷ [] → f row ≡ g b → map f new ≡ map g (take (k + 1) views)
+rows-more f g views k b old new row l i o n e =
+    ap (map f) n ∙ map-append f old (row ∷ []) ∙ ap (λ ys. ys ++ f row ∷ []) o ∙ ap (λ y. map g (take k views) ++ y ∷ []) (e ∙ ap g i) ∙ sym (map_more g views k b l)
+
+pub rows-column : (rows : List (Bor Cells)) (views : List Block) (r c : ℕ) → map (λ row. row.now) rows ≡ map (λ b. block_row b r) views → map (λ row. get_or row.now c None) rows ≡ row_cells views r c
+rows-column [] [] r c e = refl
+rows-column [] (b ∷ views) r c e = cc
+rows-column (row ∷ rows) [] r c e = cc
+rows-column (row ∷ rows) (b ∷ views) r c e =
+    let head : row.now ≡ block_row b r = cc in
+    let tail : map (λ row. row.now) rows ≡ map (λ b. block_row b r) views = cc in
+    ap (λ (cells : Cells). get_or cells c None ∷ map (λ row. get_or row.now c None) rows) head ∙ ap (λ xs. get_or (block_row b r) c None ∷ xs) (rows-column rows views r c tail)
+
+pub rows-wide : (rows : List (Bor Cells)) (views : List Block) (h w c : ℕ) → map (λ row. length row.now) rows ≡ map (λ b. b.width) views → HaveSize h w views → c < w → All (λ row. c < length row.now) rows
+rows-wide [] views h w c e s l k d m = absurd (omega (arith, m))
+rows-wide (row ∷ rows) [] h w c e s l k d m = let no : ⊥ = cc in absurd no
+rows-wide (row ∷ rows) (b ∷ views) h w c e s l zero d m =
+    let head : length row.now ≡ b.width = cc in
+    let same : b.width ≡ w = (s 0 b (omega arith)).1 in
+    rw (head, same) l
+rows-wide (row ∷ rows) (b ∷ views) h w c e s l (suc k) d m =
+    let tail : map (λ row. length row.now) rows ≡ map (λ b. b.width) views = cc in
+    rows-wide rows views h w c tail (λ j x n. s (suc j) x (omega arith)) l k d (omega arith)
+
+-- the cells of two operands
+pub row_cells-two : (views : List Block) (h w r c : ℕ) (a b : Block) (left right : Cells) (x y : Option ℤ) → HaveSize h w views → length views ≡ 2 → c < w → a ≡ get_or views 0 a → left ≡ block_row a r → length left ≡ a.width → x ≡ get_or left c x → b ≡ get_or views 1 b → right ≡ block_row b r → length right ≡ b.width → y ≡ get_or right c y → row_cells views r c ≡ x ∷ y ∷ []
+row_cells-two [] h w r c a b left right x y s n l i e m p j f o q = absurd (omega (arith, n))
+row_cells-two (d ∷ []) h w r c a b left right x y s n l i e m p j f o q = absurd (omega (arith, n))
+row_cells-two (d ∷ d' ∷ d'' ∷ views) h w r c a b left right x y s n l i e m p j f o q = absurd (omega (arith, n))
+row_cells-two (d ∷ d' ∷ []) h w r c a b left right x y s n l i e m p j f o q =
+    let first : a.width ≡ w = subst (λ (z : Block). z.width ≡ w) (sym i) (s 0 d (omega arith)).1 in
+    let second : b.width ≡ w = subst (λ (z : Block). z.width ≡ w) (sym j) (s 1 d' (omega arith)).1 in
+    let there : get_or (block_row d r) c None ≡ x = subst (λ (z : Block). get_or (block_row z r) c None ≡ x) i (subst (λ (cells : Cells). get_or cells c None ≡ x) e (cell_read left c w x x l (m ∙ first) p refl)) in
+    let beside : get_or (block_row d' r) c None ≡ y = subst (λ (z : Block). get_or (block_row z r) c None ≡ y) j (subst (λ (cells : Cells). get_or cells c None ≡ y) f (cell_read right c w y y l (o ∙ second) q refl)) in
+    ap (λ z. z ∷ get_or (block_row d' r) c None ∷ []) there ∙ ap (λ z. x ∷ z ∷ []) beside
 
 -- the cells in a row and a column are those at their place
 pub row_cells-is : (h w r c : ℕ) (blocks : List Block) → HaveSize h w blocks → c < w → row_cells blocks r c ≡ cells_of blocks (r * w + c)

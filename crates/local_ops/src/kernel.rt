@@ -1,16 +1,18 @@
 //! A tile of a Local operation.
-ghost use Rattle.std.specs.Prelude.{◌≡◌, ◌+◌, ◌*◌, ◌<◌, length, IfOk, IsFalse};
+ghost use Rattle.std.specs.Prelude.{◌≡◌, ◌+◌, ◌*◌, ◌<◌, length, map, IfOk, IsFalse};
 ghost use Rattle.std.specs.List.{All};
 ghost use Rattle.map_nums.specs.Answers.{IsAnswer, is_wide};
+ghost use Rattle.map_nums.specs.Grids.{cell_at};
 ghost use Rattle.map_defs.specs.Local.{local_cell, local_grid};
-ghost use Rattle.layer_tiles.specs.Tiles.{tiles_in, tile_height, tile_width};
+ghost use Rattle.layer_tiles.specs.Tiles.{block_row, tiles_in, tile_height, tile_width};
 ghost use Rattle.layer_tiles.specs.Tallies.{RisesBy};
 ghost use Rattle.layer_tiles.specs.Answers.{IsTileAnswer};
 ghost use Rattle.layer_tiles.specs.PlaceByPlace.{IsMade, IsPlacesAnswer, IsRowAnswer};
 ghost use Rattle.local_ops.specs.Operations.{op_of, Takes};
-ghost use Rattle.local_ops.specs.Operands.{size_of, cells_after, blocks_of, cell_by, row_cells, HaveSize};
+ghost use Rattle.local_ops.specs.Operands.{size_of, cells_after, blocks_of, cell_by, HaveSize};
 
 use crate::ops::LocalOp;
+use crate::pairs::of_two;
 use crate::values::value_of;
 use layer_tiles::{Cell, Extent, KernelRefusal, NoMemory, Operands, Tally, Tile, TileView, Value};
 use map_nums::StatRefusal;
@@ -105,10 +107,36 @@ fn make_row(
     requires rows_above { IsMade (cell_by (op_of op.now) views.now) (tile_height extent tile) (tile_width extent tile) (r * tile_width extent tile) made.old }
     ensures { IsRowAnswer (cell_by (op_of op.now) views.now) extent tile r made.new result }
 {
+    if views.len() == 2 {
+        return row_of_two(alloc, op, views, extent, tile, r, made);
+    }
+    row_of_any(alloc, op, views, extent, tile, r, made)
+}
+
+/// A row of a tile of two operands.
+fn row_of_two(
+    alloc: Global,
+    op: &LocalOp,
+    views: &[TileView<'_>],
+    extent: Extent,
+    tile: u32,
+    r: u32,
+    made: &mut Tile,
+) -> Result<(), KernelRefusal>
+    requires two { length views.now ≡ 2 }
+    requires takes { Takes (op_of op.now) 2 }
+    requires within { tile < tiles_in extent }
+    requires sizes { HaveSize (tile_height extent tile) (tile_width extent tile) views.now }
+    requires row { r < tile_height extent tile }
+    requires rows_above { IsMade (cell_by (op_of op.now) views.now) (tile_height extent tile) (tile_width extent tile) (r * tile_width extent tile) made.old }
+    ensures { IsRowAnswer (cell_by (op_of op.now) views.now) extent tile r made.new result }
+{
     let place = extent.place(tile);
     let start = (place.top + r) * extent.columns() + place.left;
+    let left = views[0].row(r);
+    let right = views[1].row(r);
     for c in 0..place.width {
-        match value_at(alloc, op, views, r, c) {
+        match of_two(alloc, op, left[c as usize], right[c as usize]) {
             Ok(value) => made.set(r, c, cell_of(value)),
             Err(StatRefusal::Wide) => return Err(KernelRefusal::Overflow(start + c)),
             Err(StatRefusal::NoMemory) => return Err(KernelRefusal::NoMemory),
@@ -117,26 +145,74 @@ fn make_row(
     Ok(())
 }
 
-/// The operation's value in row `r` and column `c`, null where an operand is null there.
-fn value_at(
+/// A row of a tile of any operands.
+fn row_of_any(
     alloc: Global,
     op: &LocalOp,
     views: &[TileView<'_>],
+    extent: Extent,
+    tile: u32,
     r: u32,
+    made: &mut Tile,
+) -> Result<(), KernelRefusal>
+    requires takes { Takes (op_of op.now) (length views.now) }
+    requires within { tile < tiles_in extent }
+    requires sizes { HaveSize (tile_height extent tile) (tile_width extent tile) views.now }
+    requires row { r < tile_height extent tile }
+    requires rows_above { IsMade (cell_by (op_of op.now) views.now) (tile_height extent tile) (tile_width extent tile) (r * tile_width extent tile) made.old }
+    ensures { IsRowAnswer (cell_by (op_of op.now) views.now) extent tile r made.new result }
+{
+    let place = extent.place(tile);
+    let start = (place.top + r) * extent.columns() + place.left;
+    let Ok(rows) = rows_of(alloc, views, r) else {
+        return Err(KernelRefusal::NoMemory);
+    };
+    for c in 0..place.width {
+        match value_at(alloc, op, &rows, c) {
+            Ok(value) => made.set(r, c, cell_of(value)),
+            Err(StatRefusal::Wide) => return Err(KernelRefusal::Overflow(start + c)),
+            Err(StatRefusal::NoMemory) => return Err(KernelRefusal::NoMemory),
+        }
+    }
+    Ok(())
+}
+
+/// Row `r` of each operand.
+fn rows_of<'a, 'b>(
+    alloc: Global,
+    views: &'a [TileView<'b>],
+    r: u32,
+) -> Result<Vec<&'a [Cell]>, NoMemory>
+    requires { All (λ b. r < b.height) views.now }
+    ensures rows { IfOk result (λ rows. map (λ row. row.now) rows.items ≡ map (λ b. block_row b r) views.now) }
+    ensures widths { IfOk result (λ rows. map (λ row. length row.now) rows.items ≡ map (λ b. b.width) views.now) }
+{
+    let mut rows = Vec::new(alloc);
+    for view in views {
+        rows.push(view.row(r))?;
+    }
+    Ok(rows)
+}
+
+/// The operation's value in column `c` of rows, null where an operand is null there.
+fn value_at(
+    alloc: Global,
+    op: &LocalOp,
+    rows: &[&[Cell]],
     c: u32,
 ) -> Result<Option<Value>, StatRefusal>
-    requires takes { Takes (op_of op.now) (length views.now) }
-    requires within { All (λ b. (r < b.height) × (c < b.width)) views.now }
-    ensures { IsAnswer (local_cell (op_of op.now) (row_cells views.now r c)) result }
+    requires takes { Takes (op_of op.now) (length rows.now) }
+    requires within { All (λ row. c < length row.now) rows.now }
+    ensures { IsAnswer (local_cell (op_of op.now) (map (λ row. cell_at row.now c) rows.now)) result }
 {
     let mut values = [0; 8];
-    for (k, view) in views.iter().enumerate() {
-        match view.row(r)[c as usize].get() {
+    for (k, row) in rows.iter().enumerate() {
+        match row[c as usize].get() {
             Some(value) => values[k] = value,
             None => return Ok(None),
         }
     }
-    value_of(alloc, op, &values[..views.len()])
+    value_of(alloc, op, &values[..rows.len()])
 }
 
 /// The cell of a value that is in range.

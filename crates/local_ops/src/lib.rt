@@ -6,6 +6,7 @@
 
 mod kernel;
 mod ops;
+mod pairs;
 mod values;
 
 pub use kernel::local_tile;

@@ -26,7 +26,7 @@ pub(crate) fn value_of(
 }
 
 /// The floor of `left / right`, null where `right` is 0.
-fn ratio(left: Value, right: Value) -> Result<Option<Value>, StatRefusal>
+pub(crate) fn ratio(left: Value, right: Value) -> Result<Option<Value>, StatRefusal>
     ensures { IsAnswer (ratio_of left right) result }
 {
     match floor_div(left as i64, right as i64) {
