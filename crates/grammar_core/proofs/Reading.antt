@@ -75,8 +75,8 @@ module _ {W X : Type 0} (g : Tests W) where
   body_place {A = A} f h r due none nodes reads w ws = go (f w)
     where
       go : (s : Option A) → cond (is_unknown g (w ∷ ws)) (refused Operation (suc (length ws))) (or_refused s (suc (length ws)) (λ v. h v ws))
-         ≡ cond (is_node (after (f g.operation) r) && is_unknown g (w ∷ ws)) (refused Operation (suc (length ws)))
-           (cond (is_node (after s r)) (run g (after s r) ws) (refused (kind_at g (next f r) (w ∷ ws)) (suc (length ws))))
+          ≡ cond (is_node (after (f g.operation) r) && is_unknown g (w ∷ ws)) (refused Operation (suc (length ws)))
+          (cond (is_node (after s r)) (run g (after s r) ws) (refused (kind_at g (next f r) (w ∷ ws)) (suc (length ws))))
       go None = rw (taken_is r nodes (f g.operation), due, taken_is r nodes (f g.number), none) refl
       go (Some v) = rw (taken_is r nodes (f g.operation), due, nodes v) (ap (cond (is_unknown g (w ∷ ws)) (refused Operation (suc (length ws)))) (reads v ws))
 
@@ -96,8 +96,8 @@ module _ {W X : Type 0} (g : Tests W) where
   start_place {A = A} {B = B} e f f' h j q p pl pl' nq np hq jp w ws = go (f w) (f' w)
     where
       go : (s : Option A) (s' : Option B) → or_else s (or_refused s' (suc (length ws)) (λ v. j v ws)) (λ v. h v ws)
-         ≡ cond (is_node (or_rule (after (f g.operation) q) (after (f' g.operation) p)) && is_unknown g (w ∷ ws)) (refused Operation (suc (length ws)))
-           (cond (is_node (or_rule (after s q) (after s' p))) (run g (or_rule (after s q) (after s' p)) ws) (refused (kind_at g (node e (on f q <|> on f' p)) (w ∷ ws)) (suc (length ws))))
+          ≡ cond (is_node (or_rule (after (f g.operation) q) (after (f' g.operation) p)) && is_unknown g (w ∷ ws)) (refused Operation (suc (length ws)))
+          (cond (is_node (or_rule (after s q) (after s' p))) (run g (or_rule (after s q) (after s' p)) ws) (refused (kind_at g (node e (on f q <|> on f' p)) (w ∷ ws)) (suc (length ws))))
       go None None = rw (pl.free, pl'.free, not_there (f g.number) q pl.number, not_there (f' g.number) p pl'.number) refl
       go None (Some v) = rw (pl.free, pl'.free, np v) (jp v ws)
       go (Some v) s' = rw (pl.free, pl'.free, or_left (q v) (after s' p) (nq v), nq v) (hq v ws)
