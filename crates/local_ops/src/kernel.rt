@@ -108,14 +108,13 @@ fn make_row(
     ensures { IsRowAnswer (cell_by (op_of op.now) views.now) extent tile r made.new result }
 {
     if views.len() == 2 {
-        return row_of_two(alloc, op, views, extent, tile, r, made);
+        return row_of_two(op, views, extent, tile, r, made);
     }
     row_of_any(alloc, op, views, extent, tile, r, made)
 }
 
 /// A row of a tile of two operands.
 fn row_of_two(
-    alloc: Global,
     op: &LocalOp,
     views: &[TileView<'_>],
     extent: Extent,
@@ -136,7 +135,7 @@ fn row_of_two(
     let left = views[0].row(r);
     let right = views[1].row(r);
     for c in 0..place.width {
-        match of_two(alloc, op, left[c as usize], right[c as usize]) {
+        match of_two(op, left[c as usize], right[c as usize]) {
             Ok(value) => made.set(r, c, cell_of(value)),
             Err(StatRefusal::Wide) => return Err(KernelRefusal::Overflow(start + c)),
             Err(StatRefusal::NoMemory) => return Err(KernelRefusal::NoMemory),

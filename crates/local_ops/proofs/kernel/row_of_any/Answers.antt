@@ -1,4 +1,4 @@
-use Rattle.std.proofs.Common.{◌≡◌, ◌<◌, Option, None, ℤ, length, map, get_or, arith, refl, ap, ◌∙◌, subst, IsTrue, IsFalse, Bor}
+use Rattle.std.proofs.Common.{◌≡◌, None, length, map, get_or, arith, refl, ap, ◌∙◌, subst, IsTrue, IsFalse, Bor}
 use Rattle.map_nums.specs.Answers.{is_wide}
 use Rattle.map_nums.specs.Grids.{Cells}
 use Rattle.map_defs.specs.Local.{local_cell}
