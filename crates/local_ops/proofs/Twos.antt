@@ -1,5 +1,5 @@
 -- The statistics of two numbers.
-use Rattle.std.proofs.Common.{◌≡◌, ◌≢◌, ◌⊎◌, inl, inr, ℕ, zero, suc, ◌+◌, Bool, true, false, cond, ◌&&◌, ◌||◌, ◌==◌, List, [], ◌∷◌, Option, Some, ℤ, ◌+ℤ◌, ◌≤ℤ◌, ◌<ℤ◌, refl, sym, ◌∙◌, ap, arith}
+use Rattle.std.proofs.Common.{◌≡◌, ◌⊎◌, inl, inr, ℕ, zero, suc, ◌+◌, Bool, true, false, cond, ◌&&◌, ◌||◌, ◌==◌, List, [], ◌∷◌, Option, Some, ℤ, ◌≤ℤ◌, ◌<ℤ◌, refl, sym, ◌∙◌, ap, arith}
 use Rattle.std.specs.Prelude.{int_le, nat_lt}
 use Rattle.std.specs.List.{find, list_all}
 use Rattle.std.specs.List.Sorted.{IsPermutation, IsSorted}
@@ -7,16 +7,13 @@ use Rattle.std.specs.Ordering.{int_cmp, int_eq, is_lt, max_by_ordering, min_by_o
 use Rattle.std.proofs.lemmas.Int.{ints, by_lt_z}
 use Rattle.std.proofs.lemmas.Bool.Decides.{nat_tests}
 use Rattle.std.proofs.lemmas.List.Sorted.{IsPermutation-refl, IsPermutation-swap}
-use Rattle.map_nums.specs.Stats.{statistic_of, total_of, occurrences, maximum_of, minimum_of, median_of, majority_of, minority_of, variety_of, leads, trails}
+use Rattle.map_nums.specs.Stats.{statistic_of, occurrences, maximum_of, minimum_of, median_of, majority_of, minority_of, leads, trails}
 use Rattle.map_nums.specs.declared.Stat.{Stat}
 use Rattle.map_nums.specs.declared.Stat.TheVariants.{Minimum, Median, Majority, Minority}
-use Rattle.map_nums.proofs.Ascending.{equals_itself, differs}
+use Rattle.map_nums.proofs.Ascending.{equals_itself}
 use Rattle.map_nums.proofs.Extremes.{maximum_from_reduce, minimum_from_reduce}
 use Rattle.map_nums.proofs.Medians.{median_from_sorted}
 use Rattle.map_nums.proofs.Reorders.{statistic_of-permutation}
-
-pub total_of-two : (a b : ℤ) → a +ℤ b ≡ total_of (a ∷ b ∷ [])
-total_of-two a b = omega (arith, ints)
 
 greater_right : (a b : ℤ) → a <ℤ b → max_by_ordering (int_cmp a b) a b ≡ b
 greater_right a b l = grind (arith, ints)
@@ -118,15 +115,3 @@ is_least stat a b (inl e) = rw (e) refl
 is_least stat a b (inr (inl e)) = rw (e) (median_of-two a b)
 is_least stat a b (inr (inr (inl e))) = rw (e) (majority_of-two a b)
 is_least stat a b (inr (inr (inr e))) = rw (e) (minority_of-two a b)
-
--- ---- how many different numbers two are
-
-variety_by : (e : Bool) → (cond (e || false) 0 1 + (1 + 0)) ≡ cond e 1 2
-variety_by true = refl
-variety_by false = refl
-
-pub variety_of-same : (a b : ℤ) → a ≡ b → variety_of (a ∷ b ∷ []) ≡ 1
-variety_of-same a b e = variety_by (int_eq b a) ∙ ap (λ v. cond v 1 2) (ap (int_eq b) e ∙ equals_itself b)
-
-pub variety_of-different : (a b : ℤ) → a ≢ b → variety_of (a ∷ b ∷ []) ≡ 2
-variety_of-different a b n = variety_by (int_eq b a) ∙ ap (λ v. cond v 1 2) (differs b a (λ e. n (sym e)))
