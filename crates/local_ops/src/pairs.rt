@@ -7,8 +7,8 @@ ghost use Rattle.map_defs.specs.Local.{local_cell, of_numbers};
 ghost use Rattle.local_ops.specs.Operations.{op_of, Takes};
 
 use crate::ops::LocalOp;
-use crate::values::ratio;
-use layer_tiles::{Cell, VMAX, Value};
+use crate::values::{difference, kept, ratio};
+use layer_tiles::{Cell, Value};
 use map_nums::{Stat, StatRefusal};
 
 /// The operation's value of two cells, null where one is null.
@@ -32,7 +32,7 @@ fn of_pair(op: &LocalOp, left: Value, right: Value) -> Result<Option<Value>, Sta
 {
     match op {
         LocalOp::Stat(stat) => statistic_of_pair(*stat, left, right),
-        LocalOp::Difference => kept(left as i64 - right as i64),
+        LocalOp::Difference => difference(left, right),
         LocalOp::Ratio => ratio(left, right),
         LocalOp::Rating(_) => unreachable!(),
     }
@@ -95,14 +95,4 @@ fn lesser(left: Value, right: Value) -> Value
     ensures { minimum_of (left ∷ right ∷ []) ≡ Some result }
 {
     if right < left { right } else { left }
-}
-
-/// The number, or that no cell may hold it.
-fn kept(number: i64) -> Result<Option<Value>, StatRefusal>
-    ensures { IsAnswer (Some number) result }
-{
-    if number < -VMAX || number > VMAX {
-        return Err(StatRefusal::Wide);
-    }
-    Ok(Some(number as i32))
 }
