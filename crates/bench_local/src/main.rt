@@ -1,13 +1,14 @@
 //! Measures the Local kernel: so many times the sum of two layers of 1000 by 1000 cells, tile by tile, in memory.
 //!
-//! The one word is the number of rounds. What is printed is the sum of the first cells of all tiles of the last round, so
-//! that no round can be left out. `bench/local` tells the time of a cell from two such runs.
+//! The first word is the number of rounds. With `copy` for the second, the tiles of the left layer are copied cell by cell
+//! instead, to compare with. What is printed is the sum of the first cells of all tiles of the last round, so that no round
+//! can be left out. `bench/local` tells the time of a cell from two such runs.
 #![tactic(auto)]
 
-ghost use Rattle.std.specs.Prelude.{◌≡◌, ◌<◌, IfOk};
+ghost use Rattle.std.specs.Prelude.{◌≡◌, ◌<◌, length, IfOk};
 ghost use Rattle.layer_tiles.specs.Tiles.{tiles_in};
 
-use layer_tiles::{Cell, Change, Extent, KernelRefusal, Layer, NoMemory, Operands};
+use layer_tiles::{Cell, Change, Extent, KernelRefusal, Layer, NoMemory, Operands, Tile};
 use local_ops::{LocalOp, local_tile};
 use map_nums::Stat;
 use map_outside::Counts;
@@ -17,6 +18,13 @@ use std::{env, io};
 
 /// The rows and the columns of the layers.
 const SIDE: u32 = 1000;
+
+/// What is measured.
+#[derive(Clone, Copy)]
+enum Work {
+    Sum,
+    Copy,
+}
 
 // A layer whose cells rise by rows and by columns, and begin anew at 1000.
 fn waves(alloc: Global, extent: Extent, by_row: u32, by_column: u32) -> Result<Layer, NoMemory>
@@ -35,9 +43,57 @@ fn waves(alloc: Global, extent: Extent, by_row: u32, by_column: u32) -> Result<L
     Layer::from_cells(alloc, extent, &cells, 1)
 }
 
-// The first cell of a tile of the two layers' sum.
+// A tile of the two layers' sum.
+fn sum(
+    alloc: Global,
+    left: &Layer,
+    right: &Layer,
+    tile: u32,
+    tally: &mut Counts,
+) -> Result<Tile, KernelRefusal>
+    requires same { left.now.size ≡ right.now.size }
+    requires within { tile < tiles_in left.now.size }
+{
+    let mut operands = Operands::new();
+    operands.push(Change::same(left));
+    operands.push(Change::same(right));
+    local_tile(alloc, &LocalOp::Stat(Stat::Sum), &operands, tile, tally)
+}
+
+// A copy of a tile of a layer.
+fn copy(alloc: Global, layer: &Layer, tile: u32, tally: &mut Counts) -> Result<Tile, KernelRefusal>
+    requires { tile < tiles_in layer.now.size }
+{
+    let extent = layer.extent();
+    let change = Change::same(layer);
+    let view = change.view(tile, tally);
+    let Ok(mut made) = Tile::new(alloc, extent, tile, Cell::null()) else {
+        return Err(KernelRefusal::NoMemory);
+    };
+    let place = extent.place(tile);
+    for r in 0..place.height {
+        copy_row(view.row(r), r, place.width, &mut made);
+    }
+    Ok(made)
+}
+
+// Copies a row of so many cells into a tile.
+fn copy_row(row: &[Cell], r: u32, width: u32, made: &mut Tile)
+    requires row { r < made.old.height }
+    requires columns { width ≡ made.old.width }
+    requires cells { width ≡ length row.now }
+    ensures height { made.new.height ≡ made.old.height }
+    ensures width { made.new.width ≡ made.old.width }
+{
+    for c in 0..width {
+        made.set(r, c, row[c as usize]);
+    }
+}
+
+// The first cell of a tile that the work makes.
 fn corner(
     alloc: Global,
+    work: Work,
     left: &Layer,
     right: &Layer,
     tile: u32,
@@ -46,29 +102,29 @@ fn corner(
     requires same { left.now.size ≡ right.now.size }
     requires within { tile < tiles_in left.now.size }
 {
-    let mut operands = Operands::new();
-    operands.push(Change::same(left));
-    operands.push(Change::same(right));
-    let made = local_tile(alloc, &LocalOp::Stat(Stat::Sum), &operands, tile, tally)?;
+    let made = match work {
+        Work::Sum => sum(alloc, left, right, tile, tally)?,
+        Work::Copy => copy(alloc, left, tile, tally)?,
+    };
     let first = made.row(0).first();
     Ok(first.and_then(|cell| cell.get()).unwrap_or(0) as i64)
 }
 
-// The sum of the first cells of all tiles of the two layers' sum.
-fn sum_once(alloc: Global, left: &Layer, right: &Layer) -> Result<i64, KernelRefusal>
+// The sum of the first cells of all tiles.
+fn round(alloc: Global, work: Work, left: &Layer, right: &Layer) -> Result<i64, KernelRefusal>
     requires { left.now.size ≡ right.now.size }
 {
     let mut tally = Counts::new();
     let mut total: i64 = 0;
     for tile in 0..left.extent().tiles() {
-        let first = corner(alloc, left, right, tile, &mut tally)?;
+        let first = corner(alloc, work, left, right, tile, &mut tally)?;
         total = total.wrapping_add(first);
     }
     Ok(total)
 }
 
 // So many rounds, and the sum of the last.
-fn rounds(alloc: Global, count: u32) -> Result<i64, KernelRefusal> {
+fn rounds(alloc: Global, work: Work, count: u32) -> Result<i64, KernelRefusal> {
     let Some(extent) = Extent::new(SIDE, SIDE) else {
         return Err(KernelRefusal::NoMemory);
     };
@@ -80,22 +136,28 @@ fn rounds(alloc: Global, count: u32) -> Result<i64, KernelRefusal> {
     };
     let mut total = 0;
     for _ in 0..count {
-        total = sum_once(alloc, &left, &right)?;
+        total = round(alloc, work, &left, &right)?;
     }
     Ok(total)
 }
 
-// The number of rounds that the first word after the program's name is; 1 where there is none.
-fn count_of(rt: &HostRuntime) -> io::Result<u32> {
-    for word in env::args(rt)?.skip(1) {
-        return Ok(word.parse().unwrap_or(1));
-    }
-    Ok(1)
+// The number of rounds, 1 where no word says it, and the work.
+fn task(rt: &HostRuntime) -> io::Result<(u32, Work)> {
+    let mut words = env::args(rt)?.skip(1);
+    let count = match words.next() {
+        Some(word) => word.parse().unwrap_or(1),
+        None => 1,
+    };
+    let work = match words.next() {
+        Some(word) if word.as_str() == "copy" => Work::Copy,
+        _ => Work::Sum,
+    };
+    Ok((count, work))
 }
 
 fn main(rt: HostRuntime) -> ExitCode {
-    let count = count_of(&rt).unwrap_or(1);
-    match rounds(rt.alloc(), count) {
+    let (count, work) = task(&rt).unwrap_or((1, Work::Sum));
+    match rounds(rt.alloc(), work, count) {
         Ok(total) => match println!(&rt; "{total}") {
             Ok(()) => ExitCode::from(0),
             Err(_) => ExitCode::from(1),

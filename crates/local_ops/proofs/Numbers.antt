@@ -3,7 +3,6 @@ use Rattle.std.proofs.Common.{◌≡◌, ℕ, zero, suc, ◌<◌, ◌≤◌, Lis
 use Rattle.std.proofs.lemmas.Int.{ints}
 use Rattle.std.proofs.lemmas.Bool.Decides.{Decides-int_eq}
 use Rattle.std.specs.Ordering.{int_eq}
-use Rattle.std.specs.Int.{w128}
 use Rattle.map_nums.specs.Numbers.{IsFloor}
 use Rattle.map_nums.specs.Grids.{Cells}
 use Rattle.map_defs.specs.Local.{LocalOp, of_stat, difference, ratio, rating, all_numbers, ratio_of}
@@ -49,6 +48,3 @@ ratio_is a b q h = rw (other (int_eq b (pos 0)) (b ≡ pos 0) (Decides-int_eq b 
 -- numbers in wider words
 pub widened : (z : ℤ) → FitsSigned w32 z → to_z w64 (of_z w64 (to_z w32 (of_z w32 z))) ≡ z
 widened z f = omega (arith, ints)
-
-pub widened_long : (z : ℤ) → FitsSigned w64 z → to_z w128 (of_z w128 (to_z w64 (of_z w64 z))) ≡ z
-widened_long z f = omega (arith, ints)

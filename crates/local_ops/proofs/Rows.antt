@@ -1,21 +1,25 @@
 -- Rows of lent tiles, and the grids that they are tiles of.
-use Rattle.std.proofs.Common.{◌≡◌, ℕ, zero, suc, ◌+◌, ◌*◌, ◌<◌, List, [], ◌∷◌, ◌++◌, length, map, get_or, set, take, drop, IsTrue, IsFalse, Option, None, ℤ, Result, refl, sym, ◌∙◌, ap, subst, arith, Bor}
+use Rattle.std.proofs.Common.{◌≡◌, ℕ, zero, suc, ◌+◌, ◌*◌, ◌<◌, List, [], ◌∷◌, ◌++◌, length, map, get_or, set, take, drop, IsTrue, IsFalse, Option, None, ℤ, Result, Ok, Err, IfOk, refl, sym, ◌∙◌, ap, subst, arith, Bor}
 use Rattle.std.specs.List.{All}
 use Rattle.std.proofs.lemmas.List.{get_or-take, get_or-drop, get_or_default, map_more, map-append, get_or-map}
 use Rattle.std.proofs.lemmas.List.FromFn.{get_or-map-range_with_len}
 use Rattle.std.proofs.lemmas.Nat.{mul-add-lt}
-use Rattle.map_nums.specs.Answers.{is_wide}
+use Rattle.map_nums.specs.Answers.{is_wide, IsAnswer}
 use Rattle.map_nums.specs.Grids.{Size, IsSize, Cells, cells_in}
 use Rattle.map_defs.specs.Local.{LocalOp, local_cell, local_at, local_grid, cells_at}
 use Rattle.layer_tiles.specs.Tiles.{Block, block_row, tile_start, tile_top, tile_left, tile_height, tile_width, tiles_in}
 use Rattle.layer_tiles.specs.Changes.{ChangeState}
 use Rattle.layer_tiles.specs.Answers.{IsTileAnswer}
-use Rattle.layer_tiles.specs.PlaceByPlace.{cell_in, IsPlacesAnswer, IsLeastPlace, IsMade}
+use Rattle.layer_tiles.specs.PlaceByPlace.{cell_in, IsPlacesAnswer, IsPlaceRefusal, IsLeastPlace, IsMade}
 use Rattle.layer_tiles.specs.declared.kernels.KernelRefusal.{KernelRefusal}
+use Rattle.layer_tiles.specs.declared.kernels.KernelRefusal.TheVariants.{Overflow}
+use Rattle.layer_tiles.specs.declared.kernels.KernelRefusal.TheVariants as refusal
+use Rattle.map_nums.specs.declared.StatRefusal.{StatRefusal}
+use Rattle.map_nums.specs.declared.StatRefusal.TheVariants.{Wide, NoMemory}
 use Rattle.layer_tiles.proofs.Strides.{get_or-strided}
 use Rattle.layer_tiles.proofs.Rounds.{here}
 use Rattle.layer_tiles.proofs.Making.{answer_from_places, made_more}
-use Rattle.local_ops.specs.Operands.{cells_after, blocks_of, cells_of, cell_by, row_cells, HaveSize}
+use Rattle.local_ops.specs.Operands.{cells_after, blocks_of, cells_of, cell_by, row_cells, HaveSize, refused_at}
 
 -- what was read of a row
 pub cell_read : (row : Cells) (c n : ℕ) (x y : Option ℤ) → c < n → length row ≡ n → x ≡ get_or row c x → y ≡ x → get_or row c None ≡ y
@@ -76,7 +80,7 @@ row_cells-is h w r c (b ∷ blocks) s l =
     ap (λ x. x ∷ row_cells blocks r c) first ∙ ap (λ xs. get_or b.cells (r * w + c) None ∷ xs) (row_cells-is h w r c blocks (λ k d m. s (suc k) d (omega arith)) l)
 
 -- one more place of a row
-pub row_more : (op : LocalOp) (blocks : List Block) (h w r c : ℕ) (made new : Block) (cell value : Option ℤ) → IsMade (cell_by op blocks) h w (r * w + c) made → HaveSize h w blocks → r < h → c < w → (value ≡ local_cell op (row_cells blocks r c)) × IsFalse (is_wide (local_cell op (row_cells blocks r c))) → cell ≡ value → new ≡ record made { cells = set made.cells (r * made.width + c) cell } → IsMade (cell_by op blocks) h w (r * w + (c + 1)) new
+row_more : (op : LocalOp) (blocks : List Block) (h w r c : ℕ) (made new : Block) (cell value : Option ℤ) → IsMade (cell_by op blocks) h w (r * w + c) made → HaveSize h w blocks → r < h → c < w → (value ≡ local_cell op (row_cells blocks r c)) × IsFalse (is_wide (local_cell op (row_cells blocks r c))) → cell ≡ value → new ≡ record made { cells = set made.cells (r * made.width + c) cell } → IsMade (cell_by op blocks) h w (r * w + (c + 1)) new
 unfolding cell_by
 row_more op blocks h w r c made new cell value m sizes p q a e n =
     let same = row_cells-is h w r c blocks sizes q in
@@ -88,7 +92,7 @@ row_more op blocks h w r c made new cell value m sizes p q a e n =
     rw (there) (subst (λ (j : ℕ). IsMade (cell_by op blocks) h w j (record made { cells = set made.cells (r * w + c) cell })) (omega arith) after)
 
 -- the place of a row that is out of range
-pub row_wide : (op : LocalOp) (blocks : List Block) (s : Size) (t r c at : ℕ) (made : Block) → IsMade (cell_by op blocks) (tile_height s t) (tile_width s t) (r * tile_width s t + c) made → HaveSize (tile_height s t) (tile_width s t) blocks → r < tile_height s t → c < tile_width s t → at ≡ (tile_top s t + r) * s.columns + tile_left s t + c → IsTrue (is_wide (local_cell op (row_cells blocks r c))) → IsLeastPlace (cell_by op blocks) s t at
+row_wide : (op : LocalOp) (blocks : List Block) (s : Size) (t r c at : ℕ) (made : Block) → IsMade (cell_by op blocks) (tile_height s t) (tile_width s t) (r * tile_width s t + c) made → HaveSize (tile_height s t) (tile_width s t) blocks → r < tile_height s t → c < tile_width s t → at ≡ (tile_top s t + r) * s.columns + tile_left s t + c → IsTrue (is_wide (local_cell op (row_cells blocks r c))) → IsLeastPlace (cell_by op blocks) s t at
 unfolding cell_by tile_start
 row_wide op blocks s t r c at made m sizes p q e wide = record {
   row = r;
@@ -99,6 +103,19 @@ row_wide op blocks s t r c at made m sizes p q e wide = record {
   wide = rw (← row_cells-is (tile_height s t) (tile_width s t) r c blocks sizes q) wide;
   least = m.in_range;
 }
+
+-- a row with the answer of one more place, or why it has none
+pub row_put : (op : LocalOp) (blocks : List Block) (h w r c at : ℕ) (made new : Block) (answer : Result (Option ℤ) StatRefusal) → IsMade (cell_by op blocks) h w (r * w + c) made → HaveSize h w blocks → r < h → c < w → IsAnswer (local_cell op (row_cells blocks r c)) answer → IfOk answer (λ value. new ≡ record made { cells = set made.cells (r * made.width + c) value }) → refused_at at answer ≡ Ok tt → IsMade (cell_by op blocks) h w (r * w + (c + 1)) new
+row_put op blocks h w r c at made new (Ok value) m sizes p q a n e = row_more op blocks h w r c made new value value m sizes p q a refl n
+row_put op blocks h w r c at made new (Err Wide) m sizes p q a n e = cc
+row_put op blocks h w r c at made new (Err NoMemory) m sizes p q a n e = cc
+
+pub row_refused : (op : LocalOp) (blocks : List Block) (s : Size) (t r c at : ℕ) (made : Block) (answer : Result (Option ℤ) StatRefusal) (e : KernelRefusal) → IsMade (cell_by op blocks) (tile_height s t) (tile_width s t) (r * tile_width s t + c) made → HaveSize (tile_height s t) (tile_width s t) blocks → r < tile_height s t → c < tile_width s t → at ≡ (tile_top s t + r) * s.columns + tile_left s t + c → IsAnswer (local_cell op (row_cells blocks r c)) answer → refused_at at answer ≡ Err e → IsPlaceRefusal (cell_by op blocks) s t e
+row_refused op blocks s t r c at made (Ok value) e m sizes p q l a x = cc
+row_refused op blocks s t r c at made (Err Wide) (Overflow place) m sizes p q l a x = let same : place ≡ at = cc in row_wide op blocks s t r c place made m sizes p q (same ∙ l) a
+row_refused op blocks s t r c at made (Err Wide) refusal.NoMemory m sizes p q l a x = tt
+row_refused op blocks s t r c at made (Err NoMemory) (Overflow place) m sizes p q l a x = cc
+row_refused op blocks s t r c at made (Err NoMemory) refusal.NoMemory m sizes p q l a x = tt
 
 -- the cells at a place of the operands' tiles are those of their grids at its cell
 pub cells_of-blocks : (s : Size) (t r c : ℕ) (operands : List ChangeState) → r < tile_height s t → c < tile_width s t → cells_of (blocks_of s t operands) (r * tile_width s t + c) ≡ cells_at (cells_after operands) (cell_in s t r c)

@@ -1,10 +1,15 @@
 -- The operands' grids after the edit, and their tiles.
-use Rattle.std.specs.Prelude.{◌≡◌, ℕ, List, [], ◌∷◌, map, ℤ, Option}
+use Rattle.std.specs.Prelude.{◌≡◌, ℕ, List, [], ◌∷◌, map, ℤ, Option, Result, Ok, Err}
 use Rattle.std.specs.List.{All}
 use Rattle.map_nums.specs.Grids.{Size, Cells, cell_at}
 use Rattle.map_defs.specs.Local.{LocalOp, local_cell}
 use Rattle.layer_tiles.specs.Tiles.{Block, block_row, tile_block}
 use Rattle.layer_tiles.specs.Changes.{ChangeState}
+use Rattle.layer_tiles.specs.declared.kernels.KernelRefusal.{KernelRefusal}
+use Rattle.layer_tiles.specs.declared.kernels.KernelRefusal.TheVariants.{Overflow}
+use Rattle.layer_tiles.specs.declared.kernels.KernelRefusal.TheVariants as refusal
+use Rattle.map_nums.specs.declared.StatRefusal.{StatRefusal}
+use Rattle.map_nums.specs.declared.StatRefusal.TheVariants.{Wide, NoMemory}
 
 -- the size of the first
 abbrev pub size_of : List ChangeState → Size
@@ -33,3 +38,9 @@ row_cells blocks r c = map (λ b. cell_at (block_row b r) c) blocks
 -- rectangles of one size
 abbrev pub HaveSize : ℕ → ℕ → List Block → Type 0
 HaveSize height width blocks = All (λ b. (b.height ≡ height) × (b.width ≡ width)) blocks
+
+-- what becomes of a tile at a cell with this answer
+abbrev pub refused_at : ℕ → Result (Option ℤ) StatRefusal → Result (Unit {0}) KernelRefusal
+refused_at at (Ok value) = Ok tt
+refused_at at (Err Wide) = Err (Overflow at)
+refused_at at (Err NoMemory) = Err refusal.NoMemory

@@ -1,5 +1,6 @@
 //! A tile of a Local operation.
-ghost use Rattle.std.specs.Prelude.{◌≡◌, ◌+◌, ◌*◌, ◌<◌, length, map, IfOk, IsFalse};
+ghost use Rattle.std.specs.Prelude.{◌≡◌, ◌+◌, ◌*◌, ◌<◌, length, map, slice_set, IfOk, IsFalse};
+ghost use Rattle.std.specs.Result.{ForOk};
 ghost use Rattle.std.specs.List.{All};
 ghost use Rattle.map_nums.specs.Answers.{IsAnswer, is_wide};
 ghost use Rattle.map_nums.specs.Grids.{cell_at};
@@ -9,7 +10,7 @@ ghost use Rattle.layer_tiles.specs.Tallies.{RisesBy};
 ghost use Rattle.layer_tiles.specs.Answers.{IsTileAnswer};
 ghost use Rattle.layer_tiles.specs.PlaceByPlace.{IsMade, IsPlacesAnswer, IsRowAnswer};
 ghost use Rattle.local_ops.specs.Operations.{op_of, Takes};
-ghost use Rattle.local_ops.specs.Operands.{size_of, cells_after, blocks_of, cell_by, HaveSize};
+ghost use Rattle.local_ops.specs.Operands.{size_of, cells_after, blocks_of, cell_by, HaveSize, refused_at};
 
 use crate::ops::LocalOp;
 use crate::pairs::of_two;
@@ -108,14 +109,13 @@ fn make_row(
     ensures { IsRowAnswer (cell_by (op_of op.now) views.now) extent tile r made.new result }
 {
     if views.len() == 2 {
-        return row_of_two(alloc, op, views, extent, tile, r, made);
+        return row_of_two(op, views, extent, tile, r, made);
     }
     row_of_any(alloc, op, views, extent, tile, r, made)
 }
 
 /// A row of a tile of two operands.
 fn row_of_two(
-    alloc: Global,
     op: &LocalOp,
     views: &[TileView<'_>],
     extent: Extent,
@@ -136,11 +136,8 @@ fn row_of_two(
     let left = views[0].row(r);
     let right = views[1].row(r);
     for c in 0..place.width {
-        match of_two(alloc, op, left[c as usize], right[c as usize]) {
-            Ok(value) => made.set(r, c, cell_of(value)),
-            Err(StatRefusal::Wide) => return Err(KernelRefusal::Overflow(start + c)),
-            Err(StatRefusal::NoMemory) => return Err(KernelRefusal::NoMemory),
-        }
+        let answer = of_two(op, left[c as usize], right[c as usize]);
+        put(made, r, c, start + c, answer)?;
     }
     Ok(())
 }
@@ -168,11 +165,8 @@ fn row_of_any(
         return Err(KernelRefusal::NoMemory);
     };
     for c in 0..place.width {
-        match value_at(alloc, op, &rows, c) {
-            Ok(value) => made.set(r, c, cell_of(value)),
-            Err(StatRefusal::Wide) => return Err(KernelRefusal::Overflow(start + c)),
-            Err(StatRefusal::NoMemory) => return Err(KernelRefusal::NoMemory),
-        }
+        let answer = value_at(alloc, op, &rows, c);
+        put(made, r, c, start + c, answer)?;
     }
     Ok(())
 }
@@ -213,6 +207,28 @@ fn value_at(
         }
     }
     value_of(alloc, op, &values[..rows.len()])
+}
+
+/// Puts the answer for cell `at` into its row and column of the tile.
+fn put(
+    made: &mut Tile,
+    r: u32,
+    c: u32,
+    at: u32,
+    answer: Result<Option<Value>, StatRefusal>,
+) -> Result<(), KernelRefusal>
+    requires in_range { ForOk answer (λ value. IsFalse (is_wide value)) }
+    requires row { r < made.old.height }
+    requires column { c < made.old.width }
+    ensures result { result ≡ refused_at at answer }
+    ensures placed { IfOk answer (λ value. made.new ≡ record made.old { cells = slice_set made.old.cells (r * made.old.width + c) value }) }
+{
+    match answer {
+        Ok(value) => made.set(r, c, cell_of(value)),
+        Err(StatRefusal::Wide) => return Err(KernelRefusal::Overflow(at)),
+        Err(StatRefusal::NoMemory) => return Err(KernelRefusal::NoMemory),
+    }
+    Ok(())
 }
 
 /// The cell of a value that is in range.

@@ -1,11 +1,11 @@
 //! What an operation makes of values.
-ghost use Rattle.std.specs.Prelude.{◌≡◌, length, Some};
+ghost use Rattle.std.specs.Prelude.{◌≡◌, length, Some, ◌-ℤ◌};
 ghost use Rattle.map_nums.specs.Answers.{IsAnswer};
 ghost use Rattle.map_defs.specs.Local.{of_numbers, ratio_of, rated};
 ghost use Rattle.local_ops.specs.Operations.{op_of, Takes};
 
 use crate::ops::LocalOp;
-use map_nums::{Rate, StatRefusal, Value, floor_div, in_range, statistic};
+use map_nums::{Rate, StatRefusal, VMAX, Value, floor_div, statistic};
 use std::alloc::Global;
 
 /// The operation's value, where all operands have one.
@@ -19,10 +19,17 @@ pub(crate) fn value_of(
 {
     match op {
         LocalOp::Stat(stat) => statistic(alloc, *stat, values),
-        LocalOp::Difference => answer(values[0] as i128 - values[1] as i128),
+        LocalOp::Difference => difference(values[0], values[1]),
         LocalOp::Ratio => ratio(values[0], values[1]),
         LocalOp::Rating(rates) => found(rated(rates.as_slice(), values[0])),
     }
+}
+
+/// `left - right`.
+pub(crate) fn difference(left: Value, right: Value) -> Result<Option<Value>, StatRefusal>
+    ensures { IsAnswer (Some (left -ℤ right)) result }
+{
+    kept(left as i64 - right as i64)
 }
 
 /// The floor of `left / right`, null where `right` is 0.
@@ -30,7 +37,7 @@ pub(crate) fn ratio(left: Value, right: Value) -> Result<Option<Value>, StatRefu
     ensures { IsAnswer (ratio_of left right) result }
 {
     match floor_div(left as i64, right as i64) {
-        Some(quotient) => answer(quotient as i128),
+        Some(quotient) => kept(quotient),
         None => Ok(None),
     }
 }
@@ -52,17 +59,17 @@ fn found(value: Option<Value>) -> Result<Option<Value>, StatRefusal>
     ensures { IsAnswer value result }
 {
     match value {
-        Some(number) => answer(number as i128),
+        Some(number) => kept(number as i64),
         None => Ok(None),
     }
 }
 
 /// The number, or that no cell may hold it.
-fn answer(number: i128) -> Result<Option<Value>, StatRefusal>
+pub(crate) fn kept(number: i64) -> Result<Option<Value>, StatRefusal>
     ensures { IsAnswer (Some number) result }
 {
-    match in_range(number) {
-        Some(value) => Ok(Some(value)),
-        None => Err(StatRefusal::Wide),
+    if number < -VMAX || number > VMAX {
+        return Err(StatRefusal::Wide);
     }
+    Ok(Some(number as i32))
 }

@@ -1,43 +1,40 @@
-use Rattle.std.proofs.Common.{◌≡◌, ◌<◌, Option, None, ℤ, length, map, get_or, arith, refl, ap, ◌∙◌, subst, IsTrue, IsFalse, Bor}
-use Rattle.map_nums.specs.Answers.{is_wide}
+use Rattle.std.proofs.Common.{◌<◌, length, map, arith, refl, sym, ap, ◌∙◌, subst, Bor}
+use Rattle.std.proofs.lemmas.Result.{err_from_is_err_and}
+use Rattle.map_nums.specs.Answers.{IsAnswer}
 use Rattle.map_nums.specs.Grids.{Cells}
 use Rattle.map_defs.specs.Local.{local_cell}
 use Rattle.layer_tiles.specs.Tiles.{tile_height, tile_width}
 use Rattle.local_ops.specs.Operations.{op_of}
 use Rattle.local_ops.specs.Operands.{row_cells}
-use Rattle.local_ops.proofs.Rows.{row_more, row_wide, rows-column, rows-wide}
+use Rattle.local_ops.proofs.Rows.{row_put, row_refused, rows-column, rows-wide}
 use Rattle.local_ops.proofs.kernel.row_of_any.Goals as goal
-use Rattle.local_ops.proofs.kernel.row_of_any.Goals.{After-deref}
+use Rattle.local_ops.proofs.kernel.row_of_any.Goals.{After-value_at-answer}
 
-pub value_at-requires-clause-within : goal.value_at-requires-clause-within
-value_at-requires-clause-within c =
-    let lengths = λ (row : Bor Cells). length row.now in
+pub value_at-answer-requires-clause-within : goal.value_at-answer-requires-clause-within
+value_at-answer-requires-clause-within c =
     rows-wide c.deref.result.now c.args.views.now (tile_height c.args.extent c.args.tile) (tile_width c.args.extent c.args.tile) c.loop-c.c
-    (ap (map lengths) c.deref.ensures.value ∙ c.in-Ok.ensures.widths) c.requires.sizes (omega (arith, c.place-place.ensures.place.width))
+    (ap (map (λ (row : Bor Cells). length row.now)) c.deref.ensures.value ∙ c.in-Ok.ensures.widths) c.requires.sizes (omega (arith, c.place-place.ensures.place.width))
 
--- the cells of the column
-column : (c : After-deref) → map (λ (row : Bor Cells). get_or row.now c.loop-c.c None) c.deref.result.now ≡ row_cells c.args.views.now c.args.r c.loop-c.c
-column c =
-    let cells = λ (row : Bor Cells). row.now in
-    rows-column c.deref.result.now c.args.views.now c.args.r c.loop-c.c (ap (map cells) c.deref.ensures.value ∙ c.in-Ok.ensures.rows)
+within : (c : After-value_at-answer) → c.loop-c.c < tile_width c.args.extent c.args.tile
+within c = omega (arith, c.place-place.ensures.place.width)
 
-pub returns-in-Err-Wide : goal.returns-in-Err-Wide
-returns-in-Err-Wide c =
-    let s = c.args.extent in
-    let t = c.args.tile in
-    let p = c.place-place.ensures.place in
-    let op = op_of c.args.op.now in
-    let d = (goal.at.returns-in-Err-Wide c).After-deref in
-    row_wide op c.args.views.now s t c.args.r c.loop-c.c _ c.loop-c.made c.loop-c.invariant c.requires.sizes c.requires.row (omega (arith, p.width))
-    (rw (p.top, p.left, c.columns.ensures.columns) refl)
-    (subst (λ (cells : Cells). IsTrue (is_wide (local_cell op cells))) (column d) (rw c.in-Err-Wide.field-0-is at c.in-Err-Wide.ensures))
+-- the answer is that of the column's cells
+answers : (c : After-value_at-answer) → IsAnswer (local_cell (op_of c.args.op.now) (row_cells c.args.views.now c.args.r c.loop-c.c)) c.value_at-answer.result
+answers c =
+    let rows = ap (map (λ (row : Bor Cells). row.now)) c.deref.ensures.value ∙ c.in-Ok.ensures.rows in
+    subst (λ (cells : Cells). IsAnswer (local_cell (op_of c.args.op.now) cells) c.value_at-answer.result) (rows-column c.deref.result.now c.args.views.now c.args.r c.loop-c.c rows) c.value_at-answer.ensures
+
+pub returns-in_err-put : goal.returns-in_err-put
+returns-in_err-put c =
+    let p = err_from_is_err_and c.from_residual.result c.from_residual.ensures.1 in
+    let d = (goal.at.returns-in_err-put c).After-value_at-answer in
+    let place = c.place-place.ensures.place in
+    rw (p.1, p.2)
+    (row_refused (op_of c.args.op.now) c.args.views.now c.args.extent c.args.tile c.args.r c.loop-c.c _ c.loop-c.made c.value_at-answer.result c.in_err-put.field-0.0 c.loop-c.invariant c.requires.sizes c.requires.row (within d)
+    (rw (place.top, place.left, c.columns.ensures.columns) refl) (answers d) (sym c.in_err-put.ensures.result))
 
 pub loop-c-preserved : goal.loop-c-preserved
 loop-c-preserved c =
-    let h = tile_height c.args.extent c.args.tile in
-    let w = tile_width c.args.extent c.args.tile in
-    let op = op_of c.args.op.now in
-    let value = c.in-Ok-value_at.value in
-    let d = (goal.at.loop-c-preserved c).After-deref in
-    row_more op c.args.views.now h w c.args.r c.loop-c.c c.loop-c.made c.set.new.self c.cell_of.result value c.loop-c.invariant c.requires.sizes c.requires.row (omega (arith, c.place-place.ensures.place.width))
-    (subst (λ (cells : Cells). (value ≡ local_cell op cells) × IsFalse (is_wide (local_cell op cells))) (column d) c.in-Ok-value_at.ensures) c.cell_of.ensures c.set.ensures
+    let d = (goal.at.loop-c-preserved c).After-value_at-answer in
+    row_put (op_of c.args.op.now) c.args.views.now (tile_height c.args.extent c.args.tile) (tile_width c.args.extent c.args.tile) c.args.r c.loop-c.c _ c.loop-c.made c.put.new.made c.value_at-answer.result c.loop-c.invariant c.requires.sizes c.requires.row (within d)
+    (answers d) c.put.ensures.placed (sym c.in_ok-put.ensures.result)

@@ -1,4 +1,4 @@
-use Rattle.std.proofs.Common.{◌≡◌, ◌<◌, Some, None, Option, ℤ, take, length, map, get_or, sym, refl, ◌∙◌, rules, arith, FitsSigned, to_z, of_z, w32, subst, Bor}
+use Rattle.std.proofs.Common.{◌≡◌, ◌<◌, Some, None, take, length, map, get_or, sym, refl, ◌∙◌, rules, arith, FitsSigned, to_z, of_z, w32, subst, Bor}
 use Rattle.std.proofs.lemmas.List.{take_more_set, length-set, length-map, get_or_default}
 use Rattle.std.proofs.lemmas.Int.{to_z-of_z}
 use Rattle.map_nums.specs.Grids.{Cells}
