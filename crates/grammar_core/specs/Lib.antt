@@ -1,0 +1,5 @@
+pub mod Rules
+pub mod Refusals
+pub mod Run
+pub mod Readers
+pub mod Once

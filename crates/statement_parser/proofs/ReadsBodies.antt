@@ -1,0 +1,167 @@
+-- Reading operations is reading by their rules, whatever follows.
+use Rattle.std.proofs.Common.{◌≡◌, ℕ, zero, suc, ℤ, pos, Bool, true, false, cond, List, [], ◌∷◌, ◌++◌, length, Option, Some, None, Result, Ok, Err, refl, sym, ap, ◌∙◌}
+use Rattle.std.specs.Prelude.{codes, is_some, bytes_eq}
+use Rattle.map_nums.specs.declared.Stat.{Stat}
+use Rattle.map_nums.specs.declared.Rate.{Rate}
+use Rattle.map_words.specs.Bytes.{Text}
+use Rattle.grammar_core.specs.declared.Kind.TheVariants.{Syntax}
+use Rattle.grammar_core.specs.declared.Fault.{Fault}
+use Rattle.grammar_core.specs.Rules.{Rule, on, next, also}
+use Rattle.grammar_core.specs.Refusals.{is_unknown}
+use Rattle.grammar_core.specs.Run.{refused, run, is_node}
+use Rattle.grammar_core.specs.Readers.{◌>>=◌, Read, one_at, starts}
+use Rattle.grammar_core.proofs.Reading.{assoc, cond_k, pick, IsPlace, Reads, AllNodes, place, place_k, IsTail, also_reads, also_tail, or_refused, body_place}
+use Rattle.statement_parser.specs.Lines.{Manner, Term, Op, local, difference, ratio, rating, Line}
+use Rattle.statement_parser.specs.Operations.{operation_named}
+use Rattle.statement_parser.specs.Places.{the, value_of, term_of, cell_of, tests}
+use Rattle.statement_parser.specs.Bodies.{and_terms, statistic_body, pair_body, to_part, rate_part, with_rates, rating_body, operation_body}
+use Rattle.statement_parser.specs.ReadLocal.{and_at, statistic_at, pair_at, difference_at, ratio_at, to_at, range_at, rate_at, with_at, rating_at, operation_at, named_at, body_at}
+use Rattle.statement_parser.specs.declared.operation.Operation.{Operation}
+use Rattle.statement_parser.specs.declared.operation.Operation.TheVariants.{Local, Difference, Ratio, Rating}
+use Rattle.statement_parser.proofs.PlaceFacts.{the_place, term_place, value_place, cell_place, operation_takes, operation_number}
+
+-- what follows an operation
+abbrev pub Goes : Type 0 → Type 0
+Goes A = A → List Text → Result Line Fault
+
+abbrev pub AreTails : {A : Type 0} → (A → Rule Text Line) → Type 0
+AreTails {A} r = (v : A) → IsTail tests (r v)
+
+and_place : IsPlace tests (the (codes "and")) false
+and_place = the_place (codes "and") refl refl
+
+of_place : IsPlace tests (the (codes "of")) false
+of_place = the_place (codes "of") refl refl
+
+to_place : IsPlace tests (the (codes "to")) false
+to_place = the_place (codes "to") refl refl
+
+for_place : IsPlace tests (the (codes "for")) false
+for_place = the_place (codes "for") refl refl
+
+with_place : IsPlace tests (the (codes "with")) false
+with_place = the_place (codes "with") refl refl
+
+and_tail : (r : List Term → Rule Text Line) (n : ℕ) (ts : List Term) → AreTails r → IsTail tests (and_terms r n ts)
+and_tail r zero ts h = h ts
+and_tail r (suc n) ts h = record { node = refl; no_body = (h ts).no_body }
+
+and_reads : (k : Goes (List Term)) (r : List Term → Rule Text Line) → AreTails r → Reads tests k r → (n : ℕ) (ts : List Term) (ws : List Text) → (and_at n ts ws >>= λ p. k p.0 p.1) ≡ run tests (and_terms r n ts) ws
+unfolding and_at
+and_reads k r tails reads zero ts ws = reads ts ws
+and_reads k r tails reads (suc n) ts ws =
+    let part = λ (ws : List Text). one_at tests (the (codes "and")) false ws >>= λ u. one_at tests term_of true u.1 >>= λ t. and_at n (ts ++ t.0 ∷ []) t.1 in
+    cond_k (starts (the (codes "and")) ws) (part ws) (Ok (ts, ws)) (λ p. k p.0 p.1)
+    ∙ also_reads tests (the (codes "and")) (λ _. next term_of (λ t. and_terms r n (ts ++ t ∷ []))) (r ts) (λ ws. part ws >>= λ p. k p.0 p.1) (k ts) and_place (λ u. refl) (tails ts)
+        (place_k tests (the (codes "and")) false (λ u ws. one_at tests term_of true ws >>= λ t. and_at n (ts ++ t.0 ∷ []) t.1) k _ and_place (λ u. refl) (λ u.
+          place_k tests term_of true (λ t ws. and_at n (ts ++ t ∷ []) ws) k _ term_place (λ t. (and_tail r n (ts ++ t ∷ []) tails).node) (λ t.
+          and_reads k r tails reads n (ts ++ t ∷ []))))
+        (reads ts) ws
+
+statistic_reads : (s : Stat) (k : Goes Op) (r : Op → Rule Text Line) → AreTails r → Reads tests k r → (ws : List Text) → (statistic_at s ws >>= λ p. k p.0 p.1) ≡ run tests (statistic_body s r) ws
+unfolding statistic_at
+statistic_reads s k r tails reads =
+    let last = λ (a b : Term) (ws : List Text). and_at 6 (a ∷ b ∷ []) ws >>= λ ts. Ok (local s ts.0, ts.1) in
+    let second = λ (a : Term) (ws : List Text). one_at tests term_of true ws >>= λ b. last a b.0 b.1 in
+    let both = λ (a : Term) (ws : List Text). one_at tests (the (codes "and")) false ws >>= λ v. second a v.1 in
+    place_k tests (the (codes "of")) false (λ u ws. one_at tests term_of true ws >>= λ a. both a.0 a.1) k _ of_place (λ u. refl) (λ u.
+    place_k tests term_of true both k _ term_place (λ a. refl) (λ a.
+    place_k tests (the (codes "and")) false (λ v ws. second a ws) k _ and_place (λ v. refl) (λ v.
+    place_k tests term_of true (last a) k _ term_place (λ b. (and_tail (λ ts. r (local s ts)) 6 (a ∷ b ∷ []) (λ ts. tails (local s ts))).node) (λ b ws.
+    assoc (and_at 6 (a ∷ b ∷ []) ws) (λ ts. Ok (local s ts.0, ts.1)) (λ p. k p.0 p.1)
+    ∙ and_reads (λ ts. k (local s ts)) (λ ts. r (local s ts)) (λ ts. tails (local s ts)) (λ ts. reads (local s ts)) 6 (a ∷ b ∷ []) ws))))
+
+pair_reads : (make : Term → Term → Op) (k : Goes Op) (r : Op → Rule Text Line) → AreTails r → Reads tests k r → (ws : List Text) → (pair_at ws >>= λ p. k (make p.0.0 p.0.1) p.1) ≡ run tests (pair_body make r) ws
+unfolding pair_at
+pair_reads make k r tails reads =
+    let h : Goes (Term × Term) = λ p ws. k (make p.0 p.1) ws in
+    let last = λ (a b : Term) (ws : List Text). let x : Read Text (Term × Term) = Ok ((a, b), ws) in x in
+    let second = λ (a : Term) (ws : List Text). one_at tests term_of true ws >>= λ b. last a b.0 b.1 in
+    let both = λ (a : Term) (ws : List Text). one_at tests (the (codes "and")) false ws >>= λ v. second a v.1 in
+    place_k tests (the (codes "of")) false (λ u ws. one_at tests term_of true ws >>= λ a. both a.0 a.1) h _ of_place (λ u. refl) (λ u.
+    place_k tests term_of true both h _ term_place (λ a. refl) (λ a.
+    place_k tests (the (codes "and")) false (λ v ws. second a ws) h _ and_place (λ v. refl) (λ v.
+    place_k tests term_of true (last a) h (λ b. r (make a b)) term_place (λ b. (tails (make a b)).node) (λ b. reads (make a b)))))
+
+difference_reads : (k : Goes Op) (r : Op → Rule Text Line) → AreTails r → Reads tests k r → (ws : List Text) → (difference_at ws >>= λ p. k p.0 p.1) ≡ run tests (pair_body difference r) ws
+unfolding difference_at
+difference_reads k r tails reads ws = assoc (pair_at ws) (λ p. Ok (difference p.0.0 p.0.1, p.1)) (λ p. k p.0 p.1) ∙ pair_reads difference k r tails reads ws
+
+ratio_reads : (k : Goes Op) (r : Op → Rule Text Line) → AreTails r → Reads tests k r → (ws : List Text) → (ratio_at ws >>= λ p. k p.0 p.1) ≡ run tests (pair_body ratio r) ws
+unfolding ratio_at
+ratio_reads k r tails reads ws = assoc (pair_at ws) (λ p. Ok (ratio p.0.0 p.0.1, p.1)) (λ p. k p.0 p.1) ∙ pair_reads ratio k r tails reads ws
+
+to_reads : (k : Goes Rate) (r : Rate → Rule Text Line) → AreTails r → Reads tests k r → (give : Option ℤ) (low : ℤ) (ws : List Text) → (to_at give low ws >>= λ p. k p.0 p.1) ≡ run tests (to_part r give low) ws
+unfolding to_at
+to_reads k r tails reads give low ws =
+    let made = λ (high : ℤ). let x : Rate = record { low = low; high = high; give = give } in x in
+    let part = λ (ws : List Text). one_at tests (the (codes "to")) false ws >>= λ u. one_at tests value_of true u.1 >>= λ z. Ok (made z.0, z.1) in
+    cond_k (starts (the (codes "to")) ws) (part ws) (Ok (made low, ws)) (λ p. k p.0 p.1)
+    ∙ also_reads tests (the (codes "to")) (λ _. next value_of (λ z. r (made z))) (r (made low)) (λ ws. part ws >>= λ p. k p.0 p.1) (k (made low)) to_place (λ u. refl) (tails (made low))
+        (place_k tests (the (codes "to")) false (λ u ws. one_at tests value_of true ws >>= λ z. Ok (made z.0, z.1)) k _ to_place (λ u. refl) (λ u.
+          place_k tests value_of true (λ z ws. Ok (made z, ws)) k _ value_place (λ z. (tails (made z)).node) (λ z. reads (made z))))
+        (reads (made low)) ws
+
+to_node : (r : Rate → Rule Text Line) (give : Option ℤ) (low : ℤ) → is_node (to_part r give low) ≡ true
+to_node r give low = refl
+
+rate_reads : (k : Goes Rate) (r : Rate → Rule Text Line) → AreTails r → Reads tests k r → (ws : List Text) → (rate_at ws >>= λ p. k p.0 p.1) ≡ run tests (rate_part r) ws
+unfolding rate_at range_at
+rate_reads k r tails reads =
+    place_k tests cell_of true range_at k _ cell_place (λ give. refl) (λ give.
+    place_k tests (the (codes "for")) false (λ u ws. one_at tests value_of true ws >>= λ low. to_at give low.0 low.1) k _ for_place (λ u. refl) (λ u.
+    place_k tests value_of true (to_at give) k (to_part r give) value_place (λ low. refl) (to_reads k r tails reads give)))
+
+with_tail : (r : List Rate → Rule Text Line) (n : ℕ) (rs : List Rate) → AreTails r → IsTail tests (with_rates r n rs)
+with_tail r zero rs h = h rs
+with_tail r (suc n) rs h = record { node = refl; no_body = (h rs).no_body }
+
+with_reads : (k : Goes (List Rate)) (r : List Rate → Rule Text Line) → AreTails r → Reads tests k r → (n : ℕ) (rs : List Rate) (ws : List Text) → (with_at n rs ws >>= λ p. k p.0 p.1) ≡ run tests (with_rates r n rs) ws
+unfolding with_at
+with_reads k r tails reads zero rs ws = reads rs ws
+with_reads k r tails reads (suc n) rs ws =
+    let more = λ (one : Rate) (ws : List Text). with_at n (rs ++ one ∷ []) ws in
+    let part = λ (ws : List Text). one_at tests (the (codes "with")) false ws >>= λ u. rate_at u.1 >>= λ one. more one.0 one.1 in
+    cond_k (starts (the (codes "with")) ws) (part ws) (Ok (rs, ws)) (λ p. k p.0 p.1)
+    ∙ also_reads tests (the (codes "with")) (λ _. rate_part (λ one. with_rates r n (rs ++ one ∷ []))) (r rs) (λ ws. part ws >>= λ p. k p.0 p.1) (k rs) with_place (λ u. refl) (tails rs)
+        (place_k tests (the (codes "with")) false (λ u ws. rate_at ws >>= λ one. more one.0 one.1) k _ with_place (λ u. refl) (λ u ws.
+          assoc (rate_at ws) (λ one. more one.0 one.1) (λ p. k p.0 p.1)
+          ∙ rate_reads (λ one ws. more one ws >>= λ p. k p.0 p.1) (λ one. with_rates r n (rs ++ one ∷ [])) (λ one. with_tail r n (rs ++ one ∷ []) tails) (λ one. with_reads k r tails reads n (rs ++ one ∷ [])) ws))
+        (reads rs) ws
+
+rating_reads : (k : Goes Op) (r : Op → Rule Text Line) → AreTails r → Reads tests k r → (ws : List Text) → (rating_at ws >>= λ p. k p.0 p.1) ≡ run tests (rating_body r) ws
+unfolding rating_at
+rating_reads k r tails reads =
+    let last = λ (a : Term) (one : Rate) (ws : List Text). with_at 31 (one ∷ []) ws >>= λ rs. Ok (rating a rs.0, rs.1) in
+    let first = λ (a : Term) (ws : List Text). rate_at ws >>= λ one. last a one.0 one.1 in
+    let both = λ (a : Term) (ws : List Text). one_at tests (the (codes "with")) false ws >>= λ v. first a v.1 in
+    place_k tests (the (codes "of")) false (λ u ws. one_at tests term_of true ws >>= λ a. both a.0 a.1) k _ of_place (λ u. refl) (λ u.
+    place_k tests term_of true both k _ term_place (λ a. refl) (λ a.
+    place_k tests (the (codes "with")) false (λ v ws. first a ws) k _ with_place (λ v. refl) (λ v ws.
+    assoc (rate_at ws) (λ one. last a one.0 one.1) (λ p. k p.0 p.1)
+    ∙ rate_reads (λ one ws. last a one ws >>= λ p. k p.0 p.1) (λ one. with_rates (λ rs. r (rating a rs)) 31 (one ∷ [])) (λ one. with_tail (λ rs. r (rating a rs)) 31 (one ∷ []) (λ rs. tails (rating a rs))) (λ one ws.
+      assoc (with_at 31 (one ∷ []) ws) (λ rs. Ok (rating a rs.0, rs.1)) (λ p. k p.0 p.1)
+      ∙ with_reads (λ rs. k (rating a rs)) (λ rs. r (rating a rs)) (λ rs. tails (rating a rs)) (λ rs. reads (rating a rs)) 31 (one ∷ []) ws) ws)))
+
+operation_reads : (m : Manner) (k : Goes Op) (r : Op → Rule Text Line) → AreTails r → Reads tests k r → (o : Operation) (ws : List Text) → (operation_at o ws >>= λ p. k p.0 p.1) ≡ run tests (operation_body m r o) ws
+operation_reads m k r tails reads (Local s) = statistic_reads s k r tails reads
+operation_reads m k r tails reads Difference = difference_reads k r tails reads
+operation_reads m k r tails reads Ratio = ratio_reads k r tails reads
+operation_reads m k r tails reads Rating = rating_reads k r tails reads
+
+operation_node : (m : Manner) (r : Op → Rule Text Line) (o : Operation) → is_node (operation_body m r o) ≡ true
+operation_node m r (Local s) = refl
+operation_node m r Difference = refl
+operation_node m r Ratio = refl
+operation_node m r Rating = refl
+
+named_then : (o : Option Operation) (k : Goes Op) (ws : List Text) → (named_at o ws >>= λ p. k p.0 p.1) ≡ or_refused tests o (suc (length ws)) (λ o. operation_at o ws >>= λ p. k p.0 p.1)
+named_then None k ws = refl
+named_then (Some o) k ws = refl
+
+pub body_reads : (m : Manner) (k : Goes Op) (r : Op → Rule Text Line) → AreTails r → Reads tests k r → (ws : List Text) → (body_at ws >>= λ p. k p.0 p.1) ≡ run tests (next operation_named (operation_body m r)) ws
+unfolding body_at run
+body_reads m k r tails reads [] = refl
+body_reads m k r tails reads (w ∷ ws) =
+    pick (is_unknown tests (w ∷ ws)) (suc (length ws)) (named_at (operation_named w) ws) _ (λ p. k p.0 p.1) (named_then (operation_named w) k ws)
+    ∙ body_place tests operation_named (λ o ws. operation_at o ws >>= λ p. k p.0 p.1) (operation_body m r) (ap is_some operation_takes) operation_number (operation_node m r) (operation_reads m k r tails reads) w ws

@@ -1,0 +1,60 @@
+-- The grammar of lines.
+use Rattle.std.specs.Prelude.{ℕ, List, [], ◌∷◌, Option, Some, None, codes}
+use Rattle.map_words.specs.Bytes.{Text}
+use Rattle.grammar_core.specs.Rules.{Rule, Derives, node, ends, on, next, ◌<|>◌}
+use Rattle.statement_parser.specs.Lines.{Manner, Op, Written, plain, Edit, define, paint, drop, Request, ask_value, ask_grid, ask_list, Line, blank, edit, ask, quit}
+use Rattle.statement_parser.specs.Operations.{lookup, operation_named}
+use Rattle.statement_parser.specs.Places.{the, name_of, any_of, side_of, cell_of}
+use Rattle.statement_parser.specs.Bodies.{operation_body}
+use Rattle.statement_parser.specs.declared.command.Command.{Command}
+use Rattle.statement_parser.specs.declared.command.Command.TheVariants.{Paint, Drop, Value, Grid, List as Listing, Quit}
+
+-- an operation, and then what f allows
+abbrev pub body_rule : Manner → (Written → Rule Text Line) → Rule Text Line
+body_rule m f = next operation_named (operation_body m (λ op. f (plain op)))
+
+-- after its name: "=" body
+abbrev pub define_rule : Manner → Text → Rule Text Line
+define_rule m n = next (the (codes "=")) (λ _. body_rule m (λ w. ends (edit (define n w))))
+
+-- name ROW COL ROW COL cell
+abbrev pub paint_rule : Rule Text Line
+paint_rule =
+    next name_of (λ n. next side_of (λ r1. next side_of (λ c1. next side_of (λ r2. next side_of (λ c2. next cell_of (λ v.
+    ends (edit (paint n r1 c1 r2 c2 v))))))))
+
+-- name
+abbrev pub drop_rule : Rule Text Line
+drop_rule = next name_of (λ n. ends (edit (drop n)))
+
+-- any ROW COL
+abbrev pub value_rule : Rule Text Line
+value_rule = next any_of (λ n. next side_of (λ r. next side_of (λ c. ends (ask (ask_value n r c)))))
+
+-- any
+abbrev pub grid_rule : Rule Text Line
+grid_rule = next any_of (λ n. ends (ask (ask_grid n)))
+
+-- the lines that begin with a word of their own
+abbrev pub commands : List (Text × Command)
+commands =
+    (codes "paint", Paint) ∷ (codes "drop", Drop) ∷ (codes "value", Value) ∷ (codes "grid", Grid) ∷ (codes "list", Listing) ∷ (codes "quit", Quit) ∷ []
+
+unfoldable pub command_named : Text → Option Command
+command_named t = lookup commands t
+
+abbrev pub command_rule : Command → Rule Text Line
+command_rule Paint = paint_rule
+command_rule Drop = drop_rule
+command_rule Value = value_rule
+command_rule Grid = grid_rule
+command_rule Listing = ends (ask ask_list)
+command_rule Quit = ends quit
+
+-- a line: nothing, a command, or a statement
+abbrev pub line_rule : Manner → Rule Text Line
+line_rule m = node (Some blank) (on command_named command_rule <|> on name_of (define_rule m))
+
+-- the words are this line
+abbrev pub IsLine : Manner → List Text → Line → Type 0
+IsLine m ws x = Derives (line_rule m) ws x

@@ -1,0 +1,9 @@
+pub mod Lines
+pub mod Operations
+pub mod Places
+pub mod Bodies
+pub mod Grammar
+pub mod Views
+pub mod Gives
+pub mod ReadLocal
+pub mod ReadLine

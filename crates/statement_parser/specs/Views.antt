@@ -1,0 +1,53 @@
+-- What the parser's values are, without where they lie in memory.
+use Rattle.std.specs.Prelude.{ℕ, List, map}
+use Rattle.map_words.specs.Bytes.{Text}
+use Rattle.map_words.specs.declared.cutting.Word.{Word}
+use Rattle.statement_parser.specs.declared.op.Term as terms
+use Rattle.statement_parser.specs.declared.op.Term.TheVariants as a_term
+use Rattle.statement_parser.specs.declared.op.Op as ops
+use Rattle.statement_parser.specs.declared.op.Op.TheVariants as an_op
+use Rattle.statement_parser.specs.declared.line.Written as writtens
+use Rattle.statement_parser.specs.declared.line.Written.TheVariants as a_written
+use Rattle.statement_parser.specs.declared.line.LineEdit as edits
+use Rattle.statement_parser.specs.declared.line.LineEdit.TheVariants as an_edit
+use Rattle.statement_parser.specs.declared.line.Request as requests
+use Rattle.statement_parser.specs.declared.line.Request.TheVariants as a_request
+use Rattle.statement_parser.specs.declared.line.Line as lines
+use Rattle.statement_parser.specs.declared.line.Line.TheVariants as a_line
+use Rattle.statement_parser.specs.Lines.{Term, layer, value, Op, local, difference, ratio, rating, Written, plain, Edit, define, paint, drop, Request, ask_value, ask_grid, ask_list, Line, blank, edit, ask, quit}
+
+-- the texts of words
+abbrev pub texts_of : List Word → List Text
+texts_of ws = map (λ (w : Word). w.text.now) ws
+
+abbrev pub term_view : terms.Term → Term
+term_view (a_term.Layer n) = layer n
+term_view (a_term.Number z) = value z
+
+abbrev pub terms_view : List terms.Term → List Term
+terms_view ts = map term_view ts
+
+abbrev pub op_view : ops.Op → Op
+op_view (an_op.Local s ts) = local s (terms_view ts.items)
+op_view (an_op.Difference l r) = difference (term_view l) (term_view r)
+op_view (an_op.Ratio l r) = ratio (term_view l) (term_view r)
+op_view (an_op.Rating t rs) = rating (term_view t) rs.items
+
+abbrev pub written_view : writtens.Written → Written
+written_view (a_written.Plain o) = plain (op_view o)
+
+abbrev pub edit_view : edits.LineEdit → Edit
+edit_view (an_edit.Define n w) = define n (written_view w)
+edit_view (an_edit.Paint n r1 c1 r2 c2 v) = paint n r1 c1 r2 c2 v
+edit_view (an_edit.Drop n) = drop n
+
+abbrev pub request_view : requests.Request → Request
+request_view (a_request.Value n r c) = ask_value n r c
+request_view (a_request.Grid n) = ask_grid n
+request_view a_request.List = ask_list
+
+abbrev pub line_view : lines.Line → Line
+line_view a_line.Blank = blank
+line_view (a_line.Edit e) = edit (edit_view e)
+line_view (a_line.Ask r) = ask (request_view r)
+line_view a_line.Quit = quit
