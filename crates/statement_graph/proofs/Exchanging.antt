@@ -1,6 +1,6 @@
 -- Parts of a list that change places.
-use Rattle.std.proofs.Common.{◌≡◌, ℕ, ◌+◌, ◌-◌, ◌<◌, ◌≤◌, List, [], ◌∷◌, ◌++◌, length, take, drop, refl, sym, ap, ◌∙◌, arith, append_assoc, length-append, subst, false, IsFalse}
-use Rattle.std.proofs.lemmas.List.{append-nil, take_rest, take_at, drop_at, drop_all, length-drop, take_all, length-take-le}
+use Rattle.std.proofs.Common.{◌≡◌, ℕ, ◌+◌, ◌-◌, ◌≤◌, List, [], ◌++◌, length, take, drop, refl, sym, ap, ◌∙◌, arith, append_assoc, length-append, subst, false, IsFalse}
+use Rattle.std.proofs.lemmas.List.{append-nil, take_rest, take_at, drop_at, drop_all, length-drop, length-take-le}
 use Rattle.statement_graph.specs.declared.node.Entry.{Entry}
 use Rattle.statement_graph.specs.Splices.{spliced}
 use Rattle.map_defs.specs.Ops.{Name}

@@ -1,5 +1,5 @@
 -- A name is found at its first place.
-use Rattle.std.proofs.Common.{◌≡◌, ℕ, ◌+◌, ◌<◌, ◌≤◌, not, get_or, Bool, true, false, cond, List, [], ◌∷◌, map, length, Option, Some, None, option_map, slice_get, find, bytes_eq, refl, sym, ap, ◌∙◌, arith, ltb, inl, inr}
+use Rattle.std.proofs.Common.{◌≡◌, ℕ, ◌+◌, ◌<◌, not, get_or, Bool, true, false, cond, List, [], ◌∷◌, map, length, Option, Some, None, option_map, slice_get, bytes_eq, refl, sym, ap, ◌∙◌, arith, ltb, inl, inr}
 use Rattle.std.specs.Option.{option_and_then}
 use Rattle.std.specs.List.{position_or_len, prefix_len, position}
 use Rattle.std.proofs.lemmas.List.{length-map}
@@ -10,7 +10,7 @@ use Rattle.statement_graph.specs.Firsts.{IsFirst}
 use Rattle.std.proofs.lemmas.Slice.Eq.{bytes_eq-Decides}
 use Rattle.std.proofs.lemmas.List.Folds.{find_at}
 use Rattle.std.proofs.lemmas.Option.{slice_get-map, slice_get_past, slice_get_read, none-some}
-use Rattle.std.proofs.lemmas.Bool.{cases_lt, lt-ltb, le-ltb, true_from_ne_false, false_from_ne_true}
+use Rattle.std.proofs.lemmas.Bool.{cases_lt, lt-ltb, le-ltb, false_from_ne_true}
 use Rattle.map_defs.specs.Ops.{Name}
 use Rattle.map_defs.specs.Nodes.{Node, find_node}
 use Rattle.statement_graph.specs.Tables.{Shown, place_of, looked}
@@ -27,8 +27,8 @@ bytes_eq-turned a b h = false_from_ne_true (bytes_eq b a) (λ e. let s : a ≡ b
 find_by_place : {X : Type 0} (p : X → Bool) (xs : List X) (i : ℕ) → slice_get xs i ≡ option_and_then (slice_get xs) (cond (ltb i (length xs)) (Some i) None)
 find_by_place p xs i =
     elim (cases_lt i (length xs)) [
-      inl h ↦ rw (lt-ltb i (length xs) h) refl
-    | inr h ↦ rw (le-ltb i (length xs) h) (slice_get_past xs i h)
+      | inl h ↦ rw (lt-ltb i (length xs) h) refl
+      | inr h ↦ rw (le-ltb i (length xs) h) (slice_get_past xs i h)
     ]
 
 pub find_node-place_of : (nodes : List Node) (m : Name) → find_node nodes m ≡ option_and_then (slice_get nodes) (place_of nodes m)
@@ -82,16 +82,16 @@ never_lost es at e m o within is named found none =
     let pos = position_or_len p es in
     let self : p e ≡ true = ap (λ q. bytes_eq (name_at e) q) named ∙ bytes_eq-self (name_at e) in
     elim (cases_lt pos (length es)) [
-      inl h ↦ none-some pos (sym none ∙ found ∙ ap (λ b. cond b (Some pos) None) (lt-ltb pos (length es) h))
-    | inr h ↦ (let fails : p (get_or es at e) ≡ false = fails_before_first p es at e (omega arith) in let at_e : p (get_or es at e) ≡ p e = ap p (sym is) in cc)
+      | inl h ↦ none-some pos (sym none ∙ found ∙ ap (λ b. cond b (Some pos) None) (lt-ltb pos (length es) h))
+      | inr h ↦ (let fails : p (get_or es at e) ≡ false = fails_before_first p es at e (omega arith) in let at_e : p (get_or es at e) ≡ p e = ap p (sym is) in cc)
     ]
 
 pub place_within : (p : Entry → Bool) (es : List Entry) (at : ℕ) (o : Option ℕ) → o ≡ position p es → o ≡ Some at → at < length es
 place_within p es at o found some =
     let pos = position_or_len p es in
     elim (cases_lt pos (length es)) [
-      inl h ↦ (let is : Some pos ≡ Some at = sym (ap (λ b. cond b (Some pos) None) (lt-ltb pos (length es) h)) ∙ sym found ∙ some in let same : pos ≡ at = cc in omega arith)
-    | inr h ↦ absurd (none-some at (sym (ap (λ b. cond b (Some pos) None) (le-ltb pos (length es) h)) ∙ sym found ∙ some))
+      | inl h ↦ (let is : Some pos ≡ Some at = sym (ap (λ b. cond b (Some pos) None) (lt-ltb pos (length es) h)) ∙ sym found ∙ some in let same : pos ≡ at = cc in omega arith)
+      | inr h ↦ absurd (none-some at (sym (ap (λ b. cond b (Some pos) None) (le-ltb pos (length es) h)) ∙ sym found ∙ some))
     ]
 
 pub seat_there : (es : List Entry) (at : ℕ) (e : Entry) → at < length es → e ≡ get_or es at e → slice_get (seats es) at ≡ Some (seat_of e)

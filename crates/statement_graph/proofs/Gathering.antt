@@ -1,17 +1,17 @@
 -- What the needs of a place add to it, need by need.
-use Rattle.std.proofs.Common.{◌≡◌, ℕ, suc, ◌+◌, ◌<◌, ◌≤◌, max, Bool, true, false, ◌||◌, List, [], ◌∷◌, ◌++◌, map, fold, length, take, get_or, Option, Some, None, option_map, unwrap_or, slice_get, bytes_eq, is_some, refl, sym, ap, ◌∙◌, arith, IfSome}
+use Rattle.std.proofs.Common.{◌≡◌, ℕ, suc, ◌+◌, ◌<◌, ◌≤◌, max, Bool, true, false, ◌||◌, List, map, fold, length, take, get_or, Option, Some, None, option_map, slice_get, bytes_eq, is_some, refl, sym, ap, ◌∙◌, arith, IfSome}
 use Rattle.std.specs.Option.{option_or, option_and_then}
 use Rattle.std.specs.List.{All}
-use Rattle.std.proofs.lemmas.List.{map_more, length-map, take_all}
+use Rattle.std.proofs.lemmas.List.{map_more, take_all}
 use Rattle.std.proofs.lemmas.List.Sums.{fold_push}
 use Rattle.std.proofs.lemmas.Option.{slice_get_within, get_or_from_slice_get, slice_get_read, none-some}
 use Rattle.map_defs.specs.Ops.{Name}
-use Rattle.map_defs.specs.Nodes.{Node, find_node}
+use Rattle.map_defs.specs.Nodes.{Node}
 use Rattle.statement_graph.specs.declared.row.Row.{Row}
 use Rattle.statement_graph.specs.declared.row.Place.{Place}
 use Rattle.statement_graph.specs.declared.node.Entry.{Entry}
 use Rattle.statement_graph.specs.Seats.{node_at, nodes_at}
-use Rattle.statement_graph.specs.Tables.{Shown, shown, shown_all, place_of, looked, found_or_missing, seen, joined, unjoined, gathered, deeper, step_of, needs_at, need_at}
+use Rattle.statement_graph.specs.Tables.{Shown, shown, shown_all, place_of, found_or_missing, seen, joined, unjoined, gathered, deeper, step_of, needs_at, need_at}
 use Rattle.statement_graph.proofs.Finding.{got-map, node_there}
 
 pub seen_is : (nodes : List Node) (rows : List Row) (n m : Name) (o : Option Row) → o ≡ option_and_then (slice_get rows) (place_of nodes m)

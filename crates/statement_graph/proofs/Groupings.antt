@@ -1,12 +1,14 @@
 -- The groups that places one after the other are.
-use Rattle.std.proofs.Common.{◌≡◌, ℕ, Bool, true, false, not, ◌&&◌, ◌||◌, cond, List, [], ◌∷◌, ◌++◌, map, filter, length, Option, Some, None, bytes_eq, refl, sym, ap, ◌∙◌, append_assoc}
-use Rattle.std.proofs.lemmas.Bool.{and_parts, and_from, or_parts, or_from, not_from_false, not_from_true, cases_Bool}
-use Rattle.std.proofs.lemmas.List.{append-nil}
+use Rattle.std.proofs.Common.{◌≡◌, ◌+◌, ◌≤◌, Bool, true, false, not, ◌&&◌, ◌||◌, cond, List, [], ◌∷◌, ◌++◌, map, length, Result, Ok, Err, bytes_eq, refl, sym, ap, ◌∙◌, append_assoc, arith, length-append}
+use Rattle.std.proofs.lemmas.Bool.{and_parts, and_from, or_parts, or_from, not_from_false}
 use Rattle.map_defs.specs.Ops.{Name}
 use Rattle.map_defs.specs.Nodes.{Node}
 use Rattle.statement_graph.specs.declared.node.Entry.{Entry}
+use Rattle.statement_graph.specs.declared.refusal.GraphRefusal.{GraphRefusal}
+use Rattle.statement_graph.specs.declared.refusal.GraphRefusal.TheVariants.{Cycle, NoMemory}
+use Rattle.statement_graph.specs.Puts.{IsPut}
 use Rattle.statement_graph.specs.Groups.{Group, nodes_in, has_group, put_group, drop_group}
-use Rattle.statement_graph.specs.Seats.{Seat, seat_of, node_at, seats, nodes_at, groups_from, groups_of, are_whole, are_apart}
+use Rattle.statement_graph.specs.Seats.{Seat, node_at, seats, nodes_at, groups_from, groups_of, are_whole, are_apart}
 use Rattle.statement_graph.proofs.Finding.{bytes_eq-turned}
 
 abbrev pub seated : Seat → Node
@@ -27,9 +29,9 @@ groups_from-append true now [] ts w b = absurd cc
 groups_from-append false now [] ts w b = ap (λ l. groups_from l ts) (b refl)
 groups_from-append u now (s ∷ ss) ts w b =
     (elim (s.ends) as (λ e. are_whole (not e) ss ≡ true → cond e (record { name = s.node.name; nodes = now ++ s.node ∷ [] } ∷ groups_from [] (ss ++ ts)) (groups_from (now ++ s.node ∷ []) (ss ++ ts))
-        ≡ cond e (record { name = s.node.name; nodes = now ++ s.node ∷ [] } ∷ groups_from [] ss) (groups_from (now ++ s.node ∷ []) ss) ++ groups_from [] ts) [
-      true ↦ λ w. ap (λ gs. record { name = s.node.name; nodes = now ++ s.node ∷ [] } ∷ gs) (groups_from-append false [] ss ts w (λ _. refl))
-    | false ↦ λ w. groups_from-append true (now ++ s.node ∷ []) ss ts w false_not_true
+    ≡ cond e (record { name = s.node.name; nodes = now ++ s.node ∷ [] } ∷ groups_from [] ss) (groups_from (now ++ s.node ∷ []) ss) ++ groups_from [] ts) [
+      | true ↦ λ w. ap (λ gs. record { name = s.node.name; nodes = now ++ s.node ∷ [] } ∷ gs) (groups_from-append false [] ss ts w (λ _. refl))
+      | false ↦ λ w. groups_from-append true (now ++ s.node ∷ []) ss ts w false_not_true
     ]) w
 
 pub are_whole-append : (u : Bool) (ss ts : List Seat) → are_whole u ss ≡ true → are_whole u (ss ++ ts) ≡ are_whole false ts
@@ -42,8 +44,8 @@ nodes_in-groups_from true now [] w b = absurd cc
 nodes_in-groups_from false now [] w b = sym (ap (λ l. l ++ []) (b refl))
 nodes_in-groups_from u now (s ∷ ss) w b =
     (elim (s.ends) as (λ e. are_whole (not e) ss ≡ true → nodes_in (cond e (record { name = s.node.name; nodes = now ++ s.node ∷ [] } ∷ groups_from [] ss) (groups_from (now ++ s.node ∷ []) ss)) ≡ now ++ s.node ∷ map seated ss) [
-      true ↦ λ w. ap (λ l. (now ++ s.node ∷ []) ++ l) (nodes_in-groups_from false [] ss w (λ _. refl)) ∙ append_assoc now (s.node ∷ []) (map seated ss)
-    | false ↦ λ w. nodes_in-groups_from true (now ++ s.node ∷ []) ss w false_not_true ∙ append_assoc now (s.node ∷ []) (map seated ss)
+      | true ↦ λ w. ap (λ l. (now ++ s.node ∷ []) ++ l) (nodes_in-groups_from false [] ss w (λ _. refl)) ∙ append_assoc now (s.node ∷ []) (map seated ss)
+      | false ↦ λ w. nodes_in-groups_from true (now ++ s.node ∷ []) ss w false_not_true ∙ append_assoc now (s.node ∷ []) (map seated ss)
     ]) w
 
 pub map-seated : (es : List Entry) → map seated (seats es) ≡ nodes_at es
@@ -125,3 +127,28 @@ are_apart-push (f ∷ fs) g a h =
     let q = or_parts (bytes_eq f.name g.name) (has_group fs g.name) h in
     let s : has_group (fs ++ g ∷ []) f.name ≡ false = has_group-append fs (g ∷ []) f.name ∙ or_from (has_group fs f.name) (bytes_eq g.name f.name || false) (not_true (has_group fs f.name) p.0) (or_from (bytes_eq g.name f.name) false (bytes_eq-turned f.name g.name q.0) refl) in
     and_from (not (has_group (fs ++ g ∷ []) f.name)) (are_apart (fs ++ g ∷ [])) (not_from_false (has_group (fs ++ g ∷ []) f.name) s) (are_apart-push fs g p.1 q.1)
+
+-- ---- how many nodes there are
+
+-- putting a statement adds at most its own nodes
+pub length-put_group : (gs : List Group) (n : Name) (xs : List Node) → length (nodes_in (put_group gs n xs)) ≤ length (nodes_in gs) + length xs
+length-put_group [] n xs = let h = length-append xs [] in omega arith
+length-put_group (g ∷ gs) n xs =
+    (elim (bytes_eq g.name n) as (λ b. length (nodes_in (cond b (record { name = g.name; nodes = xs } ∷ gs) (g ∷ put_group gs n xs))) ≤ length (g.nodes ++ nodes_in gs) + length xs) [
+      | true ↦ (let h = length-append xs (nodes_in gs) in let k = length-append g.nodes (nodes_in gs) in omega arith)
+      | false ↦ (let h = length-append g.nodes (nodes_in (put_group gs n xs)) in let k = length-append g.nodes (nodes_in gs) in let l = length-put_group gs n xs in omega arith)
+    ])
+
+pub length-put : (V : Type 0) (old new : List Group) (n : Name) (xs : List Node) (r : Result V GraphRefusal) → IsPut {V = V} old new n xs r → length (nodes_in new) ≤ length (nodes_in old) + length xs
+length-put V old new n xs (Ok v) h = let e : length (nodes_in new) ≡ length (nodes_in (put_group old n xs)) = ap (λ gs. length (nodes_in gs)) h.0 in let le = length-put_group old n xs in omega arith
+length-put V old new n xs (Err Cycle) h = let e : length (nodes_in new) ≡ length (nodes_in old) = ap (λ gs. length (nodes_in gs)) h.0 in omega arith
+length-put V old new n xs (Err NoMemory) h = let e : length (nodes_in new) ≡ length (nodes_in old) = ap (λ gs. length (nodes_in gs)) h in omega arith
+
+-- taking one out adds none
+pub length-drop_group : (gs : List Group) (n : Name) → length (nodes_in (drop_group gs n)) ≤ length (nodes_in gs)
+length-drop_group [] n = omega arith
+length-drop_group (g ∷ gs) n =
+    (elim (bytes_eq g.name n) as (λ b. length (nodes_in (cond (not b) (g ∷ drop_group gs n) (drop_group gs n))) ≤ length (g.nodes ++ nodes_in gs)) [
+      | true ↦ (let k = length-append g.nodes (nodes_in gs) in let l = length-drop_group gs n in omega arith)
+      | false ↦ (let h = length-append g.nodes (nodes_in (drop_group gs n)) in let k = length-append g.nodes (nodes_in gs) in let l = length-drop_group gs n in omega arith)
+    ])

@@ -1,10 +1,10 @@
 -- What becomes of the groups where places are put in or taken out.
-use Rattle.std.proofs.Common.{◌≡◌, ℕ, suc, ◌+◌, ◌-◌, ◌<◌, ◌≤◌, ◌^◌, Bool, true, false, cond, List, [], ◌∷◌, ◌++◌, map, length, take, drop, Option, Some, None, Ok, Err, option_map, option_copied, unwrap_or, subst, slice_get, bytes_eq, is_some, refl, sym, ap, ◌∙◌, arith, append_assoc, length-append}
+use Rattle.std.proofs.Common.{◌≡◌, ℕ, suc, ◌+◌, ◌-◌, ◌<◌, ◌≤◌, ◌^◌, true, false, cond, List, [], ◌∷◌, ◌++◌, map, length, take, drop, Option, Some, None, Ok, Err, option_map, unwrap_or, subst, slice_get, is_some, refl, sym, ap, ◌∙◌, arith, append_assoc, length-append}
 use Rattle.std.specs.Option.{option_and_then}
 use Rattle.std.proofs.lemmas.List.{append-nil, take-append-drop, drop-drop, take_at, drop_at, take_all, drop_all, take-map, drop-map, map-append, length-map, length-take, length-drop}
 use Rattle.map_defs.specs.Ops.{Name}
 use Rattle.map_defs.specs.Nodes.{Node, find_node, lacks_within, lacks, missing}
-use Rattle.map_defs.specs.Depths.{depth_within, depth_in, depth_of, is_looped}
+use Rattle.map_defs.specs.Depths.{depth_within, depth_of, is_looped}
 use Rattle.statement_graph.specs.declared.node.Entry.{Entry}
 use Rattle.statement_graph.specs.declared.row.Row.{Row}
 use Rattle.statement_graph.specs.Groups.{Group, nodes_in, has_group, put_group, drop_group}
@@ -19,8 +19,8 @@ use Rattle.statement_graph.specs.Splices.{spliced, IsSpliced}
 use Rattle.statement_graph.specs.declared.refusal.GraphRefusal.{GraphRefusal}
 use Rattle.statement_graph.specs.declared.refusal.GraphRefusal.TheVariants.{Cycle, NoMemory}
 use Rattle.statement_graph.proofs.Finding.{bytes_eq-self, got-map, find_node-place_of, find_node-name}
-use Rattle.statement_graph.proofs.Groupings.{seated, alone, groups_from-append, are_whole-append, nodes_in-groups_of, map-seated, has_group-append, put_group-new, put_group-there, drop_group-none, drop_group-there, are_apart-after, are_apart-without, are_apart-with, are_apart-push}
-use Rattle.statement_graph.proofs.Spans.{OneGroup, Split, span_from-Some, span_from-None, fresh_group, map-group_seats}
+use Rattle.statement_graph.proofs.Groupings.{seated, alone, groups_from-append, are_whole-append, nodes_in-groups_of, map-seated, put_group-new, put_group-there, drop_group-none, drop_group-there, are_apart-after, are_apart-without, are_apart-with, are_apart-push}
+use Rattle.statement_graph.proofs.Spans.{OneGroup, span_from-Some, span_from-None, fresh_group, map-group_seats}
 
 -- a list in three parts
 pub three_parts : {X : Type 0} (xs : List X) (start end : ℕ) → start ≤ end → xs ≡ take start xs ++ take (end - start) (drop start xs) ++ drop end xs
@@ -104,9 +104,9 @@ put_over es fresh n xs start end h f own a =
     let new : Group = record { name = n; nodes = xs } in
     let made = fresh_group xs n own in
     let is : seats (spliced start end fresh es) ≡ a.front ++ group_seats xs ++ a.back =
-        seats-spliced start end fresh es ∙ ap (λ l. l ++ seats fresh ++ drop end (seats es)) a.before ∙ ap (λ l. a.front ++ l ++ drop end (seats es)) f ∙ ap (λ l. a.front ++ group_seats xs ++ l) a.after in
+    seats-spliced start end fresh es ∙ ap (λ l. l ++ seats fresh ++ drop end (seats es)) a.before ∙ ap (λ l. a.front ++ l ++ drop end (seats es)) f ∙ ap (λ l. a.front ++ group_seats xs ++ l) a.after in
     let put : put_group (groups_of es) n xs ≡ groups_from [] a.front ++ (new ∷ groups_from [] a.back) =
-        ap (λ gs. put_group gs n xs) a.groups ∙ put_group-there (groups_from [] a.front) (groups_from [] a.back) g n xs a.lacks (bytes_eq-self n) in
+    ap (λ gs. put_group gs n xs) a.groups ∙ put_group-there (groups_from [] a.front) (groups_from [] a.back) g n xs a.lacks (bytes_eq-self n) in
     let fresh_is : groups_from [] (group_seats xs) ≡ new ∷ [] = made.is ∙ ap (alone n) (map-group_seats xs) in
     record {
       whole = ap (are_whole false) is ∙ whole-between a.front (group_seats xs) a.back a.whole_front made.whole a.whole_back;
@@ -162,9 +162,9 @@ drop_is es n start end h found =
     let g : Group = record { name = n; nodes = map seated a.mid } in
     let apart : are_apart (groups_from [] a.front ++ g ∷ groups_from [] a.back) ≡ true = sym (ap are_apart a.groups) ∙ h.apart in
     let is : seats (take start es ++ drop end es) ≡ a.front ++ a.back =
-        map-append seat_of (take start es) (drop end es) ∙ ap (λ l. l ++ seats (drop end es)) (sym (take-map seat_of start es) ∙ a.before) ∙ ap (λ l. a.front ++ l) (sym (drop-map seat_of end es) ∙ a.after) in
+    map-append seat_of (take start es) (drop end es) ∙ ap (λ l. l ++ seats (drop end es)) (sym (take-map seat_of start es) ∙ a.before) ∙ ap (λ l. a.front ++ l) (sym (drop-map seat_of end es) ∙ a.after) in
     let dropped : drop_group (groups_of es) n ≡ groups_from [] a.front ++ groups_from [] a.back =
-        ap (λ gs. drop_group gs n) a.groups ∙ drop_group-there (groups_from [] a.front) (groups_from [] a.back) g n a.lacks (bytes_eq-self n) (are_apart-after (groups_from [] a.front) (groups_from [] a.back) g apart) in
+    ap (λ gs. drop_group gs n) a.groups ∙ drop_group-there (groups_from [] a.front) (groups_from [] a.back) g n a.lacks (bytes_eq-self n) (are_apart-after (groups_from [] a.front) (groups_from [] a.back) g apart) in
     record {
       whole = ap (are_whole false) is ∙ are_whole-append false a.front a.back a.whole_front ∙ a.whole_back;
       is = ap (groups_from []) is ∙ groups_from-append false [] a.front a.back a.whole_front (λ _. refl) ∙ sym dropped;

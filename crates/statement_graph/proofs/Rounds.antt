@@ -1,16 +1,16 @@
 -- Each round is one step more of depth, of what is missing, and of what is reached.
-use Rattle.std.proofs.Common.{◌≡◌, ℕ, zero, suc, ◌+◌, ◌<◌, ◌≤◌, max, Bool, true, false, ◌||◌, cond, List, [], ◌∷◌, ◌++◌, map, fold, length, take, set, get_or, Option, Some, None, option_map, unwrap_or, slice_get, find, bytes_eq, is_some, refl, sym, ap, ◌∙◌, subst, arith, IfSome}
-use Rattle.std.specs.Option.{option_or, option_and_then}
+use Rattle.std.proofs.Common.{◌≡◌, ℕ, zero, suc, ◌+◌, ◌<◌, ◌≤◌, max, Bool, false, ◌||◌, List, [], ◌∷◌, ◌++◌, map, fold, length, take, set, get_or, Option, Some, None, option_map, unwrap_or, slice_get, bytes_eq, refl, sym, ap, ◌∙◌, arith, IfSome}
+use Rattle.std.specs.Option.{option_or}
 use Rattle.std.specs.List.{list_any, All}
 use Rattle.std.proofs.Math.Nat.{max-le}
-use Rattle.std.proofs.lemmas.List.{take_more, take_more_set, map_push, map_more, length-map}
+use Rattle.std.proofs.lemmas.List.{take_more_set, map_push, map_more, length-map}
 use Rattle.std.proofs.lemmas.List.Folds.{fold_stays}
-use Rattle.std.proofs.lemmas.Option.{slice_get-get_or, slice_get-map}
+use Rattle.std.proofs.lemmas.Option.{slice_get-get_or}
 use Rattle.std.proofs.Math.Bool.{or_assoc, or-false}
 use Rattle.map_defs.specs.Ops.{Name}
 use Rattle.map_defs.specs.Nodes.{Node, find_node, needs_in, lacks_within, first_some}
 use Rattle.map_defs.specs.Depths.{depth_within, reaches, is_looped}
-use Rattle.statement_graph.specs.Tables.{Shown, shown, shown_all, shown_at, table_at, looked, found_or_missing, seen, joined, unjoined, gathered, deeper, step_of, needs_at, flat_depth}
+use Rattle.statement_graph.specs.Tables.{Shown, shown, shown_all, shown_at, table_at, found_or_missing, seen, joined, unjoined, deeper, step_of, needs_at, flat_depth}
 use Rattle.statement_graph.specs.declared.row.Row.{Row}
 use Rattle.statement_graph.specs.declared.node.Entry.{Entry}
 use Rattle.statement_graph.specs.Seats.{node_at, nodes_at}
@@ -155,7 +155,7 @@ next_step es rows n k next at first row at_in at_next first_in is step table bef
     let len : length nodes ≡ length es = length-map es node_at in
     one_more nodes nodes (λ node. shown_at (suc k) nodes n node.name) next at row at_next (omega arith) before
     (at_first nodes at first (λ node. shown nodes row ≡ step_of nodes (shown_all nodes rows) n node) (λ node. shown nodes row ≡ shown_at (suc k) nodes n node.name) (omega arith) (omega arith) is step
-      (λ node found e s. s ∙ ap (λ t. step_of nodes t n found) table ∙ step_at k nodes n node.name found e))
+    (λ node found e s. s ∙ ap (λ t. step_of nodes t n found) table ∙ step_at k nodes n node.name found e))
 
 -- the row of a place that needs nothing yet
 pub first_step : (es : List Entry) (rows : List Row) (n : Name) (at first : ℕ) (row : Row) → at < length es → at < length rows → first < length es → IsFirst (nodes_at es) at first
@@ -167,7 +167,7 @@ first_step es rows n at first row at_in at_rows first_in is step before =
     let len : length nodes ≡ length es = length-map es node_at in
     one_more nodes nodes (λ node. shown_at 0 nodes n node.name) rows at row at_rows (omega arith) before
     (at_first nodes at first (λ node. shown nodes row ≡ record { depth = flat_depth node.needs; lack = None; reached = bytes_eq node.name n }) (λ node. shown nodes row ≡ shown_at 0 nodes n node.name) (omega arith) (omega arith) is step
-      (λ node found e s. s ∙ first_at nodes n node.name found e))
+    (λ node found e s. s ∙ first_at nodes n node.name found e))
 
 -- depths of a table are small
 shown_depths : (all nodes : List Node) (n : Name) (k : ℕ) (rows : List Row) → shown_all all rows ≡ map (λ (node : Node). shown_at k all n node.name) nodes → (i : ℕ) (d : Row) → i < length rows → (get_or rows i d).depth ≤ suc k

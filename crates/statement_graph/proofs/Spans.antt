@@ -1,15 +1,15 @@
 -- Where a group starts and ends among the places, and what stands before and after it.
-use Rattle.std.proofs.Common.{◌≡◌, ℕ, zero, suc, ◌+◌, ◌<◌, ◌≤◌, Bool, true, false, not, ◌||◌, cond, slice_get, add-one, List, [], ◌∷◌, ◌++◌, map, length, take, drop, Option, Some, None, bytes_eq, refl, sym, ap, ◌∙◌, arith, append_assoc, length-append}
+use Rattle.std.proofs.Common.{◌≡◌, ℕ, zero, suc, ◌+◌, ◌≤◌, Bool, true, false, not, cond, slice_get, add-one, List, [], ◌∷◌, ◌++◌, map, length, drop, Some, None, bytes_eq, refl, sym, ap, ◌∙◌, arith, append_assoc, length-append}
 use Rattle.std.proofs.lemmas.Bool.{or_from}
 use Rattle.std.proofs.lemmas.Option.{some_pair_parts, none-some}
 use Rattle.std.proofs.lemmas.List.{drop_all}
 use Rattle.map_defs.specs.Ops.{Name}
 use Rattle.map_defs.specs.Nodes.{Node}
-use Rattle.statement_graph.specs.Groups.{Group, nodes_in, has_group, put_group, drop_group}
+use Rattle.statement_graph.specs.Groups.{has_group}
 use Rattle.statement_graph.specs.Puts.{own_name}
-use Rattle.statement_graph.specs.Seats.{Seat, groups_from, are_whole, are_apart, span_from}
-use Rattle.statement_graph.specs.Fresh.{group_seats, inner_seat}
-use Rattle.statement_graph.proofs.Finding.{same_name, bytes_eq-self}
+use Rattle.statement_graph.specs.Seats.{Seat, groups_from, are_whole, span_from}
+use Rattle.statement_graph.specs.Fresh.{group_seats}
+use Rattle.statement_graph.proofs.Finding.{same_name}
 use Rattle.statement_graph.proofs.Groupings.{seated, alone, groups_from-append, are_whole-append}
 
 -- seats that go on
@@ -77,7 +77,7 @@ pub span_from-Some : (ss pend : List Seat) (n : Name) (start at a b : ℕ) → G
 span_from-Some [] pend n start at a b g l e = absurd cc
 span_from-Some (s ∷ ss) pend n start at a b g l e =
     go (s.ends) (bytes_eq s.node.name n) refl refl e (λ e. span_from-Some ss [] n (suc at) (suc at) a b tt (omega arith) e)
-      (λ g' l' e. span_from-Some ss (pend ++ s ∷ []) n start (suc at) a b g' l' e)
+    (λ g' l' e. span_from-Some ss (pend ++ s ∷ []) n start (suc at) a b g' l' e)
   where
     go : (ends named : Bool) → s.ends ≡ ends → bytes_eq s.node.name n ≡ named
         → cond ends (cond named (Some (start, suc at)) (span_from (suc at) (suc at) n ss)) (span_from start (suc at) n ss) ≡ Some (a, b)
@@ -164,3 +164,8 @@ module _ (ss : List Seat) (n : Name) (start at : ℕ) (s : Seat) (is : slice_get
 
 pub span_none : (ss : List Seat) (n : Name) (start at : ℕ) → length ss ≤ at → span_from start at n (drop at ss) ≡ None
 span_none ss n start at h = ap (span_from start at n) (drop_all at ss h)
+
+pub own_name-push : (xs : List Node) (x : Node) → own_name (xs ++ x ∷ []) ≡ Some x.name
+own_name-push [] x = refl
+own_name-push (y ∷ []) x = refl
+own_name-push (y ∷ z ∷ zs) x = own_name-push (z ∷ zs) x

@@ -1,7 +1,7 @@
 -- The flat statements by depth, gone through one by one.
-use Rattle.std.proofs.Common.{◌≡◌, ℕ, zero, suc, ◌+◌, ◌-◌, ◌<◌, ◌≤◌, Bool, true, false, ◌&&◌, ◌==◌, cond, List, [], ◌∷◌, ◌++◌, map, filter, flat_map, length, take, drop, get_or, Option, Some, None, option_map, slice_get, is_some, refl, sym, ap, ◌∙◌, arith, append_assoc, add-one}
-use Rattle.std.proofs.lemmas.List.{at_drop_more, at_drop_all, length-map}
-use Rattle.std.proofs.lemmas.Option.{slice_get-get_or, slice_get-map, none-some, cond_some}
+use Rattle.std.proofs.Common.{◌≡◌, ℕ, zero, suc, ◌+◌, ◌-◌, ◌<◌, ◌≤◌, Bool, true, false, ◌&&◌, ◌==◌, cond, List, [], ◌∷◌, ◌++◌, map, filter, flat_map, length, drop, get_or, Option, Some, None, option_map, slice_get, is_some, refl, sym, ap, ◌∙◌, arith, add-one}
+use Rattle.std.proofs.lemmas.List.{length-map}
+use Rattle.std.proofs.lemmas.Option.{slice_get-map, none-some, cond_some}
 use Rattle.statement_graph.specs.declared.node.Entry.{Entry}
 use Rattle.statement_graph.specs.Seats.{node_at, nodes_at}
 use Rattle.statement_graph.proofs.Finding.{node_there}
@@ -9,7 +9,7 @@ use Rattle.std.specs.List.{range_with_len}
 use Rattle.map_defs.specs.Nodes.{Node}
 use Rattle.map_defs.specs.Depths.{depth_in, by_depth}
 use Rattle.statement_graph.specs.declared.row.Row.{Row}
-use Rattle.statement_graph.specs.Tables.{Shown, shown, kept, kept_at}
+use Rattle.statement_graph.specs.Tables.{shown, kept, kept_at}
 use Rattle.statement_graph.specs.Walks.{is_at_depth, at_depth}
 
 pub slice_get-append : {X : Type 0} (xs ys : List X) (k : ℕ) (x : X) → slice_get xs k ≡ Some x → slice_get (xs ++ ys) k ≡ Some x

@@ -1,5 +1,5 @@
 -- What putting a statement asks, and what it answers.
-use Rattle.std.specs.Prelude.{◌≡◌, ℕ, ◌+◌, ◌^◌, ◌<◌, List, [], ◌∷◌, length, Option, Some, None, Result, Ok, Err, IsTrue, IsFalse, map}
+use Rattle.std.specs.Prelude.{◌≡◌, ◌+◌, ◌^◌, ◌<◌, List, [], ◌∷◌, length, Option, Some, None, Result, Ok, Err, IsTrue, IsFalse, map}
 use Rattle.map_defs.specs.Ops.{Name}
 use Rattle.map_defs.specs.Nodes.{Node}
 use Rattle.map_defs.specs.Depths.{is_looped}

@@ -1,5 +1,5 @@
 -- For each place its depth, the first missing name, and whether a name is reached, at a number of steps.
-use Rattle.std.specs.Prelude.{◌≡◌, ℕ, suc, ◌+◌, ◌^◌, ◌<◌, max, Bool, true, false, ◌||◌, List, [], ◌∷◌, map, fold, length, Option, Some, None, option_map, unwrap_or, slice_get, position, bytes_eq}
+use Rattle.std.specs.Prelude.{◌≡◌, ℕ, suc, ◌+◌, ◌^◌, ◌<◌, max, Bool, true, false, ◌||◌, List, [], map, fold, length, Option, Some, None, option_map, unwrap_or, slice_get, position, bytes_eq}
 use Rattle.std.specs.Option.{option_or, option_and_then}
 use Rattle.map_defs.specs.Ops.{Name}
 use Rattle.map_defs.specs.Nodes.{Node, lacks_within, lacks}

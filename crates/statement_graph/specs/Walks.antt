@@ -1,9 +1,7 @@
 -- The flat statements of one depth, gone through for the one at a place.
-use Rattle.std.specs.Prelude.{◌≡◌, ℕ, ◌==◌, Bool, ◌&&◌, List, [], ◌∷◌, ◌++◌, filter, flat_map, slice_get, Option, Some, None, option_map, is_some}
+use Rattle.std.specs.Prelude.{◌≡◌, ℕ, ◌==◌, Bool, ◌&&◌, List, ◌++◌, filter, slice_get, Some, is_some}
 use Rattle.map_defs.specs.Nodes.{Node}
 use Rattle.map_defs.specs.Depths.{depth_in}
-use Rattle.std.specs.Borrow.{Bor}
-use Rattle.statement_graph.specs.declared.node.Node.{Node as Given}
 use Rattle.statement_graph.specs.declared.row.Nth.{Nth}
 use Rattle.statement_graph.specs.declared.row.Nth.TheVariants.{Found, Left}
 use Rattle.statement_graph.specs.Puts.{flat_node}

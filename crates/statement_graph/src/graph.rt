@@ -55,7 +55,11 @@ impl Graph {
         let entries = copy_entries(alloc, self.entries.as_slice())?;
         let rows = Vec::from_slice(alloc, self.rows.as_slice())?;
         let spare = Vec::from_slice(alloc, self.spare.as_slice())?;
-        Ok(Graph { entries, rows, spare })
+        Ok(Graph {
+            entries,
+            rows,
+            spare,
+        })
     }
 
     /// How deep a name stands; none where it isn't there.
@@ -135,7 +139,12 @@ impl Graph {
             cut_out(&mut self.entries, span);
             self.rows.truncate(total);
             self.spare.truncate(total);
-            resettle(self.entries.as_slice(), name, &mut self.rows, &mut self.spare);
+            resettle(
+                self.entries.as_slice(),
+                name,
+                &mut self.rows,
+                &mut self.spare,
+            );
         }
     }
 }

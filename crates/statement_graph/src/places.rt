@@ -49,7 +49,10 @@ pub(crate) fn span_or_end(entries: &[Entry], name: &Name) -> Span
 {
     match span_of(entries, name) {
         Some(span) => span,
-        None => Span { start: entries.len(), end: entries.len() },
+        None => Span {
+            start: entries.len(),
+            end: entries.len(),
+        },
     }
 }
 
@@ -66,7 +69,10 @@ pub(crate) fn copy_entries(alloc: Global, entries: &[Entry]) -> Result<Vec<Entry
 fn inner_entries(alloc: Global, nodes: Vec<Node>) -> Result<Vec<Entry>, AllocError>
     ensures { IfOk result (λ v. v.items ≡ map Entry.Inner nodes.items) }
 {
-    nodes.into_iter().map(|node| Entry::Inner(node)).collect(alloc)
+    nodes
+        .into_iter()
+        .map(|node| Entry::Inner(node))
+        .collect(alloc)
 }
 
 /// A statement's places, for its flat statements.

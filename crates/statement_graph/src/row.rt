@@ -33,7 +33,11 @@ pub(crate) struct Row {
 }
 
 /// What a place has that needs nothing.
-pub(crate) const BARE: Row = Row { depth: 0, lack: None, reached: false };
+pub(crate) const BARE: Row = Row {
+    depth: 0,
+    lack: None,
+    reached: false,
+};
 
 /// The row of a name, where it is there.
 pub(crate) fn look(entries: &[Entry], rows: &[Row], name: &Name) -> Option<Row>
@@ -55,7 +59,11 @@ fn seen(entries: &[Entry], rows: &[Row], name: &Name, place: Place, need: &Name)
     ensures shallow { result.depth + 1 < 2 ^ 32 }
 {
     match look(entries, rows, need) {
-        None => Row { depth: 0, lack: Some(place), reached: *need == *name },
+        None => Row {
+            depth: 0,
+            lack: Some(place),
+            reached: *need == *name,
+        },
         Some(row) => row,
     }
 }
@@ -81,10 +89,17 @@ fn gathered(entries: &[Entry], rows: &[Row], name: &Name, at: usize) -> Row
     ensures shallow { result.depth + 1 < 2 ^ 32 }
 {
     let entry = &entries[at];
-    let mut row = Row { depth: 0, lack: None, reached: *entry.name() == *name };
+    let mut row = Row {
+        depth: 0,
+        lack: None,
+        reached: *entry.name() == *name,
+    };
     let needs = entry.needs();
     for (k, need) in needs.iter().enumerate() {
-        row = joined(row, seen(entries, rows, name, Place { node: at, need: k }, need));
+        row = joined(
+            row,
+            seen(entries, rows, name, Place { node: at, need: k }, need),
+        );
     }
     row
 }
@@ -99,7 +114,11 @@ fn row_of(entries: &[Entry], rows: &[Row], name: &Name, at: usize) -> Row
 {
     let row = gathered(entries, rows, name, at);
     if entries[at].is_flat() {
-        return Row { depth: row.depth + 1, lack: row.lack, reached: row.reached };
+        return Row {
+            depth: row.depth + 1,
+            lack: row.lack,
+            reached: row.reached,
+        };
     }
     row
 }
@@ -123,7 +142,11 @@ fn first_rows(entries: &[Entry], name: &Name, rows: &mut [Row])
 {
     for at in 0..entries.len() {
         let entry = &entries[first_of(entries, at)];
-        rows[at] = Row { depth: entry.first_depth(), lack: None, reached: *entry.name() == *name };
+        rows[at] = Row {
+            depth: entry.first_depth(),
+            lack: None,
+            reached: *entry.name() == *name,
+        };
     }
 }
 
@@ -212,11 +235,20 @@ pub(crate) enum Nth<'a> {
 fn flat_at(entry: &Entry, row: Row, depth: u32) -> Option<&Node>
     ensures { option_map flat_node (option_copied result) ≡ (if is_some (node_at entry.now).needs && (row.depth == depth) then Some (node_at entry.now) else None) }
 {
-    if row.depth == depth { entry.flat() } else { None }
+    if row.depth == depth {
+        entry.flat()
+    } else {
+        None
+    }
 }
 
 /// The flat statement at a place among those of one depth.
-pub(crate) fn nth_at_depth<'a>(entries: &'a [Entry], rows: &[Row], depth: u32, place: usize) -> Nth<'a>
+pub(crate) fn nth_at_depth<'a>(
+    entries: &'a [Entry],
+    rows: &[Row],
+    depth: u32,
+    place: usize,
+) -> Nth<'a>
     requires rows_are { length rows.now ≡ length entries.now }
     requires table { map (λ r. kept (shown (nodes_at entries.now) r)) rows.now ≡ map (λ (node : Defined). kept_at (nodes_at entries.now) node.name) (nodes_at entries.now) }
     ensures { IsNth result (at_depth (nodes_at entries.now) depth) place }

@@ -13,7 +13,13 @@ use crate::row::{Row, is_looped, resettle};
 use map_words::Name;
 
 /// Settles the rows of the first places; whether the name is reached from its own needs there.
-fn settle_front(entries: &Vec<Entry>, count: usize, name: &Name, rows: &mut Vec<Row>, spare: &mut Vec<Row>) -> bool
+fn settle_front(
+    entries: &Vec<Entry>,
+    count: usize,
+    name: &Name,
+    rows: &mut Vec<Row>,
+    spare: &mut Vec<Row>,
+) -> bool
     requires within { count ≤ length entries.now.items }
     requires few { count + 1 < 2 ^ 32 }
     requires rows_are { length rows.old.items ≡ count }
@@ -30,7 +36,14 @@ fn settle_front(entries: &Vec<Entry>, count: usize, name: &Name, rows: &mut Vec<
 
 /// Puts places in for those of a span, and settles the rows; takes them out again where the name would be reached from
 /// its own needs.
-pub(crate) fn splice(entries: &mut Vec<Entry>, name: &Name, span: Span, mut fresh: Vec<Entry>, rows: &mut Vec<Row>, spare: &mut Vec<Row>) -> Result<(), GraphRefusal>
+pub(crate) fn splice(
+    entries: &mut Vec<Entry>,
+    name: &Name,
+    span: Span,
+    mut fresh: Vec<Entry>,
+    rows: &mut Vec<Row>,
+    spare: &mut Vec<Row>,
+) -> Result<(), GraphRefusal>
     requires order { span.start ≤ span.end }
     requires within { span.end ≤ length entries.old.items }
     requires rows_are { length rows.old.items + (span.end - span.start) ≡ length entries.old.items + length fresh.items }

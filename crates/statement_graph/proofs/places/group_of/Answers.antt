@@ -1,4 +1,3 @@
-use Rattle.std.proofs.Common.{◌∙◌}
 use Rattle.statement_graph.proofs.Making.{group_made}
 use Rattle.statement_graph.proofs.places.group_of.Goals as goal
 

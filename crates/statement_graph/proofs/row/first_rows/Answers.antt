@@ -1,7 +1,4 @@
-use Rattle.std.proofs.Common.{◌≡◌, ◌<◌, None, Some, length, ap, sym, ◌∙◌, bytes_eq, arith, slice_get}
-use Rattle.statement_graph.specs.Seats.{node_at, nodes_at}
-use Rattle.statement_graph.specs.Tables.{Shown, flat_depth}
-use Rattle.statement_graph.proofs.Finding.{node_there}
+use Rattle.std.proofs.Common.{None, ap, ◌∙◌, bytes_eq, arith}
 use Rattle.statement_graph.proofs.Rounds.{first_step, first_row}
 use Rattle.statement_graph.proofs.row.first_rows.Goals as goal
 

@@ -1,4 +1,4 @@
-use Rattle.std.proofs.Common.{None, Some, ◌∙◌, ap, bytes_eq}
+use Rattle.std.proofs.Common.{None, Some, ◌∙◌, bytes_eq}
 use Rattle.statement_graph.specs.Seats.{nodes_at, node_at, name_at}
 use Rattle.statement_graph.proofs.Finding.{found_node, node_there, place_within}
 use Rattle.statement_graph.proofs.Rounds.{looped_missing, looped_found}

@@ -1,6 +1,4 @@
-use Rattle.std.proofs.Common.{arith, ◌≡◌, ◌<◌, length}
-use Rattle.std.proofs.lemmas.List.{length-map}
-use Rattle.statement_graph.specs.Seats.{node_at, nodes_at}
+use Rattle.std.proofs.Common.{arith}
 use Rattle.statement_graph.proofs.Rounds.{next_step}
 use Rattle.statement_graph.proofs.row.next_rows.Goals as goal
 

@@ -1,4 +1,4 @@
-use Rattle.std.proofs.Common.{◌+◌, ◌-◌, Some, ap, sym, ◌∙◌, flat_map, length, slice_get}
+use Rattle.std.proofs.Common.{◌+◌, ◌-◌, ap, sym, ◌∙◌, flat_map, length, slice_get}
 use Rattle.std.specs.List.{range_with_len}
 use Rattle.statement_graph.specs.Puts.{flat_node}
 use Rattle.statement_graph.specs.Seats.{nodes_at}

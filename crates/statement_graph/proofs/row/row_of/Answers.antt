@@ -1,6 +1,6 @@
-use Rattle.std.proofs.Common.{◌≡◌, ◌+◌, ap, sym, ◌∙◌, add-one}
+use Rattle.std.proofs.Common.{sym, ◌∙◌, add-one}
 use Rattle.statement_graph.specs.Seats.{nodes_at, node_at}
-use Rattle.statement_graph.specs.Tables.{shown, deeper}
+use Rattle.statement_graph.specs.Tables.{shown}
 use Rattle.statement_graph.proofs.Gathering.{step_is, deeper_yes, deeper_no}
 use Rattle.statement_graph.proofs.row.row_of.Goals as goal
 

@@ -1,8 +1,7 @@
-use Rattle.std.proofs.Common.{◌≡◌, ◌+◌, ◌<◌, ◌^◌, Some, None, ap, sym, ◌∙◌}
+use Rattle.std.proofs.Common.{◌+◌, ◌<◌, ◌^◌, Some, None, sym, ◌∙◌}
 use Rattle.statement_graph.specs.declared.row.Row.{Row}
 use Rattle.statement_graph.specs.Seats.{nodes_at}
-use Rattle.statement_graph.specs.Tables.{place_of, found_or_missing, shown}
-use Rattle.std.specs.Option.{option_map}
+use Rattle.statement_graph.specs.Tables.{place_of}
 use Rattle.statement_graph.proofs.Gathering.{seen_is, missing_shown, all_found}
 use Rattle.statement_graph.proofs.row.seen.Goals as goal
 

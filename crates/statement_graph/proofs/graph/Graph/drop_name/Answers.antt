@@ -1,4 +1,4 @@
-use Rattle.std.proofs.Common.{◌≡◌, ◌-◌, ◌++◌, Some, None, length, take, drop, option_map, ap, sym, ◌∙◌, subst, List, arith}
+use Rattle.std.proofs.Common.{◌≡◌, ◌-◌, ◌++◌, None, length, take, drop, option_map, ap, sym, ◌∙◌, subst, List, arith}
 use Rattle.std.proofs.lemmas.List.{length-take}
 use Rattle.statement_graph.specs.Fresh.{span_pair}
 use Rattle.statement_graph.specs.Groups.{drop_group}

@@ -1,7 +1,6 @@
 use Rattle.std.proofs.Common.{◌≡◌, ◌+◌, ◌-◌, ◌<◌, ◌^◌, length, ap, sym, ◌∙◌, arith}
 use Rattle.statement_graph.specs.Groups.{nodes_in, put_group}
 use Rattle.statement_graph.specs.Puts.{flat_nodes}
-use Rattle.statement_graph.specs.Seats.{groups_of}
 use Rattle.statement_graph.specs.Splices.{spliced}
 use Rattle.statement_graph.proofs.Placing.{put_is, span_at, kept_whole, kept_put, put_refused, put_accepted, put_length}
 use Rattle.statement_graph.proofs.Exchanging.{length-spliced}

@@ -1,7 +1,6 @@
-use Rattle.std.proofs.Common.{◌≡◌, ◌+◌, ◌<◌, ◌^◌, ◌++◌, ◌∷◌, [], length, ap, sym, ◌∙◌, arith}
+use Rattle.std.proofs.Common.{◌≡◌, ◌+◌, ◌<◌, ◌^◌, length, ap, sym, ◌∙◌, arith}
 use Rattle.std.proofs.lemmas.List.{length-map, length_push}
 use Rattle.statement_graph.specs.Groups.{nodes_in, has_group}
-use Rattle.statement_graph.specs.Puts.{source_node}
 use Rattle.statement_graph.specs.Seats.{groups_of, node_at}
 use Rattle.statement_graph.specs.declared.node.Entry.TheVariants.{Source}
 use Rattle.statement_graph.proofs.Placing.{source_put, kept_whole, kept_by, seen_nodes, with_source}
