@@ -1,0 +1,9 @@
+pub mod Finding
+pub mod Rounds
+pub mod Gathering
+pub mod Groupings
+pub mod Spans
+pub mod Walking
+pub mod Placing
+pub mod Exchanging
+pub mod Making
