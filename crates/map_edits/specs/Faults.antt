@@ -1,0 +1,48 @@
+-- The first fault of a state: a defined statement with too many viewers, or with a value that no cell may hold.
+use Rattle.std.specs.Prelude.{ℕ, ◌&&◌, nat_lt, List, [], ◌∷◌, map, position, Option, Some, None, is_some, if◌then◌else◌}
+use Rattle.map_nums.specs.Grids.{Cells, Grid}
+use Rattle.map_nums.specs.Answers.{is_wide}
+use Rattle.map_defs.specs.Sight.{viewer_count, most_viewers}
+use Rattle.map_defs.specs.Ops.{Name, sight_op}
+use Rattle.map_defs.specs.Nodes.{Node}
+use Rattle.map_defs.specs.Depths.{by_depth}
+use Rattle.map_edits.specs.Entries.{Making, by_op, layers, find_making, nodes_of}
+use Rattle.map_edits.specs.EngineStates.{EngineState, value_of, term_cells}
+
+pub data Fault : Type 0 where
+  -- a layer, and how many viewers it has
+  too_many_viewers : Name → ℕ → Fault
+  -- a layer, and the place of its first such cell
+  overflow : Name → ℕ → Fault
+
+abbrev pub viewers_among : Option Cells → ℕ
+viewers_among None = 0
+viewers_among (Some cells) = viewer_count cells
+
+-- how many viewers a layer has; none but the sums of sight have some
+abbrev pub viewers_of : EngineState → Option Making → ℕ
+viewers_of s (Some (by_op (sight_op sight viewers surface))) = viewers_among (term_cells s.size (value_of s) viewers)
+viewers_of s making = 0
+
+abbrev pub wide_place : Option Grid → Option ℕ
+wide_place None = None
+wide_place (Some grid) = position is_wide grid.cells
+
+abbrev pub overflow_at : Name → Option ℕ → Option Fault
+overflow_at n None = None
+overflow_at n (Some place) = Some (overflow n place)
+
+-- the fault of a layer: viewers come before a value out of range
+abbrev pub fault_of_layer : EngineState → Name → Option Fault
+fault_of_layer s n =
+    if nat_lt most_viewers (viewers_of s (find_making (layers s.entries) n)) && is_some (value_of s n) then Some (too_many_viewers n (viewers_of s (find_making (layers s.entries) n)))
+    else overflow_at n (wide_place (value_of s n))
+
+abbrev pub first_fault : List (Option Fault) → Option Fault
+first_fault [] = None
+first_fault (None ∷ os) = first_fault os
+first_fault (Some f ∷ os) = Some f
+
+-- the first by depth, then place
+unfoldable pub fault_of : EngineState → Option Fault
+fault_of s = first_fault (map (λ (node : Node). fault_of_layer s node.name) (by_depth (nodes_of s.entries)))

@@ -1,0 +1,5 @@
+pub mod Entries
+pub mod EngineStates
+pub mod Faults
+pub mod Edits
+pub mod Sessions
