@@ -1,9 +1,5 @@
-mod Splits
-mod Digits
-mod CellLists
-mod Headers
+mod HeaderLines
 mod Spaces
 mod RowsOfTiles
 mod RowTexts
 mod Looks
-mod GridRows

@@ -1,4 +1,14 @@
 pub mod Tokens
-pub mod Plain
+pub mod Faults
+pub mod Numbers
+pub mod Headers
+pub mod Headed
+pub mod Keys
+pub mod Contents
+pub mod Pairs
+pub mod Grammar
 pub mod Printed
+pub mod ReadBack
 pub mod Reads
+pub mod Places
+pub mod Wholes

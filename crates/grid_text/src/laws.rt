@@ -1,0 +1,14 @@
+//! Laws of the definitions.
+
+ghost use Rattle.grid_text.specs.Grammar.{ReadsAll};
+ghost use Rattle.grid_text.specs.ReadBack.{ReadsBack};
+
+/// Reading finds the texts of grids, and no others.
+pub fn texts_are_read()
+    ensures { ReadsAll }
+{}
+
+/// What is printed reads back as the same header and cells.
+pub fn printed_reads_back()
+    ensures { ReadsBack }
+{}
