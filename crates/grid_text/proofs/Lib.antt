@@ -1,3 +1,10 @@
+mod Naturals
+mod PairLists
+mod SoundHeaders
+mod GridReading
+mod FewDigits
+mod CellLists
+mod Splits
 mod HeaderLines
 mod Spaces
 mod RowsOfTiles

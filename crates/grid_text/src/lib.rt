@@ -7,7 +7,7 @@
 mod cells;
 mod headers;
 mod keys;
-pub mod laws;
+mod laws;
 mod numbers;
 mod print;
 mod read;
@@ -19,6 +19,7 @@ ghost use Rattle.std.specs.Prelude.{◌≡◌};
 
 use layer_tiles::{Layer, Text};
 use map_nums::NoMemory;
+pub use laws::{printed_reads_back, texts_are_read};
 pub use print::print_grid;
 pub use read::read_grid;
 use std::alloc::{AllocError, AllocFailed};
