@@ -1,3 +1,4 @@
+mod WorkedTexts
 mod Naturals
 mod PairLists
 mod SoundHeaders

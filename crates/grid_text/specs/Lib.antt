@@ -10,5 +10,6 @@ pub mod Grammar
 pub mod Printed
 pub mod ReadBack
 pub mod Reads
+pub mod Rows
 pub mod Places
 pub mod Wholes

@@ -2,6 +2,7 @@
 
 ghost use Rattle.grid_text.specs.Grammar.{ReadsAll};
 ghost use Rattle.grid_text.specs.ReadBack.{ReadsBack};
+ghost use Rattle.grid_text.specs.Rows.{Rows};
 
 /// Reading finds the texts of grids, and no others.
 pub fn texts_are_read()
@@ -11,4 +12,9 @@ pub fn texts_are_read()
 /// What is printed reads back as the same header and cells.
 pub fn printed_reads_back()
     ensures { ReadsBack }
+{}
+
+/// Worked texts hold what the definitions make of them.
+pub fn worked_texts()
+    ensures { Rows }
 {}

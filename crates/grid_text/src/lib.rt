@@ -19,7 +19,7 @@ ghost use Rattle.std.specs.Prelude.{◌≡◌};
 
 use layer_tiles::{Layer, Text};
 use map_nums::NoMemory;
-pub use laws::{printed_reads_back, texts_are_read};
+pub use laws::{printed_reads_back, texts_are_read, worked_texts};
 pub use print::print_grid;
 pub use read::read_grid;
 use std::alloc::{AllocError, AllocFailed};
