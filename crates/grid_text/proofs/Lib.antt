@@ -1,3 +1,8 @@
+mod CellTexts
+mod GrammarLaw
+mod KeyNames
+mod Entries
+mod HeaderWalk
 mod WorkedTexts
 mod Naturals
 mod PairLists

@@ -12,7 +12,7 @@ use Rattle.grid_text.specs.declared.keys.Found.{Found}
 use Rattle.grid_text.specs.declared.keys.Key.{Key}
 use Rattle.grid_text.proofs.CellLists.{refuses-same}
 
-abbrev then_pairs : ℕ → Result (Found × List Token) Fault → Result (Found × List Token) Fault
+abbrev pub then_pairs : ℕ → Result (Found × List Token) Fault → Result (Found × List Token) Fault
 then_pairs end r = r >>= λ p. pairs_in end p.0 p.1
 
 pair_first : (end : ℕ) (found : Found) (value : Token) (tokens : List Token) (r : Result Key Fault)

@@ -1,5 +1,5 @@
 -- What the pairs of a header say, by the table of keys.
-use Rattle.std.specs.Prelude.{◌≡◌, ℕ, Bool, true, false, List, [], ◌∷◌, map, Some, codes, filter, ℤ, negsuc, IsFalse, if◌then◌else◌}
+use Rattle.std.specs.Prelude.{◌≡◌, ℕ, ◌≤◌, Bool, true, false, List, [], ◌∷◌, length, map, Some, codes, filter, ℤ, negsuc, IsFalse, if◌then◌else◌}
 use Rattle.std.specs.Char.{to_ascii_lowercase}
 use Rattle.grid_text.specs.Contents.{Head}
 use Rattle.grid_text.specs.Headers.{IsDecimal}
@@ -64,6 +64,15 @@ is_size_entry _ = false
 abbrev pub is_null : Entry → Bool
 is_null (null z) = true
 is_null _ = false
+
+-- each key is there at most once
+pub record Once (entries : List Entry) : Type 0 where
+  pub columns : length (filter is_columns entries) ≤ 1
+  pub rows : length (filter is_rows entries) ≤ 1
+  pub x : length (filter is_x entries) ≤ 1
+  pub y : length (filter is_y entries) ≤ 1
+  pub size : length (filter is_size_entry entries) ≤ 1
+  pub null : length (filter is_null entries) ≤ 1
 
 -- the number that stands for null: of the one entry that says it, or -9999 where none does
 abbrev pub SaysNull : List Entry → ℤ → Type 0
