@@ -1,15 +1,19 @@
 -- Tokens that are cells are read as them, and no others are.
-use Rattle.std.proofs.Common.{◌≡◌, ◌≢◌, ℕ, ◌+◌, ◌==◌, true, false, cond, ℤ, List, [], ◌∷◌, length, Option, Some, None, Result, Ok, Err, refl, ap, subst, ◌∙◌, inl, inr, arith}
+use Rattle.std.proofs.Common.{◌≡◌, ◌≢◌, ℕ, ◌+◌, ◌≤◌, ◌<◌, ◌==◌, ◌||◌, ◌&&◌, true, false, cond, nat_le, nat_lt, ℤ, pos, neg_ℤ, List, [], ◌∷◌, length, take, drop, Option, Some, None, Result, Ok, Err, refl, sym, ap, subst, ◌∙◌, inl, inr, arith}
 use Rattle.std.specs.Prelude.{◌⊎◌}
+use Rattle.std.specs.Char.{is_ascii_digit}
+use Rattle.std.specs.List.{prefix_len}
+use Rattle.std.specs.Option.{option_map}
 use Rattle.std.specs.Ordering.{int_eq}
-use Rattle.std.proofs.lemmas.Bool.{cond-true, cond-false, cases_Bool, eq-eqb, ne_eqb}
+use Rattle.std.proofs.lemmas.Bool.{cond-true, cond-false, cases_Bool, cases_lt, and_right, lt-leb, eq-eqb, ne_eqb}
 use Rattle.std.proofs.lemmas.Bool.Decides.{Decides-int_eq}
 use Rattle.map_nums.specs.Grids.{Cells}
 use Rattle.map_nums.specs.Numbers.{is_value}
 use Rattle.grid_text.specs.Contents.{cell_of_number, cell_in, cells_from}
 use Rattle.grid_text.specs.Faults.{Fault, cell, range, more, few, or_fault, ◌>>=◌}
 use Rattle.grid_text.specs.Grammar.{IsCellText, AreCells}
-use Rattle.grid_text.specs.Numbers.{whole_in}
+use Rattle.grid_text.specs.Keys.{begins_with_letter}
+use Rattle.grid_text.specs.Numbers.{whole_in, natural_in, is_zero_fraction, digits_number}
 use Rattle.grid_text.specs.Tokens.{Token}
 use Rattle.grid_text.proofs.SoundHeaders.{bind_ok, ok_is, or_fault_ok, chosen_ok}
 
@@ -59,3 +63,18 @@ are-cells null need have (token ∷ tokens) (c ∷ cells) h n =
     cond-false _ _ _ (ne_eqb have need (λ e. omega (arith, n, e)))
     ∙ ap (λ r. r >>= λ c. cells_from null need (have + 1) tokens >>= λ cells. Ok (c ∷ cells)) (text-cell null (have + 1) token.text c h.0)
     ∙ ap (λ (r : Result Cells Fault). r >>= λ cells. Ok (c ∷ cells)) (are-cells null need (have + 1) tokens cells h.1 (omega (arith, n)))
+
+-- a number doesn't begin with a letter
+pub number-no_letter : (text : List ℕ) (z : ℤ) → whole_in text ≡ Some z → begins_with_letter text ≡ false
+number-no_letter [] z h = refl
+number-no_letter (b ∷ text) z h =
+    elim (cases_lt b 65) [
+      | inl l ↦ λ i. ((lt-leb 65 b l i && nat_le b 90) || (lt-leb 97 b (omega (arith, l)) i && nat_le b 122))
+      | inr l ↦
+          let plus : (b == 43) ≡ false = ne_eqb b 43 (λ e. omega (arith, e, l)) in
+          let minus : (b == 45) ≡ false = ne_eqb b 45 (λ e. omega (arith, e, l)) in
+          let digit : is_ascii_digit b ≡ false = and_right (nat_le 48 b) (nat_le b 57) (lt-leb b 57 (omega (arith, l))) in
+          let none : natural_in (b ∷ text) ≡ None = λ i. (let count : ℕ = cond (digit i) (1 + prefix_len is_ascii_digit text) 0 in cond (nat_lt 0 count && is_zero_fraction (drop count (b ∷ text))) (Some (digits_number (take count (b ∷ text)))) None) in
+          let whole : whole_in (b ∷ text) ≡ None = (λ i. option_map (λ n. cond (b == 45) (neg_ℤ (pos n)) (pos n)) (natural_in (cond (plus i || minus i) text (b ∷ text)))) ∙ ap (option_map (λ n. cond (b == 45) (neg_ℤ (pos n)) (pos n))) none in
+          absurd (let e : None ≡ Some z = sym whole ∙ h in cc)
+    ]

@@ -1,3 +1,7 @@
+mod WordTexts
+mod NumberTexts
+mod DecimalWords
+mod ReadingBack
 mod CellTexts
 mod GrammarLaw
 mod KeyNames

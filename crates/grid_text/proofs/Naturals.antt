@@ -80,7 +80,7 @@ digits_pass text digits found count n d s =
     let all : list_all is_ascii_digit digits ≡ true = ap (list_all is_ascii_digit) (d ∙ ap (λ k. take k text) n) ∙ prefix_passes is_ascii_digit text in
     ap (list_all is_ascii_digit) s ∙ drop_passes is_ascii_digit (prefix_len (λ b. b == 48) digits) digits all
 
-natural_is : (text digits fraction : List ℕ) (count : ℕ) → count ≡ prefix_len is_ascii_digit text → (count ≡ 0 → ⊥) → digits ≡ take count text → fraction ≡ drop count text → is_zero_fraction fraction ≡ true
+pub natural_is : (text digits fraction : List ℕ) (count : ℕ) → count ≡ prefix_len is_ascii_digit text → (count ≡ 0 → ⊥) → digits ≡ take count text → fraction ≡ drop count text → is_zero_fraction fraction ≡ true
     → natural_in text ≡ Some (digits_number digits)
 natural_is text digits fraction count n some d f zeros =
     let p : ℕ = prefix_len is_ascii_digit text in
