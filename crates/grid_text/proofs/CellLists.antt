@@ -43,11 +43,11 @@ pub next_cell : (null : ℤ) (need : ℕ) (front now : Cells) (c : Option ℤ) (
 next_cell null need front now c token left tokens total e n h g so_far =
     let count : length now ≡ length front + 1 = ap length g ∙ length-append front (c ∷ []) in
     let one : with_front front (cells_from null need (length front) left) ≡ with_front now (cells_from null need (length now) tokens) =
-        ap (λ ts. with_front front (cells_from null need (length front) ts)) e
-        ∙ ap (with_front front) (next_cells null need (length front) token tokens n ∙ ap (λ r. r >>= λ c. cells_from null need (length front + 1) tokens >>= λ cells. Ok (c ∷ cells)) h)
-        ∙ regroup front c (cells_from null need (length front + 1) tokens)
-        ∙ ap (λ k. with_front (front ++ c ∷ []) (cells_from null need k tokens)) (sym count)
-        ∙ ap (λ cs. with_front cs (cells_from null need (length now) tokens)) (sym g) in
+    ap (λ ts. with_front front (cells_from null need (length front) ts)) e
+    ∙ ap (with_front front) (next_cells null need (length front) token tokens n ∙ ap (λ r. r >>= λ c. cells_from null need (length front + 1) tokens >>= λ cells. Ok (c ∷ cells)) h)
+    ∙ regroup front c (cells_from null need (length front + 1) tokens)
+    ∙ ap (λ k. with_front (front ++ c ∷ []) (cells_from null need k tokens)) (sym count)
+    ∙ ap (λ cs. with_front cs (cells_from null need (length now) tokens)) (sym g) in
     sym one ∙ so_far
 
 -- a token that is no cell

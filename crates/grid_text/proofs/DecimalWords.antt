@@ -69,9 +69,9 @@ scaled_word (Some i) text e h =
     let mark = position-Some is_exponent_mark text i 0 e in
     let rest : drop i text ≡ get_or text i 0 ∷ drop (i + 1) text = let l : i < length text = mark.0 in rw (add-one) (drop-cons text i 0 l) in
     let all : list_all is_solid (take i text ++ drop i text) ≡ true =
-        list_all-append is_solid (take i text) (drop i text)
-        ∙ and_from (list_all is_solid (take i text)) (list_all is_solid (drop i text)) front.solid
-        (ap (list_all is_solid) rest ∙ and_from (is_solid (get_or text i 0)) (list_all is_solid (drop (i + 1) text)) (mark_solid (get_or text i 0) mark.1) back.solid) in
+    list_all-append is_solid (take i text) (drop i text)
+    ∙ and_from (list_all is_solid (take i text)) (list_all is_solid (drop i text)) front.solid
+    (ap (list_all is_solid) rest ∙ and_from (is_solid (get_or text i 0)) (list_all is_solid (drop (i + 1) text)) (mark_solid (get_or text i 0) mark.1) back.solid) in
     let whole : list_all is_solid text ≡ true = ap (list_all is_solid) (sym (take-append-drop i text)) ∙ all in
     record { some = omega (arith, mark.0); solid = whole }
 

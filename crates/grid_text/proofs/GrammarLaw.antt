@@ -72,7 +72,7 @@ head-found end f entries h holds s =
     let ps = one_size f.size h.header.size (sym holds.size ∙ s.size) in
     let pn = null_said f.null h.null (subst (λ es. SaysNull es h.null) holds.null s.null) in
     let whole : f ≡ record { columns = Some h.size.columns; rows = Some h.size.rows; x = Some h.header.x; y = Some h.header.y; size = Some h.header.size; null = f.null } =
-        λ i. record { columns = pc i; rows = pr i; x = px i; y = py i; size = ps i; null = f.null } in
+    λ i. record { columns = pc i; rows = pr i; x = px i; y = py i; size = ps i; null = f.null } in
     ap (head_in end) whole ∙ ap (λ (z : ℤ). Ok (record { header = h.header; size = h.size; null = z })) pn
 
 -- ---- the whole

@@ -64,7 +64,6 @@ grid_in-after bytes found left end head e at h =
 pub no_size : (head : Head) (left : List Token) → (IsSize head.size → ⊥) → grid_after head left ≡ Err (limits head.size.rows head.size.columns)
 no_size head left n = cond-false _ _ _ (is_size-false head.size n)
 
-
 after_size : (head : Head) (left : List Token) → IsSize head.size → grid_after head left ≡ (cells_from head.null (cells_in head.size) 0 left >>= λ cells. Ok (record { header = head.header; grid = record { size = head.size; cells = cells } }))
 after_size head left z = cond-true _ _ _ (is_size-true head.size z)
 

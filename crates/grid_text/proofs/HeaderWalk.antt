@@ -66,7 +66,13 @@ pub record Walk (end : ℕ) (f : Found) (seen : List Entry) (tokens : List Token
 
 stay : (end : ℕ) (f : Found) (seen : List Entry) (tokens : List Token) → Holds f seen → Stops end f tokens → Walk end f seen tokens
 stay end f seen tokens holds stops = record {
-  entries = []; rest = tokens; found = f; pairs = refl; same = refl; holds = subst (Holds f) (sym (append-nil seen)) holds; stops = stops;
+  entries = [];
+  rest = tokens;
+  found = f;
+  pairs = refl;
+  same = refl;
+  holds = subst (Holds f) (sym (append-nil seen)) holds;
+  stops = stops;
 }
 
 either : {A : Type 0} (r : Result A Fault) → ((a : A) × (r ≡ Ok a)) ⊎ ((fault : Fault) × (r ≡ Err fault))

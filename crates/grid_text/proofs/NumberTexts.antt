@@ -70,7 +70,7 @@ whole_digits (b ∷ text) some h =
     let plus : (b == 43) ≡ false = ne_eqb b 43 (λ e. omega (arith, e, least)) in
     let minus : (b == 45) ≡ false = ne_eqb b 45 (λ e. omega (arith, e, least)) in
     let start : whole_in (b ∷ text) ≡ option_map (λ n. pos n) (natural_in (b ∷ text)) =
-        λ i. option_map (λ n. cond (minus i) (neg_ℤ (pos n)) (pos n)) (natural_in (cond (plus i || minus i) text (b ∷ text))) in
+    λ i. option_map (λ n. cond (minus i) (neg_ℤ (pos n)) (pos n)) (natural_in (cond (plus i || minus i) text (b ∷ text))) in
     start ∙ ap (option_map (λ n. pos n)) (natural_digits (b ∷ text) some h)
 
 pub whole_decimal : (n : ℕ) → n < 2 ^ 64 → whole_in (decimal n) ≡ Some (pos n)
@@ -95,7 +95,6 @@ null_in_header = refl
 pub null_word : IsWord (signed_decimal null_number)
 unfolding digits
 null_word = record { some = omega arith; solid = refl }
-
 
 pub value_pos : (n : ℕ) → IsTrue (is_value (pos n)) → n ≤ 2000000000
 value_pos n h = leb-true n 2000000000 (and_parts (int_le vmin (pos n)) (int_le (pos n) vmax) h).1

@@ -14,7 +14,7 @@ use Rattle.grid_text.specs.Headers.{IsHeader}
 use Rattle.grid_text.specs.Pairs.{Entry, IsKey, Says, HasPairs, BeginsNoPair}
 use Rattle.grid_text.specs.Pairs as pairs
 use Rattle.grid_text.specs.Printed.{cell_text, null_number, spaced, row_text, rows_text, header_text, grid_text, x_key, y_key}
-use Rattle.grid_text.specs.ReadBack.{AreInRange, TextReadsBack, ReadsBack}
+use Rattle.grid_text.specs.ReadBack.{AreInRange, ReadsBack}
 use Rattle.grid_text.specs.Tokens.{is_white, tokens_from, tokens_of}
 use Rattle.grid_text.specs.declared.Corner.{Corner}
 use Rattle.grid_text.specs.declared.Header.{Header}
@@ -44,7 +44,7 @@ row_then n c (d ∷ row) rest h =
     let first = cell_then n c 32 tail h.0 refl in
     let more = row_then first.next d row rest h.1 in
     let text : spaced (map cell_text (c ∷ d ∷ row)) ++ (10 ∷ rest) ≡ cell_text c ++ (32 ∷ tail) =
-        append_assoc (cell_text c ++ codes " ") (spaced (map cell_text (d ∷ row))) (10 ∷ rest) ∙ append_assoc (cell_text c) (codes " ") tail in
+    append_assoc (cell_text c ++ codes " ") (spaced (map cell_text (d ∷ row))) (10 ∷ rest) ∙ append_assoc (cell_text c) (codes " ") tail in
     record { next = more.next; are = λ cells a. subst (λ bytes. AreCells null_number (tokens_from n bytes) ((c ∷ d ∷ row) ++ cells)) (sym text) (first.are ((d ∷ row) ++ cells) (more.are cells a)) }
 
 line_then : (n : ℕ) (row : Cells) (rest : List ℕ) → 0 < length row → AreInRange row → CellsThen n ((spaced (map cell_text row) ++ codes "\n") ++ rest) rest row

@@ -12,9 +12,9 @@ abbrev pub AreInRange : Cells → Type 0
 AreInRange [] = Unit {0}
 AreInRange (c ∷ cells) = IsCell c × AreInRange cells
 
--- the text of a grid under a header reads as them
-abbrev pub TextReadsBack : Header → Size → Cells → Type 0
-TextReadsBack h s cells = grid_in (grid_text h s cells) ≡ Ok (record { header = h; grid = record { size = s; cells = cells } })
+-- the bytes hold these
+abbrev pub ReadsAs : List ℕ → Header → Size → Cells → Type 0
+ReadsAs bytes h s cells = grid_in bytes ≡ Ok (record { header = h; grid = record { size = s; cells = cells } })
 
 abbrev pub ReadsBack : Type 0
-ReadsBack = (h : Header) (s : Size) (cells : Cells) → IsHeader h → IsSize s → length cells ≡ cells_in s → AreInRange cells → TextReadsBack h s cells
+ReadsBack = (h : Header) (s : Size) (cells : Cells) → IsHeader h → IsSize s → length cells ≡ cells_in s → AreInRange cells → ReadsAs (grid_text h s cells) h s cells

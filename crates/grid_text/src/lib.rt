@@ -17,9 +17,9 @@ mod tokens;
 
 ghost use Rattle.std.specs.Prelude.{◌≡◌};
 
+pub use laws::{printed_reads_back, texts_are_read, worked_texts};
 use layer_tiles::{Layer, Text};
 use map_nums::NoMemory;
-pub use laws::{printed_reads_back, texts_are_read, worked_texts};
 pub use print::print_grid;
 pub use read::read_grid;
 use std::alloc::{AllocError, AllocFailed};

@@ -163,7 +163,8 @@ pub(crate) fn count(text: &[u8]) -> Option<u64>
 fn are_of_mantissa(text: &[u8]) -> bool
     ensures { result ≡ list_all (λ b. is_ascii_digit b || (b == 46)) text.now }
 {
-    text.iter().all(|byte| byte.is_ascii_digit() || *byte == b'.')
+    text.iter()
+        .all(|byte| byte.is_ascii_digit() || *byte == b'.')
 }
 
 fn point_count(text: &[u8]) -> usize
@@ -190,8 +191,7 @@ fn mark_place(text: &[u8]) -> Option<usize>
     ensures place { result ≡ position is_exponent_mark text.now }
     ensures within { IfSome result (λ at. at < length text.now) }
 {
-    text.iter()
-        .position(|byte| *byte == b'e' || *byte == b'E')
+    text.iter().position(|byte| *byte == b'e' || *byte == b'E')
 }
 
 // Whether this is a mantissa, with an exponent or without.
