@@ -17,11 +17,11 @@ use Rattle.grid_text.specs.Numbers.{whole_in, natural_in, is_zero_fraction, digi
 use Rattle.grid_text.specs.Tokens.{Token}
 use Rattle.grid_text.proofs.SoundHeaders.{bind_ok, ok_is, or_fault_ok, chosen_ok}
 
-other_number : (null z : ℤ) → z ≢ null → ((int_eq z null ≡ true) ⊎ (int_eq z null ≡ false)) → int_eq z null ≡ false
+pub other_number : (null z : ℤ) → z ≢ null → ((int_eq z null ≡ true) ⊎ (int_eq z null ≡ false)) → int_eq z null ≡ false
 other_number null z n (inl t) = absurd (n ((Decides-int_eq z null).0 t))
 other_number null z n (inr f) = f
 
-cell-text : (null : ℤ) (i : ℕ) (text : List ℕ) (c : Option ℤ) → cell_in null i text ≡ Ok c → IsCellText null text c
+pub cell-text : (null : ℤ) (i : ℕ) (text : List ℕ) (c : Option ℤ) → cell_in null i text ≡ Ok c → IsCellText null text c
 cell-text null i text c e =
     let p = bind_ok (or_fault (cell i) (whole_in text)) (λ z. cell_of_number null i z) c e in
     let whole : whole_in text ≡ Some p.0 = or_fault_ok (cell i) (whole_in text) p.0 p.1 in
@@ -34,7 +34,7 @@ cell-text null i text c e =
           ]
     ]
 
-text-cell : (null : ℤ) (i : ℕ) (text : List ℕ) (c : Option ℤ) → IsCellText null text c → cell_in null i text ≡ Ok c
+pub text-cell : (null : ℤ) (i : ℕ) (text : List ℕ) (c : Option ℤ) → IsCellText null text c → cell_in null i text ≡ Ok c
 text-cell null i text None h =
     ap (λ (o : Option ℤ). or_fault (cell i) o >>= λ z. cell_of_number null i z) h ∙ cond-true _ _ _ ((Decides-int_eq null null).1 refl)
 text-cell null i text (Some z) h =

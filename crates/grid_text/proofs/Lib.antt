@@ -1,3 +1,5 @@
+mod BadCells
+mod SaidKeys
 mod WordTexts
 mod NumberTexts
 mod DecimalWords

@@ -7,6 +7,7 @@ pub mod Keys
 pub mod Contents
 pub mod Pairs
 pub mod Grammar
+pub mod Refusals
 pub mod Printed
 pub mod ReadBack
 pub mod Reads
