@@ -81,7 +81,11 @@ broken null need rest fault (token ∷ tokens) front gone split are l e =
       | inl t ↦
           let known : cells_from null need (length front) (token ∷ tokens) ≡ Err (more token.at) = cond-true _ _ _ t in
           record {
-            cells = front; good = gone; left = token ∷ tokens; split = split; are = are;
+            cells = front;
+            good = gone;
+            left = token ∷ tokens;
+            split = split;
+            are = are;
             bad = subst (BadCells null need front (token ∷ tokens)) (same_fault (cells_from null need (length front) (token ∷ tokens)) (more token.at) fault known e) (eqb-true (length front) need t, refl);
           }
       | inr t ↦
@@ -91,7 +95,7 @@ broken null need rest fault (token ∷ tokens) front gone split are l e =
             | inl c ↦
                 let count : length (front ++ c.0 ∷ []) ≡ length front + 1 = length-append front (c.0 ∷ []) in
                 let one : cells_from null need (length front) (token ∷ tokens) ≡ (cells_from null need (length front + 1) tokens >>= λ cells. Ok (c.0 ∷ cells)) =
-                    start ∙ ap (λ (r : Result (Option ℤ) Fault). r >>= λ c. cells_from null need (length front + 1) tokens >>= λ cells. Ok (c ∷ cells)) c.1 in
+                start ∙ ap (λ (r : Result (Option ℤ) Fault). r >>= λ c. cells_from null need (length front + 1) tokens >>= λ cells. Ok (c ∷ cells)) c.1 in
                 elim (either (cells_from null need (length front + 1) tokens)) [
                   | inl cells ↦ absurd (let good : cells_from null need (length front) (token ∷ tokens) ≡ Ok (c.0 ∷ cells.0) = one ∙ ap (λ (r : Result Cells Fault). r >>= λ cells. Ok (c.0 ∷ cells)) cells.1 in cc)
                   | inr f ↦
@@ -105,7 +109,11 @@ broken null need rest fault (token ∷ tokens) front gone split are l e =
                 let known : cells_from null need (length front) (token ∷ tokens) ≡ Err f.0 = start ∙ ap (λ (r : Result (Option ℤ) Fault). r >>= λ c. cells_from null need (length front + 1) tokens >>= λ cells. Ok (c ∷ cells)) f.1 in
                 let same : f.0 ≡ fault = same_fault (cells_from null need (length front) (token ∷ tokens)) f.0 fault known e in
                 record {
-                  cells = front; good = gone; left = token ∷ tokens; split = split; are = are;
+                  cells = front;
+                  good = gone;
+                  left = token ∷ tokens;
+                  split = split;
+                  are = are;
                   bad = broken_cell null need front token tokens fault less (f.1 ∙ ap (λ (x : Fault). Err x) same);
                 }
           ]

@@ -77,7 +77,7 @@ head-found end f entries h holds s =
 
 -- ---- the whole
 
-no_pair : (end : ℕ) (f : Found) (tokens : List Token) → BeginsNoPair tokens → pairs_in end f tokens ≡ Ok (f, tokens)
+pub no_pair : (end : ℕ) (f : Found) (tokens : List Token) → BeginsNoPair tokens → pairs_in end f tokens ≡ Ok (f, tokens)
 no_pair end f [] h = refl
 no_pair end f (name ∷ []) h = cond-false _ _ _ h
 no_pair end f (name ∷ value ∷ tokens) h = cond-false _ _ _ h

@@ -16,7 +16,7 @@ use Rattle.grid_text.proofs.KeyNames.{Spells, key-spelled, key-spells, key-lette
 use Rattle.grid_text.proofs.PairLists.{then_pairs, pairs_in-pair}
 use Rattle.grid_text.proofs.SoundHeaders.{bind_ok, ok_is, or_fault_ok, chosen_ok}
 
-new_key-is : (f : Found) (name : Token) (k : Key) → key_of name.text ≡ Some k → is_there k f ≡ false → new_key f name ≡ Ok k
+pub new_key-is : (f : Found) (name : Token) (k : Key) → key_of name.text ≡ Some k → is_there k f ≡ false → new_key f name ≡ Ok k
 new_key-is f name k e n =
     ap (λ (o : Option Key). or_fault (key name.at) o >>= λ k. cond (is_there k f) (Err (key name.at)) (Ok k)) e ∙ cond-false _ _ _ n
 
@@ -83,7 +83,7 @@ never_whole : (r : Result Key Fault) (at : ℕ) (p : Found × List Token) → (r
 never_whole (Ok k) at p e = cc
 never_whole (Err fault) at p e = cc
 
-named_key : (f : Found) (name : Token) (k : Key) → new_key f name ≡ Ok k → (key_of name.text ≡ Some k) × (is_there k f ≡ false)
+pub named_key : (f : Found) (name : Token) (k : Key) → new_key f name ≡ Ok k → (key_of name.text ≡ Some k) × (is_there k f ≡ false)
 named_key f name k e =
     let p = bind_ok (or_fault (key name.at) (key_of name.text)) (λ k. cond (is_there k f) (Err (key name.at)) (Ok k)) k e in
     let named : key_of name.text ≡ Some p.0 = or_fault_ok (key name.at) (key_of name.text) p.0 p.1 in

@@ -1,3 +1,5 @@
+mod HeadFaults
+mod RefusalLaw
 mod BadCells
 mod SaidKeys
 mod WordTexts

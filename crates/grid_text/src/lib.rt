@@ -17,7 +17,7 @@ mod tokens;
 
 ghost use Rattle.std.specs.Prelude.{◌≡◌};
 
-pub use laws::{printed_reads_back, texts_are_read, worked_texts};
+pub use laws::{printed_reads_back, refusals_are_first, texts_are_read, worked_texts};
 use layer_tiles::{Layer, Text};
 use map_nums::NoMemory;
 pub use print::print_grid;
