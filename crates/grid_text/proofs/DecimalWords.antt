@@ -1,15 +1,15 @@
 -- A decimal is a word.
-use Rattle.std.proofs.Common.{◌≡◌, ℕ, suc, ◌+◌, ◌<◌, ◌≤◌, ◌==◌, Bool, true, false, ◌&&◌, ◌||◌, nat_le, List, [], ◌∷◌, ◌++◌, length, take, drop, get_or, Option, Some, None, refl, sym, ap, subst, ◌∙◌, inl, inr, arith, add-one, drop-cons, length-append, length-drop}
+use Rattle.std.proofs.Common.{◌≡◌, ℕ, ◌+◌, ◌<◌, ◌==◌, Bool, true, false, ◌&&◌, ◌||◌, nat_le, List, [], ◌∷◌, ◌++◌, length, take, drop, get_or, Option, Some, None, refl, sym, ap, ◌∙◌, inl, inr, arith, add-one, drop-cons}
 use Rattle.std.specs.Prelude.{◌⊎◌, position, count_by, nat_lt, if◌then◌else◌}
 use Rattle.std.specs.Char.{is_ascii_digit}
 use Rattle.std.specs.List.{list_all, list_any}
-use Rattle.std.proofs.lemmas.Bool.{and_parts, and_from, ltb-true, eqb-true, cases_Bool}
+use Rattle.std.proofs.lemmas.Bool.{and_parts, and_from, ltb-true, eqb-true}
 use Rattle.std.proofs.lemmas.List.{take-append-drop}
 use Rattle.std.proofs.lemmas.List.Folds.{list_all-append}
 use Rattle.std.proofs.lemmas.List.Quantifiers.{position-Some}
 use Rattle.grid_text.specs.Headers.{IsDecimal}
-use Rattle.grid_text.specs.Numbers.{is_sign, unsigned, are_digits, is_mantissa, is_exponent_mark, is_scaled, is_decimal}
-use Rattle.grid_text.proofs.WordTexts.{IsWord, is_solid, list_all-weaker, solid_above, digit_solid, digit_least}
+use Rattle.grid_text.specs.Numbers.{is_sign, unsigned, are_digits, is_mantissa, is_exponent_mark, is_scaled}
+use Rattle.grid_text.proofs.WordTexts.{IsWord, is_solid, list_all-weaker, solid_above, digit_solid}
 
 some_digit : (text : List ℕ) → list_any is_ascii_digit text ≡ true → 0 < length text
 some_digit [] h = absurd cc

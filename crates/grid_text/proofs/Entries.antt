@@ -1,19 +1,18 @@
 -- What a pair says, and what is found with it.
-use Rattle.std.proofs.Common.{◌≡◌, ℕ, ◌+◌, ◌≤◌, Bool, true, false, List, [], ◌∷◌, ◌++◌, length, Option, Some, None, refl, sym, ap, subst, ◌∙◌, arith, length-append}
+use Rattle.std.proofs.Common.{◌≡◌, ℕ, ◌≤◌, Bool, true, false, List, [], ◌∷◌, ◌++◌, length, Option, Some, None, refl, sym, ap, ◌∙◌, arith}
 use Rattle.std.specs.Prelude.{filter, is_some}
 use Rattle.std.specs.Option.{option_map}
 use Rattle.std.proofs.lemmas.Bool.{cond-true}
 use Rattle.std.proofs.lemmas.List.{append-nil}
 use Rattle.std.proofs.lemmas.List.Elements.{filter-append}
 use Rattle.std.proofs.lemmas.Option.{cond_some}
-use Rattle.grid_text.specs.Keys.{nothing, key_of, is_there, with_value, decimal_in}
+use Rattle.grid_text.specs.Keys.{nothing, is_there, with_value, decimal_in}
 use Rattle.grid_text.specs.Numbers.{is_decimal, count_in, number_in}
 use Rattle.grid_text.specs.Pairs.{Entry, columns, rows, x, y, size, null, Says, Once, is_columns, is_rows, is_x, is_y, is_size_entry, is_null}
-use Rattle.grid_text.specs.declared.Corner.{Corner}
 use Rattle.grid_text.specs.declared.keys.Found.{Found}
 use Rattle.grid_text.specs.declared.keys.Key.{Key}
 use Rattle.grid_text.specs.declared.keys.Key.TheVariants as keys
-use Rattle.grid_text.proofs.KeyNames.{Spells, key-spelled}
+use Rattle.grid_text.proofs.KeyNames.{Spells}
 use Rattle.grid_text.proofs.SoundHeaders.{mapped_some}
 
 abbrev pub key_for : Entry → Key

@@ -1,23 +1,23 @@
 -- Reading finds the texts of grids, and no others.
-use Rattle.std.proofs.Common.{◌≡◌, ◌≢◌, ◌↔◌, ℕ, ◌+◌, ◌≤◌, ◌==◌, Bool, true, false, cond, ℤ, negsuc, List, [], ◌∷◌, ◌++◌, length, Option, Some, None, Result, Ok, Err, refl, sym, ap, subst, ◌∙◌, inl, inr, arith}
-use Rattle.std.specs.Prelude.{◌⊎◌, IsTrue, IsFalse, filter}
+use Rattle.std.proofs.Common.{◌≡◌, ℕ, ◌+◌, ◌≤◌, ℤ, List, [], ◌∷◌, length, Option, Some, None, Result, Ok, Err, refl, sym, ap, subst, ◌∙◌, inl, inr, arith}
+use Rattle.std.specs.Prelude.{filter}
 use Rattle.std.proofs.lemmas.Bool.{cond-false}
-use Rattle.map_nums.specs.Grids.{Size, IsSize, is_size, Cells, cells_in}
+use Rattle.map_nums.specs.Grids.{is_size, cells_in}
 use Rattle.grid_text.specs.Contents.{Head, pairs_in, head_in, null_or_default, cells_from, grid_after, grid_in}
 use Rattle.grid_text.specs.Faults.{Fault, limits, ◌>>=◌}
 use Rattle.grid_text.specs.Grammar.{GridText, ReadsAll}
 use Rattle.grid_text.specs.Headed.{Headed}
-use Rattle.grid_text.specs.Keys.{nothing, begins_with_letter}
-use Rattle.grid_text.specs.Pairs.{Entry, columns, rows, x, y, size, null, HasPairs, BeginsNoPair, Once, SaysNull, SaysHead, is_columns, is_rows, is_x, is_y, is_size_entry, is_null}
+use Rattle.grid_text.specs.Keys.{nothing}
+use Rattle.grid_text.specs.Pairs.{Entry, columns, rows, x, y, size, null, BeginsNoPair, Once, SaysNull, SaysHead, is_null}
 use Rattle.grid_text.specs.Tokens.{Token, tokens_of, first_at}
 use Rattle.grid_text.specs.declared.Corner.{Corner}
 use Rattle.grid_text.specs.declared.keys.Found.{Found}
 use Rattle.grid_text.proofs.CellTexts.{cells-are, are-cells}
 use Rattle.grid_text.proofs.Entries.{listed, Holds, holds_nothing}
-use Rattle.grid_text.proofs.GridReading.{is_size-true, IsSize-true, grid_in-head, cells_count, all_read}
-use Rattle.grid_text.proofs.HeaderWalk.{After, after_pairs, Stops, Walk, walk}
+use Rattle.grid_text.proofs.GridReading.{IsSize-true, grid_in-head, cells_count, all_read}
+use Rattle.grid_text.proofs.HeaderWalk.{after_pairs, Stops, Walk, walk}
 use Rattle.grid_text.proofs.PairLists.{then_pairs, pairs_in-pair}
-use Rattle.grid_text.proofs.SoundHeaders.{bind_ok, ok_is, or_fault_ok, chosen_ok, HeadParts, head_parts}
+use Rattle.grid_text.proofs.SoundHeaders.{bind_ok, ok_is, chosen_ok, head_parts}
 
 -- ---- the header
 

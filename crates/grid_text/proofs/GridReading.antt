@@ -7,12 +7,10 @@ use Rattle.map_nums.specs.Grids.{Size, IsSize, is_size, Cells, cells_in, longest
 use Rattle.layer_tiles.specs.Layers.{LayerState, layer_of}
 use Rattle.grid_text.specs.Contents.{Head, pairs_in, head_in, cell_in, cells_from, grid_after, grid_in}
 use Rattle.grid_text.specs.Faults.{Fault, limits, few, more, ◌>>=◌}
-use Rattle.grid_text.specs.Headed.{Headed}
 use Rattle.grid_text.specs.Keys.{nothing}
 use Rattle.grid_text.specs.Numbers.{is_short}
 use Rattle.grid_text.specs.Reads.{Refuses, Reads}
 use Rattle.grid_text.specs.Tokens.{Token, tokens_of, first_at}
-use Rattle.grid_text.specs.declared.Header.{Header}
 use Rattle.grid_text.specs.declared.GridRefusal.{GridRefusal}
 use Rattle.grid_text.specs.declared.keys.Found.{Found}
 use Rattle.grid_text.proofs.CellLists.{refuses-same}

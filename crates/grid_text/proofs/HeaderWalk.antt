@@ -1,7 +1,7 @@
 -- The pairs that stand first are read as what they say, and reading stops where the grammar's pairs stop.
-use Rattle.std.proofs.Common.{◌≡◌, ℕ, Bool, true, false, cond, List, [], ◌∷◌, ◌++◌, Option, Some, Result, Ok, Err, refl, sym, ap, subst, ◌∙◌, ⊎_elim, inl, inr, append_assoc}
+use Rattle.std.proofs.Common.{◌≡◌, ℕ, true, false, cond, List, [], ◌∷◌, ◌++◌, Option, Some, Result, Ok, Err, refl, sym, ap, subst, ◌∙◌, inl, inr, append_assoc}
 use Rattle.std.specs.Prelude.{◌⊎◌}
-use Rattle.std.proofs.lemmas.Bool.{cond-true, cond-false, cases_Bool}
+use Rattle.std.proofs.lemmas.Bool.{cond-false, cases_Bool}
 use Rattle.std.proofs.lemmas.List.{append-nil}
 use Rattle.grid_text.specs.Contents.{new_key, with_pair, pairs_in}
 use Rattle.grid_text.specs.Faults.{Fault, key, number, or_fault, ◌>>=◌}
@@ -11,8 +11,8 @@ use Rattle.grid_text.specs.Places.{pair_in}
 use Rattle.grid_text.specs.Tokens.{Token}
 use Rattle.grid_text.specs.declared.keys.Found.{Found}
 use Rattle.grid_text.specs.declared.keys.Key.{Key}
-use Rattle.grid_text.proofs.Entries.{key_for, put, says-spells, says-value, Said, value-said, Holds, holds_put, is_new}
-use Rattle.grid_text.proofs.KeyNames.{Spells, key-spelled, key-spells, key-letter}
+use Rattle.grid_text.proofs.Entries.{key_for, put, says-spells, says-value, value-said, Holds, holds_put, is_new}
+use Rattle.grid_text.proofs.KeyNames.{key-spelled, key-spells, key-letter}
 use Rattle.grid_text.proofs.PairLists.{then_pairs, pairs_in-pair}
 use Rattle.grid_text.proofs.SoundHeaders.{bind_ok, ok_is, or_fault_ok, chosen_ok}
 

@@ -1,14 +1,13 @@
 -- A number is that of its digits after leading zeros, and more than 18 of these make a long one.
-use Rattle.std.proofs.Common.{◌≡◌, ◌≢◌, ℕ, zero, suc, ◌+◌, ◌-◌, ◌*◌, ◌^◌, ◌<◌, ◌≤◌, ◌==◌, Bool, true, false, cond, ◌&&◌, nat_lt, nat_le, ℤ, pos, negsuc, neg_ℤ, nat_abs, List, [], ◌∷◌, length, take, drop, Option, Some, None, refl, sym, ap, subst, ◌∙◌, arith, pow-suc, mul_assoc}
-use Rattle.std.specs.Prelude.{IsTrue, IsFalse}
+use Rattle.std.proofs.Common.{◌≡◌, ℕ, zero, suc, ◌+◌, ◌-◌, ◌*◌, ◌^◌, ◌<◌, ◌≤◌, ◌==◌, Bool, true, false, cond, nat_lt, nat_le, ℤ, pos, neg_ℤ, nat_abs, List, [], ◌∷◌, length, take, drop, Some, refl, sym, ap, subst, ◌∙◌, arith, pow-suc, mul_assoc}
 use Rattle.std.specs.Char.{is_ascii_digit}
 use Rattle.std.specs.List.{fold, list_all, prefix_len}
 use Rattle.std.specs.Option.{option_map}
-use Rattle.std.proofs.lemmas.Bool.{and_parts, and_from, and_left, and_right, leb-true, lt-ltb, le-ltb, eqb-true, eqb-false, cond-true, cond-false}
+use Rattle.std.proofs.lemmas.Bool.{and_parts, and_from, leb-true, lt-ltb, le-ltb, eqb-true, eqb-false, cond-true}
 use Rattle.std.proofs.lemmas.Nat.{mul-le}
 use Rattle.std.proofs.Math.Nat.{pow-le-pow_right}
 use Rattle.std.proofs.Math.Numerals.{one-add}
-use Rattle.grid_text.specs.Numbers.{digits_number, is_zero_fraction, natural_in, whole_in, is_short, is_negative, unsigned}
+use Rattle.grid_text.specs.Numbers.{digits_number, is_zero_fraction, natural_in, is_negative, unsigned}
 use Rattle.grid_text.specs.Wholes.{significant, IsNatural, IsWhole}
 use Rattle.grid_text.specs.declared.numbers.Natural.TheVariants as naturals
 use Rattle.grid_text.specs.declared.numbers.Whole.TheVariants as wholes

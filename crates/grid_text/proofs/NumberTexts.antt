@@ -1,5 +1,5 @@
 -- Numbers that are printed are read as themselves.
-use Rattle.std.proofs.Common.{◌≡◌, ◌≢◌, ℕ, zero, suc, ◌+◌, ◌-◌, ◌*◌, ◌^◌, ◌<◌, ◌≤◌, ◌==◌, Bool, true, false, cond, ◌||◌, ◌&&◌, nat_lt, nat_le, ℤ, pos, negsuc, neg_ℤ, List, [], ◌∷◌, length, take, drop, Option, Some, None, decimal, refl, sym, ap, subst, ◌∙◌, inl, inr, arith}
+use Rattle.std.proofs.Common.{◌≡◌, ◌≢◌, ℕ, suc, ◌+◌, ◌-◌, ◌*◌, ◌^◌, ◌<◌, ◌≤◌, ◌==◌, Bool, true, false, cond, ◌||◌, nat_le, ℤ, pos, negsuc, neg_ℤ, List, [], ◌∷◌, length, drop, Option, Some, None, decimal, refl, sym, ap, subst, ◌∙◌, arith}
 use Rattle.std.specs.Prelude.{IsTrue, int_le}
 use Rattle.std.specs.Char.{is_ascii_digit}
 use Rattle.std.specs.Fmt.{signed_decimal, digits}
@@ -13,10 +13,10 @@ use Rattle.std.proofs.Math.Numerals.{one-add}
 use Rattle.map_nums.specs.Numbers.{is_value, vmin, vmax}
 use Rattle.layer_tiles.specs.Cells.{IsCell}
 use Rattle.grid_text.specs.Grammar.{IsCellText}
-use Rattle.grid_text.specs.Numbers.{digits_number, is_sign, natural_in, whole_in, is_short, number_in, count_in, not_negative, unsigned, is_negative}
+use Rattle.grid_text.specs.Numbers.{digits_number, natural_in, whole_in, is_short, number_in, count_in, not_negative}
 use Rattle.grid_text.specs.Printed.{cell_text, null_number}
 use Rattle.grid_text.proofs.Naturals.{natural_is}
-use Rattle.grid_text.proofs.WordTexts.{IsWord, is_solid, list_all-weaker, solid_above, digit_least, digit_solid}
+use Rattle.grid_text.proofs.WordTexts.{IsWord, is_solid, list_all-weaker, digit_least, digit_solid}
 
 abbrev AreDigits : List ℕ → Type 0
 AreDigits text = list_all is_ascii_digit text ≡ true

@@ -1,16 +1,13 @@
 -- What is printed reads back.
-use Rattle.std.proofs.Common.{◌≡◌, ℕ, zero, suc, ◌+◌, ◌*◌, ◌<◌, ◌≤◌, Bool, true, false, List, [], ◌∷◌, ◌++◌, length, map, take, drop, Option, Some, None, ℤ, Ok, codes, decimal, refl, sym, ap, subst, ◌∙◌, inl, inr, arith, append_assoc, length-take, length-drop, suc-mul, zero-mul, add-one}
-use Rattle.std.specs.Prelude.{if◌then◌else◌, IsTrue}
-use Rattle.std.specs.Char.{is_ascii_alphabetic, to_ascii_lowercase}
+use Rattle.std.proofs.Common.{◌≡◌, ℕ, zero, suc, ◌+◌, ◌*◌, ◌<◌, Bool, true, false, List, [], ◌∷◌, ◌++◌, length, map, take, drop, Option, Some, None, ℤ, codes, decimal, refl, sym, ap, subst, ◌∙◌, arith, append_assoc, length-take, length-drop, zero-mul}
+use Rattle.std.specs.Prelude.{if◌then◌else◌}
 use Rattle.std.specs.Fmt.{signed_decimal}
 use Rattle.std.specs.List.{flat_map, range_with_len}
 use Rattle.std.proofs.lemmas.List.{drop-drop, take_all}
 use Rattle.std.proofs.Math.Seq.{take-add}
 use Rattle.map_nums.specs.Grids.{Size, IsSize, Cells, cells_in}
 use Rattle.layer_tiles.specs.Cells.{IsCell}
-use Rattle.grid_text.specs.Contents.{grid_in}
-use Rattle.grid_text.specs.Grammar.{AreCells, GridText}
-use Rattle.grid_text.specs.Headers.{IsHeader}
+use Rattle.grid_text.specs.Grammar.{AreCells}
 use Rattle.grid_text.specs.Pairs.{Entry, IsKey, Says, HasPairs, BeginsNoPair}
 use Rattle.grid_text.specs.Pairs as pairs
 use Rattle.grid_text.specs.Printed.{cell_text, null_number, spaced, row_text, rows_text, header_text, grid_text, x_key, y_key}
@@ -23,7 +20,7 @@ use Rattle.grid_text.proofs.DecimalWords.{decimal-word}
 use Rattle.grid_text.proofs.GrammarLaw.{text-read}
 use Rattle.grid_text.proofs.NumberTexts.{cell_word, cell_says, decimal_word, count_decimal, null_word, null_in_header}
 use Rattle.grid_text.proofs.Splits.{token}
-use Rattle.grid_text.proofs.WordTexts.{IsWord, Then, word_first}
+use Rattle.grid_text.proofs.WordTexts.{IsWord, word_first}
 
 -- ---- the cells
 

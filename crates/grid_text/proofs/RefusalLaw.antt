@@ -1,6 +1,6 @@
 -- Reading refuses a text with its first fault, and no other.
-use Rattle.std.proofs.Common.{◌≡◌, ◌↔◌, ℕ, ◌+◌, Bool, true, false, cond, List, [], ◌∷◌, ◌++◌, length, Option, Some, None, Result, Ok, Err, refl, sym, ap, subst, ◌∙◌, inl, inr, arith}
-use Rattle.std.specs.Prelude.{◌⊎◌, IsTrue, IsFalse}
+use Rattle.std.proofs.Common.{◌≡◌, ℕ, ◌+◌, true, false, cond, List, [], ◌∷◌, ◌++◌, length, Option, Some, None, Result, Ok, Err, refl, sym, ap, subst, ◌∙◌, inl, inr, arith}
+use Rattle.std.specs.Prelude.{◌⊎◌}
 use Rattle.std.proofs.lemmas.Bool.{cond-true, cond-false, cases_Bool}
 use Rattle.map_nums.specs.Grids.{IsSize, is_size, Cells, cells_in}
 use Rattle.grid_text.specs.Contents.{Head, new_key, with_pair, pairs_in, head_in, cells_from, grid_after, grid_in}
@@ -8,9 +8,9 @@ use Rattle.grid_text.specs.Faults.{Fault, key, number, limits, few, more, cell, 
 use Rattle.grid_text.specs.Grammar.{AreCells}
 use Rattle.grid_text.specs.Headed.{Headed}
 use Rattle.grid_text.specs.Keys.{nothing, key_of, is_there, with_value, begins_with_letter}
-use Rattle.grid_text.specs.Pairs.{Entry, HasPairs, BeginsNoPair, Once, SaysHead}
+use Rattle.grid_text.specs.Pairs.{Entry, BeginsNoPair, SaysHead}
 use Rattle.grid_text.specs.Places.{pair_in}
-use Rattle.grid_text.specs.Refusals.{IsBad, Lacks, BadKey, BadNumber, BadCells, BadRest, BadAfter, RefusedGrid, RefusesAll}
+use Rattle.grid_text.specs.Refusals.{IsBad, Lacks, BadKey, BadNumber, BadCells, BadAfter, RefusedGrid, RefusesAll}
 use Rattle.grid_text.specs.Tokens.{Token, tokens_of, first_at}
 use Rattle.grid_text.specs.declared.keys.Found.{Found}
 use Rattle.grid_text.specs.declared.keys.Key.{Key}
@@ -21,7 +21,7 @@ use Rattle.grid_text.proofs.GridReading.{IsSize-true, is_size-true, is_size-fals
 use Rattle.grid_text.proofs.HeadFaults.{head-lacks, lacks-head}
 use Rattle.grid_text.proofs.HeaderWalk.{after_pairs, Stops, Walk, walk, new_key-is, named_key}
 use Rattle.grid_text.proofs.PairLists.{then_pairs, pairs_in-pair}
-use Rattle.grid_text.proofs.SaidKeys.{no_key-names, there-said, new-said, NewKey, said-new, said-bad, no_value-said, said-no_value}
+use Rattle.grid_text.proofs.SaidKeys.{no_key-names, there-said, new-said, said-new, said-bad, no_value-said, said-no_value}
 
 -- ---- from what reading answers
 

@@ -1,6 +1,6 @@
 -- What is found in a header is of its keys' forms.
-use Rattle.std.proofs.Common.{◌≡◌, ℕ, Bool, true, false, cond, ℤ, pos, negsuc, List, [], ◌∷◌, Option, Some, None, Result, Ok, Err, refl, sym, ap, subst, ◌∙◌, inl, inr}
-use Rattle.std.specs.Prelude.{IsTrue, IfSome, is_some, ◌⊎◌}
+use Rattle.std.proofs.Common.{◌≡◌, ℕ, Bool, true, false, cond, ℤ, List, [], ◌∷◌, Option, Some, None, Result, Ok, Err, refl, sym, ap, subst, ◌∙◌, inl, inr}
+use Rattle.std.specs.Prelude.{IsTrue, IfSome, ◌⊎◌}
 use Rattle.std.specs.Option.{option_map}
 use Rattle.std.proofs.lemmas.Option.{cond_some, option_and_then_some}
 use Rattle.grid_text.specs.Contents.{Head, new_key, with_pair, pairs_in, head_in, null_or_default}
@@ -10,7 +10,6 @@ use Rattle.grid_text.specs.Keys.{nothing, with_value, decimal_in, begins_with_le
 use Rattle.grid_text.specs.Numbers.{is_short, is_decimal, number_in, count_in, whole_in}
 use Rattle.grid_text.specs.Tokens.{Token}
 use Rattle.grid_text.specs.declared.Corner.{Corner}
-use Rattle.grid_text.specs.declared.Header.{Header}
 use Rattle.grid_text.specs.declared.keys.Found.{Found}
 use Rattle.grid_text.specs.declared.keys.Key.{Key}
 use Rattle.grid_text.specs.declared.keys.Key.TheVariants.{Columns, Rows, X, Y, Size, Null}

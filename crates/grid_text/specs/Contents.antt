@@ -1,5 +1,5 @@
 -- What the bytes of a grid's text hold, or their first fault in reading order.
-use Rattle.std.specs.Prelude.{ℕ, ◌+◌, ◌==◌, Bool, true, false, ℤ, negsuc, List, [], ◌∷◌, length, Option, Some, None, Result, Ok, Err, if◌then◌else◌}
+use Rattle.std.specs.Prelude.{ℕ, ◌+◌, ◌==◌, ℤ, negsuc, List, [], ◌∷◌, length, Option, Some, None, Result, Ok, Err, if◌then◌else◌}
 use Rattle.std.specs.Ordering.{int_eq}
 use Rattle.map_nums.specs.Grids.{Size, Cells, cells_in, is_size}
 use Rattle.map_nums.specs.Numbers.{is_value}

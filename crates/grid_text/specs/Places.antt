@@ -1,5 +1,5 @@
 -- Tokens by their place in a text.
-use Rattle.std.specs.Prelude.{ℕ, ◌+◌, List, [], ◌∷◌, drop, Result, Ok, Err, IsTrue, IfSome}
+use Rattle.std.specs.Prelude.{ℕ, ◌+◌, List, [], ◌∷◌, drop, Result, Ok, Err}
 use Rattle.grid_text.specs.Contents.{new_key, with_pair}
 use Rattle.grid_text.specs.Faults.{Fault, number, ◌>>=◌}
 use Rattle.grid_text.specs.Tokens as texts

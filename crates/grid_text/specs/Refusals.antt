@@ -1,6 +1,6 @@
 -- Where a text that is no grid has its first fault, apart from any reader.
 use Rattle.std.specs.Prelude.{◌≡◌, ◌≢◌, ◌↔◌, ◌⊎◌, ℕ, ◌+◌, ◌<◌, List, [], ◌∷◌, ◌++◌, length, codes, filter, ℤ, Some, None, Err, IsTrue, IsFalse}
-use Rattle.map_nums.specs.Grids.{Size, Cells, IsSize, cells_in}
+use Rattle.map_nums.specs.Grids.{Cells, IsSize, cells_in}
 use Rattle.map_nums.specs.Numbers.{is_value}
 use Rattle.grid_text.specs.Contents.{Head, grid_in}
 use Rattle.grid_text.specs.Faults.{Fault, key, number, limits, few, more, cell, range}
@@ -9,7 +9,7 @@ use Rattle.grid_text.specs.Keys.{begins_with_letter}
 use Rattle.grid_text.specs.Numbers.{whole_in}
 use Rattle.grid_text.specs.Pairs as pairs
 use Rattle.grid_text.specs.Pairs.{Entry, IsKey, Says, HasPairs, BeginsNoPair, Once, SaysHead, is_columns, is_rows, is_x, is_y, is_size_entry}
-use Rattle.grid_text.specs.Tokens.{Token, tokens_of, first_at}
+use Rattle.grid_text.specs.Tokens.{Token, tokens_of}
 
 -- the token is a key under which such an entry is said
 abbrev pub Names : List ℕ → Entry → Type 0

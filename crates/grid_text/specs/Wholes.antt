@@ -1,5 +1,5 @@
 -- Whole numbers of at most 18 digits after leading zeros.
-use Rattle.std.specs.Prelude.{◌≡◌, ℕ, ◌^◌, ◌<◌, ◌≤◌, ◌==◌, ℤ, List, drop, Option, Some, None, IsTrue, IsFalse}
+use Rattle.std.specs.Prelude.{◌≡◌, ℕ, ◌^◌, ◌<◌, ◌≤◌, ◌==◌, ℤ, List, drop, Some, None, IsTrue, IsFalse}
 use Rattle.std.specs.List.{prefix_len}
 use Rattle.grid_text.specs.Numbers.{natural_in, whole_in, is_short}
 use Rattle.grid_text.specs.declared.numbers.Natural.{Natural}

@@ -1,4 +1,3 @@
-use Rattle.std.proofs.Common.{sym, ◌∙◌, arith}
 use Rattle.grid_text.proofs.Naturals.{digits_pass, short_natural, long_natural}
 use Rattle.grid_text.proofs.numbers.read_natural.Goals as goal
 
