@@ -8,7 +8,8 @@ use Rattle.std.proofs.lemmas.List.{take-append-drop}
 use Rattle.std.proofs.lemmas.List.Folds.{list_all-append}
 use Rattle.std.proofs.lemmas.List.Quantifiers.{position-Some}
 use Rattle.grid_text.specs.Headers.{IsDecimal}
-use Rattle.grid_text.specs.Numbers.{is_sign, unsigned, are_digits, is_mantissa, is_exponent_mark, is_scaled}
+use Rattle.grid_text.specs.Numbers.{is_sign, unsigned, are_digits}
+use Rattle.grid_text.specs.Decimals.{is_mantissa, is_exponent_mark, is_scaled}
 use Rattle.grid_text.proofs.WordTexts.{IsWord, is_solid, list_all-weaker, solid_above, digit_solid}
 
 some_digit : (text : List ℕ) → list_any is_ascii_digit text ≡ true → 0 < length text

@@ -7,9 +7,11 @@ use Rattle.std.proofs.lemmas.List.{append-nil}
 use Rattle.std.proofs.lemmas.List.Elements.{filter-append}
 use Rattle.std.proofs.lemmas.Option.{cond_some}
 use Rattle.grid_text.specs.Keys.{nothing, is_there, with_value, decimal_in}
-use Rattle.grid_text.specs.Numbers.{is_decimal, count_in, number_in}
-use Rattle.grid_text.specs.Pairs.{Entry, columns, rows, x, y, size, null, Says, Once, is_columns, is_rows, is_x, is_y, is_size_entry, is_null}
-use Rattle.grid_text.specs.declared.keys.Found.{Found}
+use Rattle.grid_text.specs.Decimals.{is_decimal}
+use Rattle.grid_text.specs.Numbers.{count_in, number_in}
+use Rattle.grid_text.specs.Pairs.{Entry, columns, rows, x, y, size, null, Says}
+use Rattle.grid_text.specs.Saying.{Once, is_columns, is_rows, is_x, is_y, is_size_entry, is_null}
+use Rattle.grid_text.specs.declared.found.Found.{Found}
 use Rattle.grid_text.specs.declared.keys.Key.{Key}
 use Rattle.grid_text.specs.declared.keys.Key.TheVariants as keys
 use Rattle.grid_text.proofs.KeyNames.{Spells}

@@ -3,15 +3,17 @@ use Rattle.std.proofs.Common.{◌≡◌, ℕ, ◌+◌, ◌≤◌, ℤ, List, [],
 use Rattle.std.specs.Prelude.{filter}
 use Rattle.std.proofs.lemmas.Bool.{cond-false}
 use Rattle.map_nums.specs.Grids.{is_size, cells_in}
-use Rattle.grid_text.specs.Contents.{Head, pairs_in, head_in, null_or_default, cells_from, grid_after, grid_in}
+use Rattle.grid_text.specs.Heads.{Head, pairs_in, head_in, null_or_default}
+use Rattle.grid_text.specs.Contents.{cells_from, grid_after, grid_in}
 use Rattle.grid_text.specs.Faults.{Fault, limits, ◌>>=◌}
 use Rattle.grid_text.specs.Grammar.{GridText, ReadsAll}
 use Rattle.grid_text.specs.Headed.{Headed}
 use Rattle.grid_text.specs.Keys.{nothing}
-use Rattle.grid_text.specs.Pairs.{Entry, columns, rows, x, y, size, null, BeginsNoPair, Once, SaysNull, SaysHead, is_null}
+use Rattle.grid_text.specs.Pairs.{Entry, columns, rows, x, y, size, null, BeginsNoPair}
+use Rattle.grid_text.specs.Saying.{Once, SaysNull, SaysHead, is_null}
 use Rattle.grid_text.specs.Tokens.{Token, tokens_of, first_at}
 use Rattle.grid_text.specs.declared.Corner.{Corner}
-use Rattle.grid_text.specs.declared.keys.Found.{Found}
+use Rattle.grid_text.specs.declared.found.Found.{Found}
 use Rattle.grid_text.proofs.CellTexts.{cells-are, are-cells}
 use Rattle.grid_text.proofs.Entries.{listed, Holds, holds_nothing}
 use Rattle.grid_text.proofs.GridReading.{IsSize-true, grid_in-head, cells_count, all_read}

@@ -5,14 +5,15 @@ use Rattle.std.specs.Prelude.{IsTrue, FitsSigned}
 use Rattle.std.proofs.lemmas.Int.{to_z-of_z}
 use Rattle.map_nums.specs.Grids.{Size, IsSize, is_size, Cells, cells_in, longest_side, largest_area}
 use Rattle.layer_tiles.specs.Layers.{LayerState, layer_of}
-use Rattle.grid_text.specs.Contents.{Head, pairs_in, head_in, cell_in, cells_from, grid_after, grid_in}
+use Rattle.grid_text.specs.Heads.{Head, pairs_in, head_in}
+use Rattle.grid_text.specs.Contents.{cell_in, cells_from, grid_after, grid_in}
 use Rattle.grid_text.specs.Faults.{Fault, limits, few, more, ◌>>=◌}
 use Rattle.grid_text.specs.Keys.{nothing}
 use Rattle.grid_text.specs.Numbers.{is_short}
 use Rattle.grid_text.specs.Reads.{Refuses, Reads}
 use Rattle.grid_text.specs.Tokens.{Token, tokens_of, first_at}
 use Rattle.grid_text.specs.declared.GridRefusal.{GridRefusal}
-use Rattle.grid_text.specs.declared.keys.Found.{Found}
+use Rattle.grid_text.specs.declared.found.Found.{Found}
 use Rattle.grid_text.proofs.CellLists.{refuses-same}
 use Rattle.grid_text.proofs.SoundHeaders.{bind_ok, ok_is, chosen_ok, sound_nothing, sound_pairs, sound_head}
 

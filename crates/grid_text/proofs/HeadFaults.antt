@@ -1,13 +1,13 @@
 -- A header without a key that is needed.
 use Rattle.std.proofs.Common.{◌≡◌, ℕ, List, [], ◌∷◌, Option, Some, None, Result, Ok, Err, refl, sym, ap, ◌∙◌, inl, inr}
 use Rattle.std.specs.Prelude.{◌⊎◌}
-use Rattle.grid_text.specs.Contents.{Head, head_in, null_or_default}
+use Rattle.grid_text.specs.Heads.{Head, head_in, null_or_default}
 use Rattle.grid_text.specs.Faults.{Fault, key, or_fault, ◌>>=◌}
 use Rattle.grid_text.specs.Pairs.{Entry}
 use Rattle.grid_text.specs.Pairs as pairs
-use Rattle.grid_text.specs.Refusals.{Lacks}
+use Rattle.grid_text.specs.BadKeys.{Lacks}
 use Rattle.grid_text.specs.declared.Corner.{Corner}
-use Rattle.grid_text.specs.declared.keys.Found.{Found}
+use Rattle.grid_text.specs.declared.found.Found.{Found}
 use Rattle.grid_text.proofs.Entries.{listed, Holds}
 
 -- where a step failed

@@ -3,13 +3,14 @@ use Rattle.std.proofs.Common.{◌≡◌, ℕ, true, false, cond, List, [], ◌�
 use Rattle.std.specs.Prelude.{◌⊎◌}
 use Rattle.std.proofs.lemmas.Bool.{cond-false, cases_Bool}
 use Rattle.std.proofs.lemmas.List.{append-nil}
-use Rattle.grid_text.specs.Contents.{new_key, with_pair, pairs_in}
+use Rattle.grid_text.specs.Heads.{new_key, with_pair, pairs_in}
 use Rattle.grid_text.specs.Faults.{Fault, key, number, or_fault, ◌>>=◌}
 use Rattle.grid_text.specs.Keys.{key_of, is_there, with_value, begins_with_letter}
-use Rattle.grid_text.specs.Pairs.{Entry, Says, HasPairs, Once}
+use Rattle.grid_text.specs.Pairs.{Entry, Says, HasPairs}
+use Rattle.grid_text.specs.Saying.{Once}
 use Rattle.grid_text.specs.Places.{pair_in}
 use Rattle.grid_text.specs.Tokens.{Token}
-use Rattle.grid_text.specs.declared.keys.Found.{Found}
+use Rattle.grid_text.specs.declared.found.Found.{Found}
 use Rattle.grid_text.specs.declared.keys.Key.{Key}
 use Rattle.grid_text.proofs.Entries.{key_for, put, says-spells, says-value, value-said, Holds, holds_put, is_new}
 use Rattle.grid_text.proofs.KeyNames.{key-spelled, key-spells, key-letter}

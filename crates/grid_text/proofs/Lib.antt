@@ -1,3 +1,4 @@
+mod SettledTexts
 mod HeadFaults
 mod RefusalLaw
 mod BadCells

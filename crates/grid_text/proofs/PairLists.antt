@@ -1,14 +1,14 @@
 -- Pairs that are read one after another.
 use Rattle.std.proofs.Common.{◌≡◌, ℕ, true, List, [], ◌∷◌, Result, Ok, Err, refl, sym, ap, ◌∙◌}
 use Rattle.std.proofs.lemmas.Bool.{cond-true}
-use Rattle.grid_text.specs.Contents.{new_key, with_pair, pairs_in}
+use Rattle.grid_text.specs.Heads.{new_key, with_pair, pairs_in}
 use Rattle.grid_text.specs.Faults.{Fault, number, ◌>>=◌}
 use Rattle.grid_text.specs.Keys.{begins_with_letter}
 use Rattle.grid_text.specs.Places.{pair_in}
 use Rattle.grid_text.specs.Reads.{Refuses}
 use Rattle.grid_text.specs.Tokens.{Token}
 use Rattle.grid_text.specs.declared.GridRefusal.{GridRefusal}
-use Rattle.grid_text.specs.declared.keys.Found.{Found}
+use Rattle.grid_text.specs.declared.found.Found.{Found}
 use Rattle.grid_text.specs.declared.keys.Key.{Key}
 use Rattle.grid_text.proofs.CellLists.{refuses-same}
 

@@ -3,16 +3,19 @@ use Rattle.std.proofs.Common.{◌≡◌, ℕ, ◌+◌, true, false, cond, List, 
 use Rattle.std.specs.Prelude.{◌⊎◌}
 use Rattle.std.proofs.lemmas.Bool.{cond-true, cond-false, cases_Bool}
 use Rattle.map_nums.specs.Grids.{IsSize, is_size, Cells, cells_in}
-use Rattle.grid_text.specs.Contents.{Head, new_key, with_pair, pairs_in, head_in, cells_from, grid_after, grid_in}
+use Rattle.grid_text.specs.Heads.{Head, new_key, with_pair, pairs_in, head_in}
+use Rattle.grid_text.specs.Contents.{cells_from, grid_after, grid_in}
 use Rattle.grid_text.specs.Faults.{Fault, key, number, limits, few, more, cell, range, or_fault, ◌>>=◌}
 use Rattle.grid_text.specs.Grammar.{AreCells}
 use Rattle.grid_text.specs.Headed.{Headed}
 use Rattle.grid_text.specs.Keys.{nothing, key_of, is_there, with_value, begins_with_letter}
-use Rattle.grid_text.specs.Pairs.{Entry, BeginsNoPair, SaysHead}
+use Rattle.grid_text.specs.Pairs.{Entry, BeginsNoPair}
+use Rattle.grid_text.specs.Saying.{SaysHead}
 use Rattle.grid_text.specs.Places.{pair_in}
-use Rattle.grid_text.specs.Refusals.{IsBad, Lacks, BadKey, BadNumber, BadCells, BadAfter, RefusedGrid, RefusesAll}
+use Rattle.grid_text.specs.BadKeys.{IsBad, Lacks}
+use Rattle.grid_text.specs.Refusals.{BadKey, BadNumber, BadCells, BadAfter, RefusedGrid, RefusesAll}
 use Rattle.grid_text.specs.Tokens.{Token, tokens_of, first_at}
-use Rattle.grid_text.specs.declared.keys.Found.{Found}
+use Rattle.grid_text.specs.declared.found.Found.{Found}
 use Rattle.grid_text.specs.declared.keys.Key.{Key}
 use Rattle.grid_text.proofs.BadCells.{either, same_fault, Broken, broken, to_fault}
 use Rattle.grid_text.proofs.Entries.{Holds, holds_nothing, holds-once}

@@ -3,10 +3,11 @@ use Rattle.std.proofs.Common.{◌≡◌, ℕ, pos, Bool, true, false, List, [], 
 use Rattle.std.specs.Prelude.{◌⊎◌, filter, is_some}
 use Rattle.std.proofs.lemmas.Bool.{cond-true, cond-false, cases_Bool}
 use Rattle.grid_text.specs.Keys.{key_of, is_there, with_value}
-use Rattle.grid_text.specs.Pairs.{Entry, Says, is_columns, is_rows, is_x, is_y, is_size_entry, is_null}
+use Rattle.grid_text.specs.Pairs.{Entry, Says}
+use Rattle.grid_text.specs.Saying.{is_columns, is_rows, is_x, is_y, is_size_entry, is_null}
 use Rattle.grid_text.specs.Pairs as pairs
-use Rattle.grid_text.specs.Refusals.{Names, IsSaid, IsNew, IsBad}
-use Rattle.grid_text.specs.declared.keys.Found.{Found}
+use Rattle.grid_text.specs.BadKeys.{Names, IsSaid, IsNew, IsBad}
+use Rattle.grid_text.specs.declared.found.Found.{Found}
 use Rattle.grid_text.specs.declared.keys.Key.{Key}
 use Rattle.grid_text.specs.declared.keys.Key.TheVariants as keys
 use Rattle.grid_text.proofs.Entries.{key_for, put, says-spells, says-value, value-said, listed, Holds}

@@ -3,14 +3,15 @@ use Rattle.std.proofs.Common.{◌≡◌, ℕ, Bool, true, false, cond, ℤ, List
 use Rattle.std.specs.Prelude.{IsTrue, IfSome, ◌⊎◌}
 use Rattle.std.specs.Option.{option_map}
 use Rattle.std.proofs.lemmas.Option.{cond_some, option_and_then_some}
-use Rattle.grid_text.specs.Contents.{Head, new_key, with_pair, pairs_in, head_in, null_or_default}
+use Rattle.grid_text.specs.Heads.{Head, new_key, with_pair, pairs_in, head_in, null_or_default}
 use Rattle.grid_text.specs.Faults.{Fault, key, number, or_fault, ◌>>=◌}
 use Rattle.grid_text.specs.Headers.{IsDecimal, IsHeader}
 use Rattle.grid_text.specs.Keys.{nothing, with_value, decimal_in, begins_with_letter}
-use Rattle.grid_text.specs.Numbers.{is_short, is_decimal, number_in, count_in, whole_in}
+use Rattle.grid_text.specs.Numbers.{is_short, number_in, count_in, whole_in}
+use Rattle.grid_text.specs.Decimals.{is_decimal}
 use Rattle.grid_text.specs.Tokens.{Token}
 use Rattle.grid_text.specs.declared.Corner.{Corner}
-use Rattle.grid_text.specs.declared.keys.Found.{Found}
+use Rattle.grid_text.specs.declared.found.Found.{Found}
 use Rattle.grid_text.specs.declared.keys.Key.{Key}
 use Rattle.grid_text.specs.declared.keys.Key.TheVariants.{Columns, Rows, X, Y, Size, Null}
 

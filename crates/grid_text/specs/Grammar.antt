@@ -5,7 +5,8 @@ use Rattle.map_nums.specs.Numbers.{is_value}
 use Rattle.grid_text.specs.Contents.{grid_in}
 use Rattle.grid_text.specs.Headed.{Headed}
 use Rattle.grid_text.specs.Numbers.{whole_in}
-use Rattle.grid_text.specs.Pairs.{Entry, HasPairs, BeginsNoPair, SaysHead}
+use Rattle.grid_text.specs.Pairs.{Entry, HasPairs, BeginsNoPair}
+use Rattle.grid_text.specs.Saying.{SaysHead}
 use Rattle.grid_text.specs.Tokens.{Token, tokens_of}
 
 -- null is the number that stands for it; each other cell is a number in the range

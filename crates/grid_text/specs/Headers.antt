@@ -1,6 +1,6 @@
 -- The texts that a header keeps.
 use Rattle.std.specs.Prelude.{ℕ, List, IsTrue}
-use Rattle.grid_text.specs.Numbers.{is_decimal}
+use Rattle.grid_text.specs.Decimals.{is_decimal}
 use Rattle.grid_text.specs.declared.Header.{Header}
 
 -- a decimal of at most 40 bytes

@@ -2,10 +2,11 @@
 use Rattle.std.specs.Prelude.{ℕ, Bool, true, false, List, [], ◌∷◌, map, Option, Some, None, is_some, codes, bytes_eq, if◌then◌else◌}
 use Rattle.std.specs.Option.{option_map}
 use Rattle.std.specs.Char.{is_ascii_alphabetic, to_ascii_lowercase}
-use Rattle.grid_text.specs.Numbers.{number_in, count_in, is_decimal}
+use Rattle.grid_text.specs.Numbers.{number_in, count_in}
+use Rattle.grid_text.specs.Decimals.{is_decimal}
 use Rattle.grid_text.specs.declared.keys.Key.{Key}
 use Rattle.grid_text.specs.declared.keys.Key.TheVariants.{Columns, Rows, X, Y, Size, Null}
-use Rattle.grid_text.specs.declared.keys.Found.{Found}
+use Rattle.grid_text.specs.declared.found.Found.{Found}
 
 -- the two x keys count as one, and so do the two y keys: true where the center of a cell is meant
 abbrev pub key_table : List (List ℕ × Key)

@@ -1,7 +1,7 @@
--- The numbers of a text: whole numbers, and decimals that are kept as they are written.
-use Rattle.std.specs.Prelude.{ℕ, ◌+◌, ◌-◌, ◌*◌, ◌^◌, nat_lt, nat_le, ◌==◌, Bool, true, false, ◌&&◌, ◌||◌, ℤ, pos, negsuc, neg_ℤ, nat_abs, List, [], ◌∷◌, length, take, drop, Option, Some, None, position, count_by, if◌then◌else◌}
+-- The whole numbers of a text.
+use Rattle.std.specs.Prelude.{ℕ, ◌+◌, ◌-◌, ◌*◌, ◌^◌, nat_lt, ◌==◌, Bool, true, false, ◌&&◌, ◌||◌, ℤ, pos, negsuc, neg_ℤ, nat_abs, List, [], ◌∷◌, length, take, drop, Option, Some, None, if◌then◌else◌}
 use Rattle.std.specs.Option.{option_map, option_and_then}
-use Rattle.std.specs.List.{fold, list_all, list_any, prefix_len}
+use Rattle.std.specs.List.{fold, list_all, prefix_len}
 use Rattle.std.specs.Char.{is_ascii_digit}
 
 -- one or more digits
@@ -56,20 +56,3 @@ not_negative (negsuc n) = None
 -- a header's number of rows or columns
 abbrev pub count_in : List ℕ → Option ℕ
 count_in text = option_and_then not_negative (number_in text)
-
--- digits with at most one point among or beside them, and at least one digit
-abbrev pub is_mantissa : List ℕ → Bool
-is_mantissa text = list_all (λ b. is_ascii_digit b || (b == 46)) text && nat_le (count_by (λ b. b == 46) text) 1 && list_any is_ascii_digit text
-
--- e or E
-abbrev pub is_exponent_mark : ℕ → Bool
-is_exponent_mark b = b == 101 || b == 69
-
--- a mantissa, or a mantissa, the mark at this place and an exponent: digits after a sign or none
-abbrev pub is_scaled : Option ℕ → List ℕ → Bool
-is_scaled None text = is_mantissa text
-is_scaled (Some at) text = is_mantissa (take at text) && are_digits (unsigned (drop (at + 1) text))
-
--- a decimal of at most 40 bytes
-abbrev pub is_decimal : List ℕ → Bool
-is_decimal text = nat_le (length text) 40 && is_scaled (position is_exponent_mark (unsigned text)) (unsigned text)

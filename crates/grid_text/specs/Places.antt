@@ -1,9 +1,9 @@
 -- Tokens by their place in a text.
 use Rattle.std.specs.Prelude.{ℕ, ◌+◌, List, [], ◌∷◌, drop, Result, Ok, Err}
-use Rattle.grid_text.specs.Contents.{new_key, with_pair}
+use Rattle.grid_text.specs.Heads.{new_key, with_pair}
 use Rattle.grid_text.specs.Faults.{Fault, number, ◌>>=◌}
 use Rattle.grid_text.specs.Tokens as texts
-use Rattle.grid_text.specs.declared.keys.Found.{Found}
+use Rattle.grid_text.specs.declared.found.Found.{Found}
 use Rattle.grid_text.specs.declared.tokens.Token.{Token}
 
 -- the tokens from a byte on, which is counted from 0

@@ -1,7 +1,7 @@
 -- What reading a text answers.
 use Rattle.std.specs.Prelude.{◌≡◌, ℕ, List, replicate, Result, Ok, Err}
 use Rattle.layer_tiles.specs.Tiles.{tiles_in}
-use Rattle.grid_text.specs.Contents as texts
+use Rattle.grid_text.specs.Heads as texts
 use Rattle.grid_text.specs.Contents.{grid_in}
 use Rattle.grid_text.specs.Faults.{Fault, key, number, limits, few, more, cell, range}
 use Rattle.grid_text.specs.Headed.{Headed}

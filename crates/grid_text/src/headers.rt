@@ -1,13 +1,14 @@
 //! Reading a header.
 ghost use Rattle.std.specs.Prelude.{◌≡◌, ◌<◌, ◌≤◌, ◌+◌, ◌∷◌, true, length, IfOk, IfSome, MatchOption};
-ghost use Rattle.grid_text.specs.Contents.{new_key, pairs_in, head_in};
+ghost use Rattle.grid_text.specs.Heads.{new_key, pairs_in, head_in};
 ghost use Rattle.grid_text.specs.Keys.{begins_with_letter, nothing};
 ghost use Rattle.grid_text.specs.Pairs.{BeginsNoPair};
 ghost use Rattle.grid_text.specs.Places.{tokens_left, token_of, pair_in};
 ghost use Rattle.grid_text.specs.Reads.{Gives, head_of};
 ghost use Rattle.grid_text.specs.Tokens.{tokens_of};
 
-use crate::keys::{Found, Key, begins_with_letter, key_of};
+use crate::found::Found;
+use crate::keys::{Key, begins_with_letter, key_of};
 use crate::tokens::{Token, byte_number, next_token};
 use crate::{GridRefusal, Header};
 use std::alloc::Global;

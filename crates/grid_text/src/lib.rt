@@ -5,6 +5,8 @@
 #![tactic(auto)]
 
 mod cells;
+mod decimals;
+mod found;
 mod headers;
 mod keys;
 mod laws;
@@ -17,7 +19,9 @@ mod tokens;
 
 ghost use Rattle.std.specs.Prelude.{◌≡◌};
 
-pub use laws::{printed_reads_back, refusals_are_first, texts_are_read, worked_texts};
+pub use laws::{
+    printed_reads_back, refusals_are_first, texts_are_read, texts_are_settled, worked_texts,
+};
 use layer_tiles::{Layer, Text};
 use map_nums::NoMemory;
 pub use print::print_grid;

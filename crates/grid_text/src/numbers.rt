@@ -1,15 +1,12 @@
-//! The numbers of a text.
-ghost use Rattle.std.specs.Prelude.{◌≡◌, ◌<◌, ◌≤◌, ◌^◌, ◌==◌, ◌||◌, true, length, position, count_by, IfSome};
-ghost use Rattle.std.specs.List.{list_all, list_any, prefix_len};
+//! The whole numbers of a text.
+ghost use Rattle.std.specs.Prelude.{◌≡◌, ◌<◌, ◌≤◌, ◌^◌, ◌==◌, true, length};
+ghost use Rattle.std.specs.List.{list_all, prefix_len};
 ghost use Rattle.std.specs.Char.{is_ascii_digit};
-ghost use Rattle.grid_text.specs.Numbers.{are_digits, digits_number, unsigned, is_negative, is_zero_fraction, number_in, count_in, is_exponent_mark, is_mantissa, is_scaled, is_decimal};
+ghost use Rattle.grid_text.specs.Numbers.{are_digits, digits_number, unsigned, is_negative, is_zero_fraction, number_in, count_in};
 ghost use Rattle.grid_text.specs.Wholes.{IsNatural, IsWhole, significant};
 
 /// The most digits of a whole number, after leading zeros.
 const MOST_DIGITS: usize = 18;
-
-/// The most bytes of a decimal.
-const LONGEST_DECIMAL: usize = 40;
 
 /// What a token is as a whole number without a sign.
 #[derive(Clone, Copy)]
@@ -33,7 +30,8 @@ fn are_all_digits(text: &[u8]) -> bool
     text.iter().all(|byte| byte.is_ascii_digit())
 }
 
-fn are_digits(text: &[u8]) -> bool
+/// Whether these are one or more digits.
+pub(crate) fn are_digits(text: &[u8]) -> bool
     ensures { result ≡ are_digits text.now }
 {
     !text.is_empty() && are_all_digits(text)
@@ -106,8 +104,8 @@ fn read_natural(text: &[u8]) -> Natural
     Natural::Short(digits_number(digits))
 }
 
-// What follows a sign, if there is one.
-fn unsigned(text: &[u8]) -> &[u8]
+/// What follows a sign, if there is one.
+pub(crate) fn unsigned(text: &[u8]) -> &[u8]
     ensures { result.now ≡ unsigned text.now }
 {
     match text {
@@ -158,55 +156,4 @@ pub(crate) fn count(text: &[u8]) -> Option<u64>
         return None;
     }
     Some(number as u64)
-}
-
-fn are_of_mantissa(text: &[u8]) -> bool
-    ensures { result ≡ list_all (λ b. is_ascii_digit b || (b == 46)) text.now }
-{
-    text.iter()
-        .all(|byte| byte.is_ascii_digit() || *byte == b'.')
-}
-
-fn point_count(text: &[u8]) -> usize
-    ensures { result ≡ count_by (λ b. b == 46) text.now }
-{
-    text.iter().filter(|byte| **byte == b'.').count()
-}
-
-fn has_digit(text: &[u8]) -> bool
-    ensures { result ≡ list_any is_ascii_digit text.now }
-{
-    text.iter().any(|byte| byte.is_ascii_digit())
-}
-
-// Whether these are digits with at most one point, and at least one digit.
-fn is_mantissa(text: &[u8]) -> bool
-    ensures { result ≡ is_mantissa text.now }
-{
-    are_of_mantissa(text) && point_count(text) <= 1 && has_digit(text)
-}
-
-// Where the exponent's mark stands first.
-fn mark_place(text: &[u8]) -> Option<usize>
-    ensures place { result ≡ position is_exponent_mark text.now }
-    ensures within { IfSome result (λ at. at < length text.now) }
-{
-    text.iter().position(|byte| *byte == b'e' || *byte == b'E')
-}
-
-// Whether this is a mantissa, with an exponent or without.
-fn is_scaled(text: &[u8]) -> bool
-    ensures { result ≡ is_scaled (position is_exponent_mark text.now) text.now }
-{
-    match mark_place(text) {
-        None => is_mantissa(text),
-        Some(at) => is_mantissa(&text[..at]) && are_digits(unsigned(&text[at + 1..])),
-    }
-}
-
-/// Whether a token is a decimal of at most 40 bytes.
-pub(crate) fn is_decimal(text: &[u8]) -> bool
-    ensures { result ≡ is_decimal text.now }
-{
-    text.len() <= LONGEST_DECIMAL && is_scaled(unsigned(text))
 }

@@ -1,6 +1,6 @@
 use Rattle.std.proofs.Common.{◌+◌, length}
 use Rattle.std.proofs.lemmas.Result.{err_from_is_err_and}
-use Rattle.grid_text.specs.Contents.{pairs_in}
+use Rattle.grid_text.specs.Heads.{pairs_in}
 use Rattle.grid_text.specs.Keys.{nothing}
 use Rattle.grid_text.specs.Places.{tokens_left, token_of}
 use Rattle.grid_text.specs.Tokens.{tokens_of}

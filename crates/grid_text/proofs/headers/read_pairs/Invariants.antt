@@ -1,5 +1,5 @@
 use Rattle.std.proofs.Common.{◌≡◌, ◌+◌, ◌-◌, ◌≤◌, length}
-use Rattle.grid_text.specs.Contents.{pairs_in}
+use Rattle.grid_text.specs.Heads.{pairs_in}
 use Rattle.grid_text.specs.Keys.{nothing}
 use Rattle.grid_text.specs.Places.{tokens_left}
 use Rattle.grid_text.specs.Tokens.{tokens_of}
