@@ -10,3 +10,4 @@ pub mod Numerals
 pub mod BackWords
 pub mod BackBytes
 pub mod Computed
+pub mod LineOfLemmas

@@ -1,5 +1,5 @@
 -- What a statement that is written means: operations on whole grids.
-use Rattle.std.specs.Prelude.{List, [], ◌∷◌, map}
+use Rattle.std.specs.Prelude.{[], ◌∷◌, map}
 use Rattle.map_defs.specs.Local as locals
 use Rattle.map_defs.specs.Ops as ops
 use Rattle.map_defs.specs.Statements as statements

@@ -71,7 +71,7 @@ fn rates_end_at_thirty_two(rt: HostRuntime) -> Result<(), Fail> {
 }
 
 #[test]
-fn lines_are_read(rt: HostRuntime) {
+fn each_form_is_read(rt: HostRuntime) {
     assert!(rt; matches!(parse_line(rt.alloc(), b"\t # note \x80"), Ok(Line::Blank)));
     assert!(rt; matches!(parse_line(rt.alloc(), b" quit "), Ok(Line::Quit)));
     assert!(rt;
