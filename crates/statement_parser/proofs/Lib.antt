@@ -11,3 +11,4 @@ pub mod BackWords
 pub mod BackBytes
 pub mod Computed
 pub mod LineOfLemmas
+pub mod ToOpsLemmas
