@@ -77,7 +77,8 @@ fn rates_end_at_thirty_two(rt: HostRuntime) -> Result<(), Fail> {
 
 /// What each cell of a new layer holds.
 fn new_cell(alloc: Global, line: &[u8]) -> Option<Option<i32>> {
-    match parse_line(alloc, line).ok()? {
+    let read = parse_line(alloc, line).ok()?;
+    match &read {
         Line::Edit(LineEdit::New { cell, .. }) => Some(cell.get()),
         _ => None,
     }
