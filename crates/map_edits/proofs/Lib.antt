@@ -1,0 +1,4 @@
+pub mod Among
+pub mod Chains
+pub mod Looks
+pub mod Unfolds
