@@ -2,3 +2,5 @@ pub mod Among
 pub mod Chains
 pub mod Looks
 pub mod Unfolds
+pub mod Defined
+pub mod Order

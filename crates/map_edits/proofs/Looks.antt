@@ -1,7 +1,8 @@
 -- A layer and its node are found together.
-use Rattle.std.proofs.Common.{◌≡◌, Bool, true, false, cond, List, [], ◌∷◌, map, length, find, Option, Some, None, is_some, option_map, bytes_eq, refl, ap, ◌∙◌}
+use Rattle.std.proofs.Common.{◌≡◌, Bool, true, false, cond, List, [], ◌∷◌, map, length, find, Option, Some, None, is_some, option_map, bytes_eq, refl, sym, ap, ◌∙◌}
 use Rattle.std.proofs.lemmas.List.{length-map}
 use Rattle.map_defs.specs.Ops.{Name, needs_of}
+use Rattle.map_edits.proofs.Among.{same_name}
 use Rattle.map_defs.specs.Nodes.{Node, find_node, needs_in}
 use Rattle.map_edits.specs.Entries.{Entry, Making, given_grid, by_op, LayerDef, layers, find_making, node_of_layer, nodes_of}
 
@@ -54,3 +55,12 @@ is_some-layers ls n = ap is_some (find_node-map ls n) ∙ go (find_layer ls n)
 
 pub length-nodes : (entries : List Entry) → length (nodes_of entries) ≡ length (layers entries)
 length-nodes entries = length-map (layers entries) node_of_layer
+
+-- what is found has the name
+pub find_node-name : (nodes : List Node) (n : Name) (node : Node) → find_node nodes n ≡ Some node → node.name ≡ n
+find_node-name [] n node e = absurd cc
+find_node-name (x ∷ xs) n node e = go (bytes_eq x.name n) refl e (find_node-name xs n node)
+  where
+    go : (b : Bool) → bytes_eq x.name n ≡ b → cond b (Some x) (find_node xs n) ≡ Some node → (find_node xs n ≡ Some node → node.name ≡ n) → node.name ≡ n
+    go true h e rest = let same : x ≡ node = cc in sym (ap (λ (q : Node). q.name) same) ∙ same_name x.name n h
+    go false h e rest = rest e

@@ -1,5 +1,5 @@
 -- Without a cycle, value, lack and depth follow their equations, with no count of steps.
-use Rattle.std.proofs.Common.{◌≡◌, ℕ, suc, ◌≤◌, max, true, List, [], ◌∷◌, map, flat_map, fold, length, Option, Some, None, is_some, option_map, bytes_eq, if◌then◌else◌, refl, sym, ap, ◌∙◌}
+use Rattle.std.proofs.Common.{◌≡◌, ℕ, suc, ◌<◌, ◌≤◌, max, true, List, [], ◌∷◌, map, flat_map, fold, length, Option, Some, None, is_some, option_map, bytes_eq, if◌then◌else◌, refl, sym, ap, ◌∙◌, arith}
 use Rattle.std.proofs.lemmas.Bool.{or_left, or_right}
 use Rattle.map_nums.specs.Grids.{Size, Grid}
 use Rattle.map_defs.specs.Ops.{Name, Term, layer_term, number_term, terms_of, term_names}
@@ -10,7 +10,7 @@ use Rattle.map_edits.specs.Entries.{Making, given_grid, by_op, LayerDef, layers,
 use Rattle.map_edits.specs.EngineStates.{EngineState, all_some, term_cells, made, value_within, value_of}
 use Rattle.map_edits.specs.Laws.{is_among, HasNoCycle}
 use Rattle.map_edits.proofs.Among.{bytes_eq-self, map_agree, fold_max_agree}
-use Rattle.map_edits.proofs.Chains.{chains_end, settles, depth_le_nodes}
+use Rattle.map_edits.proofs.Chains.{chains_end, settles, depth_le_nodes, depth_step}
 use Rattle.map_edits.proofs.Looks.{making_needs, needs_in-layers, length-nodes}
 
 -- ---- lacks
@@ -83,8 +83,15 @@ depth_settles nodes k n same =
     ∙ by_agree (depth_within k nodes) (depth_within (suc k) nodes) (find_node nodes n) (λ m a. same m (ap (is_among m) (needs_found nodes n) ∙ a))
     ∙ sym (depth_steps (suc k) nodes n)
 
+depth_stays : (nodes : List Node) → HasNoCycle nodes → (n : Name) → depth_in nodes n ≡ depth_within (suc (suc (length nodes))) nodes n
+depth_stays nodes none n = settles nodes (λ k m. depth_within k nodes m) (depth_settles nodes) (suc (length nodes)) n (chains_end nodes none n)
+
 pub depth_unfolds : (nodes : List Node) → HasNoCycle nodes → (n : Name) → depth_in nodes n ≡ depth_by (depth_in nodes) (find_node nodes n)
-depth_unfolds nodes none n = settles nodes (λ k m. depth_within k nodes m) (depth_settles nodes) (suc (length nodes)) n (chains_end nodes none n) ∙ depth_steps (suc (length nodes)) nodes n
+depth_unfolds nodes none n = depth_stays nodes none n ∙ depth_steps (suc (length nodes)) nodes n
+
+-- who needs a name is deeper
+pub needed_is_less_deep : (nodes : List Node) → HasNoCycle nodes → (n m : Name) → is_among m (needs_in nodes n) ≡ true → depth_in nodes m < depth_in nodes n
+needed_is_less_deep nodes none n m a = omega (arith, depth_step (suc (length nodes)) nodes n m a, depth_stays nodes none n)
 
 -- a flat statement is one deeper than the deepest name that it needs
 pub depth_of_flat : (nodes : List Node) → HasNoCycle nodes → (n : Name) (node : Node) (ns : List Name) → find_node nodes n ≡ Some node → node.needs ≡ Some ns → depth_in nodes n ≡ suc (fold (λ d m. max d (depth_in nodes m)) 0 ns)
