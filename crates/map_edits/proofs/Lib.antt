@@ -4,3 +4,6 @@ pub mod Looks
 pub mod Unfolds
 pub mod Defined
 pub mod Order
+pub mod Puts
+pub mod Kept
+pub mod Accepted
