@@ -7,3 +7,5 @@ pub mod Order
 pub mod Puts
 pub mod Kept
 pub mod Accepted
+pub mod Agreeing
+pub mod Listed
