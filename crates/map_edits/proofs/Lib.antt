@@ -9,3 +9,4 @@ pub mod Kept
 pub mod Accepted
 pub mod Agreeing
 pub mod Listed
+pub mod Dropped
