@@ -10,3 +10,4 @@ pub mod Accepted
 pub mod Agreeing
 pub mod Listed
 pub mod Dropped
+pub mod Evaluating
