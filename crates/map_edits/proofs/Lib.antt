@@ -11,3 +11,4 @@ pub mod Agreeing
 pub mod Listed
 pub mod Dropped
 pub mod Evaluating
+pub mod Once
