@@ -235,6 +235,7 @@ fn rating_over_four_tiles(rt: HostRuntime) -> Result<(), Fail> {
             Some(&Some(5))
         ]
     );
+    assert!(rt; 3 < made.extent().tiles());
     assert_eq!(rt; (made.stamp(0), made.stamp(3)), (7, 7));
     Ok(())
 }
