@@ -2,24 +2,23 @@
 ghost use Rattle.std.specs.Prelude.{◌≡◌, ◌≢◌, ◌↔◌, ◌<◌, length, IsTrue};
 ghost use Rattle.map_nums.specs.Grids.{cells_in};
 ghost use Rattle.layer_tiles.specs.Tiles.{tiles_in, tile_cells, IsBlockOf};
-ghost use Rattle.layer_tiles.specs.Patches.{patched};
+ghost use Rattle.layer_tiles.specs.Patches.{IsPatch, patched};
 ghost use Rattle.layer_tiles.specs.Layers.{IsStamped};
 
 use crate::cells::Cell;
 use crate::extents::Extent;
-use crate::patches::Patch;
+use crate::patches::{Patch, find_in};
 use crate::tiles::{Tile, same_cells};
 use crate::views::TileView;
 
 /// Puts each tile of a patch in place of the cells of a grid.
-pub(crate) fn write_tiles(extent: Extent, patch: &Patch, cells: &mut [Cell])
-    requires size { patch.now.size ≡ extent }
+pub(crate) fn write_tiles(extent: Extent, tiles: &[(u32, Tile)], cells: &mut [Cell])
+    requires patch { IsPatch (record { size = extent; tiles = tiles.now }) }
     requires count { length cells.old ≡ cells_in extent }
-    ensures { cells.new ≡ patched extent cells.old patch.now.tiles }
+    ensures { cells.new ≡ patched extent cells.old tiles.now }
 {
-    let _extent = patch.extent();
     for at in 0..extent.cells() {
-        if let Some(tile) = patch.find(extent.tile_of(at)) {
+        if let Some(tile) = find_in(tiles, extent.tile_of(at)) {
             cells[at as usize] = tile.cell(extent.place_in(at));
         }
     }
