@@ -43,10 +43,7 @@ pub fn evaluate<M: Tally>(
         return Err(KernelRefusal::NoMemory);
     };
     let patch = make_tiles(alloc, &local, operands, extent, tally)?;
-    let Ok(layer) = Layer::fresh(alloc, patch, stamp) else {
-        return Err(KernelRefusal::NoMemory);
-    };
-    Ok(layer)
+    Ok(Layer::fresh(patch, stamp))
 }
 
 /// The operation as its kernel takes it.

@@ -25,4 +25,4 @@ pub returns-clause-layer : goal.returns-clause-layer
 returns-clause-layer g c =
     let op = op_view c.args.op.now in
     let f = c.in_ok-patch.ensures in
-    evaluated_layer c.args.extent (to_op op) (op_of c.in-Ok.local) (map to_term (terms_of op)) (cells_after c.args.operands.now) c.args.stamp f.size c.in-Ok.ensures c.in_ok-patch.patch c.in-Ok-fresh.layer f.answer c.in-Ok-fresh.ensures
+    evaluated_layer c.args.extent (to_op op) (op_of c.in-Ok.local) (map to_term (terms_of op)) (cells_after c.args.operands.now) c.args.stamp f.size c.in-Ok.ensures c.in_ok-patch.patch c.fresh.result f.answer c.fresh.ensures
