@@ -11,9 +11,6 @@ pub mod Refusals
 pub mod Printed
 pub mod ReadBack
 pub mod Reads
-pub mod Faults
-pub mod Headed
-pub mod Contents
 pub mod Rows
 pub mod Places
 pub mod Wholes
