@@ -28,9 +28,6 @@ found_below f (x ∷ xs) t b e = at_first (eqb x t) refl (found_below f xs t b) 
     at_first true v later e = let same : b ≡ f x = cc in same ∙ ap f (eqb-true x t (sym v))
     at_first false v later e = later e
 
-pub tiled_none : (s : Size) (cells : Cells) (p : PatchState) → p ≡ record { size = s; tiles = [] } → IsTiled s cells 0 p
-tiled_none s cells p e = rw (e) record { size = refl; tiles = refl; narrow = λ i l m. absurd (omega (arith, m)) }
-
 -- one more tile
 pub tiled_more : (s : Size) (cells : Cells) (n : ℕ) (p new : PatchState) (b : Block) → IsSize s → IsTiled s cells n p → (b ≡ tile_block s cells n) × All (λ c. IsFalse (is_wide c)) (tile_cells s cells n) → new ≡ record p { tiles = p.tiles ++ (n, b) ∷ [] } → IsTiled s cells (n + 1) new
 tiled_more s cells n p new b h i a e =
