@@ -42,7 +42,7 @@ pub fn read_grid(alloc: Global, bytes: &[u8], stamp: u64) -> Result<Grid, GridRe
         return Err(GridRefusal::Size(head.rows, head.columns));
     };
     let cells = read_cells(alloc, bytes, pairs.next, head.null, extent.cells() as usize)?;
-    let layer = Layer::from_cells(alloc, extent, &cells, stamp)?;
+    let layer = Layer::of_cells(alloc, extent, cells, stamp)?;
     Ok(Grid {
         header: head.header,
         layer,

@@ -1,7 +1,0 @@
-mod Pieces
-mod Totals
-mod Values
-mod Definings
-mod Steppings
-mod Openings
-mod Showings

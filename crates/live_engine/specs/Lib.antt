@@ -1,4 +1,8 @@
+pub mod Parts
 pub mod Held
-pub mod Said
-pub mod Sums
-pub mod Begins
+pub mod Groups
+pub mod Scenes
+pub mod Values
+pub mod Engines
+pub mod Accepts
+pub mod Asked

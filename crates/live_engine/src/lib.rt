@@ -1,16 +1,16 @@
-//! The engine of a session over one grid: it loads the grid, keeps the layers that statements define, and answers lines.
+//! The engine: the names of a map, kept evaluated while the map is edited.
 //!
-//! `First::begin` loads the grid, and `First::line` takes one line and gives the `Reply`. The engine keeps each layer's
-//! cells, where the machine that it is proved against evaluates every statement anew.
+//! [`Engine::edit`] takes an [`Edit`] and answers its number or a [`Refusal`]; [`Engine::layer`] tells a layer's cells.
+//! The engine keeps each layer, where the machine that it is proved against evaluates every statement anew.
 #![tactic(auto)]
 
-mod entries;
-mod first;
-mod forms;
-mod replies;
-mod sums;
-#[cfg(test)]
-mod tests;
+mod edits;
+mod engine;
+mod held;
+mod reads;
+mod scene;
+mod values;
 
-pub use first::{Begun, First};
-pub use replies::Reply;
+pub use edits::{Accepted, Edit, Refusal, Which};
+pub use engine::Engine;
+pub use reads::{Entry, Missing};

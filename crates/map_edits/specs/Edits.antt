@@ -1,9 +1,11 @@
 -- What an edit does to a state, or the first refusal of its row.
 use Rattle.std.specs.Prelude.{ℕ, ℤ, suc, nat_lt, nat_le, Bool, true, false, ◌&&◌, ◌==◌, List, [], count_by, Option, Some, None, is_some, Result, Ok, Err, if◌then◌else◌}
 use Rattle.map_nums.specs.Counts.{raised}
-use Rattle.map_nums.specs.Grids.{Size, Grid, cell_at, grid_by, row_of, column_of}
+use Rattle.map_nums.specs.Grids.{Size, Grid, cell_at, constant, grid_by, row_of, column_of}
 use Rattle.map_defs.specs.Ops.{Name, zonal_op}
-use Rattle.map_defs.specs.Statements.{Written, Flat}
+use Rattle.map_defs.specs.Statements.{Flat}
+use Rattle.statement_parser.specs.Lines.{Written}
+use Rattle.statement_parser.specs.ToOps.{to_written}
 use Rattle.map_defs.specs.Expansion.{WrongCall, not_defined, wrong_count, expansion_of}
 use Rattle.map_defs.specs.Depths.{is_looped}
 use Rattle.map_edits.specs.Entries.{Def, source, statement, Entry, find_def, put_entry, drop_entry, Making, given_grid, by_op, LayerDef, layers, nodes_of}
@@ -19,6 +21,8 @@ pub record Rectangle : Type 0 where
 
 pub data Edit : Type 0 where
   load : Name → Grid → Edit
+  -- a layer that has this cell everywhere
+  new_layer : Name → Option ℤ → Edit
   paint : Name → Rectangle → Option ℤ → Edit
   define : Name → Written → Edit
   drop_name : Name → Edit
@@ -112,12 +116,13 @@ put_statement entries n written (Ok flats) = bounded n (put_entry entries n (sta
 
 abbrev pub define_entry : List Entry → Name → Written → Option Def → Result (List Entry) Refusal
 define_entry entries n written (Some (source grid)) = Err (exists_already n)
-define_entry entries n written (Some (statement w flats)) = put_statement entries n written (expansion_of [] n written)
-define_entry entries n written None = put_statement entries n written (expansion_of [] n written)
+define_entry entries n written (Some (statement w flats)) = put_statement entries n written (expansion_of [] n (to_written written))
+define_entry entries n written None = put_statement entries n written (expansion_of [] n (to_written written))
 
 abbrev pub entries_after : EngineState → Edit → Result (List Entry) Refusal
 entries_after s (load n grid) =
     if is_some (find_def s.entries n) then Err (exists_already n) else (if same_size grid.size s.size then add_source s.entries n grid else Err (wrong_size s.size))
+entries_after s (new_layer n cell) = if is_some (find_def s.entries n) then Err (exists_already n) else add_source s.entries n (constant s.size cell)
 entries_after s (paint n r cell) = paint_source s n r cell (find_def s.entries n)
 entries_after s (define n written) = define_entry s.entries n written (find_def s.entries n)
 entries_after s (drop_name n) = if is_some (find_def s.entries n) then Ok (drop_entry s.entries n) else Err (unknown n)

@@ -2,13 +2,14 @@
 use Rattle.std.specs.Prelude.{ℕ, not, List, [], ◌∷◌, map, filter, find, flat_map, Option, Some, None, option_map, bytes_eq, if◌then◌else◌}
 use Rattle.map_nums.specs.Grids.{Grid}
 use Rattle.map_defs.specs.Ops.{Name, Op, needs_of}
-use Rattle.map_defs.specs.Statements.{Written, Flat}
+use Rattle.map_defs.specs.Statements.{Flat}
+use Rattle.statement_parser.specs.Lines.{Written}
 use Rattle.map_defs.specs.Nodes.{Node}
 
 -- what a name stands for
 pub data Def : Type 0 where
   source : Grid → Def
-  -- the flat statements in order, its own the last
+  -- as it was written, and its flat statements in order, its own the last
   statement : Written → List Flat → Def
 
 pub record Entry : Type 0 where

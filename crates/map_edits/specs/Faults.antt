@@ -1,6 +1,6 @@
 -- The first fault of a state: a defined statement with too many viewers, or with a value that no cell may hold.
-use Rattle.std.specs.Prelude.{ℕ, ◌&&◌, nat_lt, List, [], ◌∷◌, map, position, Option, Some, None, is_some, if◌then◌else◌}
-use Rattle.map_nums.specs.Grids.{Cells, Grid}
+use Rattle.std.specs.Prelude.{ℕ, suc, ◌&&◌, nat_lt, List, [], ◌∷◌, map, position, Option, Some, None, is_some, if◌then◌else◌}
+use Rattle.map_nums.specs.Grids.{Size, Cells, Grid, row_of, column_of}
 use Rattle.map_nums.specs.Answers.{is_wide}
 use Rattle.map_defs.specs.Sight.{viewer_count, most_viewers}
 use Rattle.map_defs.specs.Ops.{Name, sight_op}
@@ -12,8 +12,8 @@ use Rattle.map_edits.specs.EngineStates.{EngineState, value_of, term_cells}
 pub data Fault : Type 0 where
   -- a layer, and how many viewers it has
   too_many_viewers : Name → ℕ → Fault
-  -- a layer, and the place of its first such cell
-  overflow : Name → ℕ → Fault
+  -- a layer, and the row and the column of its first such cell, from 1
+  overflow : Name → ℕ → ℕ → Fault
 
 abbrev pub viewers_among : Option Cells → ℕ
 viewers_among None = 0
@@ -28,15 +28,15 @@ abbrev pub wide_place : Option Grid → Option ℕ
 wide_place None = None
 wide_place (Some grid) = position is_wide grid.cells
 
-abbrev pub overflow_at : Name → Option ℕ → Option Fault
-overflow_at n None = None
-overflow_at n (Some place) = Some (overflow n place)
+abbrev pub overflow_at : Size → Name → Option ℕ → Option Fault
+overflow_at size n None = None
+overflow_at size n (Some place) = Some (overflow n (suc (row_of size place)) (suc (column_of size place)))
 
 -- the fault of a layer: viewers come before a value out of range
 abbrev pub fault_of_layer : EngineState → Name → Option Fault
 fault_of_layer s n =
     if nat_lt most_viewers (viewers_of s (find_making (layers s.entries) n)) && is_some (value_of s n) then Some (too_many_viewers n (viewers_of s (find_making (layers s.entries) n)))
-    else overflow_at n (wide_place (value_of s n))
+    else overflow_at s.size n (wide_place (value_of s n))
 
 abbrev pub first_fault : List (Option Fault) → Option Fault
 first_fault [] = None

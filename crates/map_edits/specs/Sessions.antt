@@ -2,9 +2,7 @@
 use Rattle.std.specs.Prelude.{◌≡◌, ℕ, pos, List, [], ◌∷◌, Some, None, Result, Ok, Err, codes}
 use Rattle.map_nums.specs.Grids.{Size, Grid}
 use Rattle.map_nums.specs.declared.Stat.TheVariants as stats
-use Rattle.map_defs.specs.Local.{of_stat}
-use Rattle.map_defs.specs.Ops.{layer_term, number_term, local_op}
-use Rattle.map_defs.specs.Statements.{Written, plain}
+use Rattle.statement_parser.specs.Lines.{layer, value, local, Written, plain}
 use Rattle.map_edits.specs.EngineStates.{EngineState, no_entries, value_of}
 use Rattle.map_edits.specs.Faults.{overflow}
 use Rattle.map_edits.specs.Edits.{Edit, load, paint, define, drop_name, Rectangle, Refusal, unknown, is_derived, exists_already, wrong_size, cycle, fault, accept}
@@ -37,7 +35,7 @@ abbrev pub one_cell : ℕ → Grid
 one_cell n = record { size = cell; cells = Some (pos n) ∷ [] }
 
 abbrev pub sum_of : List ℕ → ℕ → Written
-sum_of n k = plain (local_op (of_stat stats.Sum) (layer_term n ∷ number_term (pos k) ∷ []))
+sum_of n k = plain (local stats.Sum (layer n ∷ value (pos k) ∷ []))
 
 abbrev pub corner : Rectangle
 corner = record { top = 1; left = 1; bottom = 1; right = 1 }
@@ -58,4 +56,4 @@ pub record Sessions : Type 0 where
   -- a paint is seen through a statement, and one that makes it overflow is refused
   pub repainted : value_of (after (no_entries cell) (load (codes "A") (one_cell 7) ∷ define (codes "B") (sum_of (codes "A") 3) ∷ paint (codes "A") corner (Some (pos 5)) ∷ [])) (codes "B") ≡ Some (one_cell 8)
   pub overflows : played (no_entries cell) (load (codes "A") (one_cell 7) ∷ define (codes "B") (sum_of (codes "A") 3) ∷ paint (codes "A") corner (Some (pos 2000000000)) ∷ drop_name (codes "B") ∷ [])
-      ≡ ok 1 ∷ ok 2 ∷ refused (fault (overflow (codes "B") 0)) ∷ ok 3 ∷ []
+      ≡ ok 1 ∷ ok 2 ∷ refused (fault (overflow (codes "B") 1 1)) ∷ ok 3 ∷ []

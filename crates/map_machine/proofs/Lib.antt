@@ -2,7 +2,4 @@ pub mod LinesLemmas
 pub mod TextLemmas
 pub mod OpeningLemmas
 pub mod WordsLemmas
-pub mod StepLemmas
 mod LinesRows
-mod WordsRows
-mod RunRows

@@ -1,6 +1,9 @@
 -- How the text of a session grows with its lines.
 use Rattle.std.proofs.Common.{◌+◌, ◌≡◌, ◌<◌, ◌≤◌, ◌-◌, ℕ, true, false, List, [], ◌∷◌, ◌++◌, ◌||◌, cond, length, take, refl, sym, ap, ◌∙◌, arith, append_assoc, nat_lt}
 use Rattle.std.specs.List.{list_any}
+use Rattle.std.specs.Prelude.{nat_le}
+use Rattle.std.proofs.lemmas.Bool.Decides.{nat_tests}
+use Rattle.statement_parser.specs.LineOf.{line_of}
 use Rattle.std.proofs.lemmas.List.{append-nil, length-append, take_at}
 use Rattle.std.proofs.Math.Seq.{take-append-add}
 use Rattle.std.proofs.lemmas.Bool.{lt-ltb, le-ltb}
@@ -35,9 +38,12 @@ replies_to-quit s (x ∷ xs) ys some = elim (is_quit x) as (λ t. (t || list_any
     ] some
 
 -- a line that is too long doesn't end the session
+not_short : (n : ℕ) → 4096 < n → nat_le n 4096 ≡ false
+not_short n h = grind (arith, nat_tests)
+
 pub long_no_quit : (line : List ℕ) → 4096 < length line → is_quit line ≡ false
-unfolding is_quit
-long_no_quit line long = refl
+unfolding is_quit line_of
+long_no_quit line long = rw (not_short (length line) long) refl
 
 pub reply_to-long : (s : MapState) (line : List ℕ) → 4096 < length line → reply_to s line ≡ long_reply (length line)
 reply_to-long s line long = rw (lt-ltb 4096 (length line) long) refl

@@ -1,8 +1,8 @@
 pub mod Lines
 pub mod States
-pub mod Values
-pub mod Forms
 pub mod Replies
+pub mod Causes
+pub mod Answers
 pub mod Steps
 pub mod Loads
 pub mod Text

@@ -1,19 +1,23 @@
 -- The bytes of replies.
 use Rattle.std.specs.Prelude.{ℕ, List, ◌++◌, codes, decimal}
-use Rattle.map_machine.specs.States.{Name}
+use Rattle.map_defs.specs.Ops.{Name}
 
 -- the reply to an accepted edit or load, by the number of edits so far
 abbrev pub ok_reply : ℕ → List ℕ
 ok_reply number = codes "ok " ++ decimal number ++ codes "\n"
 
 -- the reply to a refused line
-abbrev pub refused_reply : List ℕ
-refused_reply = codes "refused later\n"
+abbrev pub refused_reply : List ℕ → List ℕ
+refused_reply cause = codes "refused " ++ cause ++ codes "\n"
 
 -- the reply to a refused load
-abbrev pub load_refused_reply : Name → List ℕ
-load_refused_reply name = codes "refused load " ++ name ++ codes " later\n"
+abbrev pub load_refused_reply : Name → List ℕ → List ℕ
+load_refused_reply name cause = codes "refused load " ++ name ++ codes " " ++ cause ++ codes "\n"
 
--- the reply to a request on a layer that isn't there
-abbrev pub undefined_reply : Name → List ℕ
-undefined_reply name = codes "undefined " ++ name ++ codes ": " ++ name ++ codes "\n"
+-- the reply to a request on a layer that lacks a name
+abbrev pub undefined_reply : Name → Name → List ℕ
+undefined_reply name lacking = codes "undefined " ++ name ++ codes ": " ++ lacking ++ codes "\n"
+
+-- the reply that tells the cell in a row and a column
+abbrev pub value_reply : Name → ℕ → ℕ → List ℕ → List ℕ
+value_reply name r c cell = codes "value " ++ name ++ codes " " ++ decimal r ++ codes " " ++ decimal c ++ codes " " ++ cell ++ codes "\n"

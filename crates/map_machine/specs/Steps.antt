@@ -1,14 +1,17 @@
 -- What one line does to a state, and what is replied.
-use Rattle.std.specs.Prelude.{ℕ, ℤ, nat_lt, Bool, false, ◌&&◌, List, ◌∷◌, is_some, Option, Some, None, if◌then◌else◌}
-use Rattle.map_nums.specs.Counts.{raised}
-use Rattle.map_nums.specs.Grids.{Grid}
-use Rattle.grid_text.specs.Printed.{grid_text}
+use Rattle.std.specs.Prelude.{ℕ, Bool, true, false, List, [], Result, Ok, Err}
+use Rattle.statement_parser.specs.Lines.{first_language, Line, blank, edit, ask, quit}
+use Rattle.statement_parser.specs.Lines as lines
+use Rattle.statement_parser.specs.Texts.{Refusal as LineRefusal, long}
+use Rattle.statement_parser.specs.LineOf.{line_of}
+use Rattle.map_edits.specs.EngineStates.{EngineState}
+use Rattle.map_edits.specs.Edits.{Edit, Refusal, accept, define, paint, new_layer, drop_name}
 use Rattle.map_machine.specs.declared.Kind.{Kind}
-use Rattle.map_machine.specs.declared.Kind.TheVariants.{Accepted, Shown, Refused}
-use Rattle.map_machine.specs.States.{MapState, Name, Def, sum_of, find, statements_in}
-use Rattle.map_machine.specs.Values.{value_of, sum_grid, is_in_range}
-use Rattle.map_machine.specs.Forms.{Line, define, ask, other, line_of}
-use Rattle.map_machine.specs.Replies.{ok_reply, refused_reply, undefined_reply}
+use Rattle.map_machine.specs.declared.Kind.TheVariants.{Silent, Accepted, Shown, Refused, Quit}
+use Rattle.map_machine.specs.States.{MapState}
+use Rattle.map_machine.specs.Replies.{ok_reply, refused_reply}
+use Rattle.map_machine.specs.Causes.{edit_cause, line_cause}
+use Rattle.map_machine.specs.Answers.{answer_to}
 
 -- the state after a line, the reply, and what became of the line
 pub record Stepped : Type 0 where
@@ -16,47 +19,40 @@ pub record Stepped : Type 0 where
   pub reply : List ℕ
   pub kind : Kind
 
--- the most statements of a state
-abbrev pub most_statements : ℕ
-most_statements = 64
+-- the edit that a line stands for
+abbrev pub edit_of : lines.Edit → Edit
+edit_of (lines.define n w) = define n w
+edit_of (lines.paint n r1 c1 r2 c2 cell) = paint n (record { top = r1; left = c1; bottom = r2; right = c2 }) cell
+edit_of (lines.new_layer n cell) = new_layer n cell
+edit_of (lines.drop n) = drop_name n
 
-abbrev pub refused_step : MapState → Stepped
-refused_step s = record { state = s; reply = refused_reply; kind = Refused }
+-- the state is as before
+abbrev pub unchanged : MapState → List ℕ → Kind → Stepped
+unchanged s reply kind = record { state = s; reply = reply; kind = kind }
 
--- the name is added in front, and the edit counts
-abbrev pub defined : MapState → Name → Def → MapState
-defined s name def = record s { entries = record { name = name; def = def } ∷ s.entries; number = raised s.number 1 }
+abbrev pub edited : MapState → Result EngineState Refusal → Stepped
+edited s (Ok t) = record { state = record s { engine = t }; reply = ok_reply t.number; kind = Accepted }
+edited s (Err r) = unchanged s (refused_reply (edit_cause r)) Refused
 
-abbrev pub defined_step : MapState → Name → Def → Stepped
-defined_step s name def = record { state = defined s name def; reply = ok_reply (raised s.number 1); kind = Accepted }
+abbrev pub step_by : MapState → Result Line LineRefusal → Stepped
+step_by s (Ok blank) = unchanged s [] Silent
+step_by s (Ok (edit e)) = edited s (accept s.engine (edit_of e))
+step_by s (Ok (ask r)) = unchanged s (answer_to s r) Shown
+step_by s (Ok quit) = unchanged s [] Quit
+step_by s (Err r) = unchanged s (refused_reply (line_cause r)) Refused
 
--- a statement over an operand that has this grid
-abbrev pub sum_step : MapState → Name → Name → ℤ → Option Grid → Stepped
-sum_step s name operand number None = refused_step s
-sum_step s name operand number (Some grid) =
-    if nat_lt (statements_in s.entries) most_statements && is_in_range (sum_grid s.size number grid) then defined_step s name (sum_of operand number) else refused_step s
-
--- a statement is refused where its name is there already, its operand isn't, there are too many, or a cell would leave the range
-abbrev pub define_step : MapState → Name → Name → ℤ → Stepped
-define_step s name operand number = if is_some (find s.entries name) then refused_step s else sum_step s name operand number (value_of s.size s.entries operand)
-
-abbrev pub shown_reply : MapState → Name → Option Grid → List ℕ
-shown_reply s name None = undefined_reply name
-shown_reply s name (Some grid) = grid_text s.header grid.size grid.cells
-
-abbrev pub step_by : MapState → Line → Stepped
-step_by s (define name operand number) = define_step s name operand number
-step_by s (ask name) = record { state = s; reply = shown_reply s name (value_of s.size s.entries name); kind = Shown }
-step_by s other = refused_step s
-
--- what a line of at most the longest length does
+-- what a line does
 unfoldable pub step_of : MapState → List ℕ → Stepped
-step_of s line = step_by s (line_of line)
+step_of s line = step_by s (line_of first_language line)
 
--- the line ends the session; no line does yet
+abbrev pub ends : Result Line LineRefusal → Bool
+ends (Ok quit) = true
+ends r = false
+
+-- the line ends the session
 unfoldable pub is_quit : List ℕ → Bool
-is_quit line = false
+is_quit line = ends (line_of first_language line)
 
 -- the reply to a line that is too long, by its length
 unfoldable pub long_reply : ℕ → List ℕ
-long_reply length = refused_reply
+long_reply length = refused_reply (line_cause (long length))

@@ -1,5 +1,6 @@
 -- The words of a run.
-use Rattle.std.specs.Prelude.{ℕ, nat_lt, ◌==◌, ◌&&◌, List, [], ◌∷◌, length, Option, Some, None, String, string_bytes, codes, bytes_eq, if◌then◌else◌}
+use Rattle.std.specs.Prelude.{ℕ, nat_lt, nat_le, ◌==◌, not, Bool, true, false, ◌&&◌, List, [], ◌∷◌, map, find, length, Option, Some, None, String, string_bytes, codes, decimal, bytes_eq, if◌then◌else◌}
+use Rattle.std.specs.List.{list_any, range_with_len}
 use Rattle.std.specs.declared.alloc.Global.{Global}
 use Rattle.map_words.specs.Names.{is_plain}
 
@@ -22,10 +23,40 @@ abbrev pub sound : Option Pair → Option Pair
 sound None = None
 sound (Some p) = if is_plain p.name && nat_lt 0 (length p.file) then Some p else None
 
--- the pair of words of the form `run 1 - NAME=FILE`
-abbrev pub pair_of : List (String Global) → Option Pair
-pair_of (run ∷ workers ∷ model ∷ pair ∷ []) =
-    if bytes_eq (string_bytes run) (codes "run") && bytes_eq (string_bytes workers) (codes "1") && bytes_eq (string_bytes model) (codes "-")
-    then sound (cut (string_bytes pair))
+abbrev pub pair_of : List ℕ → Option Pair
+pair_of word = sound (cut word)
+
+abbrev pub with_pair : Option Pair → Option (List Pair) → Option (List Pair)
+with_pair None ps = None
+with_pair (Some p) None = None
+with_pair (Some p) (Some ps) = Some (p ∷ ps)
+
+-- the pairs of words, where every word is one
+abbrev pub all_pairs : List (String Global) → Option (List Pair)
+all_pairs [] = Some []
+all_pairs (word ∷ words) = with_pair (pair_of (string_bytes word)) (all_pairs words)
+
+-- no two have one name
+abbrev pub are_apart : List Pair → Bool
+are_apart [] = true
+are_apart (p ∷ ps) = not (list_any (λ (q : Pair). bytes_eq q.name p.name) ps) && are_apart ps
+
+abbrev pub most_pairs : ℕ
+most_pairs = 32
+
+-- one to 32 pairs of distinct names
+abbrev pub pairs_of : Option (List Pair) → Option (List Pair)
+pairs_of None = None
+pairs_of (Some ps) = if nat_lt 0 (length ps) && nat_le (length ps) most_pairs && are_apart ps then Some ps else None
+
+-- 1 to 64, in digits without a sign or a leading nought
+abbrev pub is_workers : List ℕ → Bool
+is_workers word = list_any (λ n. bytes_eq word (decimal n)) (range_with_len 1 64)
+
+-- the pairs of words of the form `run WORKERS - NAME=FILE {NAME=FILE}`
+abbrev pub run_pairs : List (String Global) → Option (List Pair)
+run_pairs (run ∷ workers ∷ model ∷ pairs) =
+    if bytes_eq (string_bytes run) (codes "run") && is_workers (string_bytes workers) && bytes_eq (string_bytes model) (codes "-")
+    then pairs_of (all_pairs pairs)
     else None
-pair_of _ = None
+run_pairs _ = None

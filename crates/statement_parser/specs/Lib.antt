@@ -13,3 +13,5 @@ pub mod Formed
 pub mod Canonical
 pub mod Printing
 pub mod Rows
+pub mod ToOps
+pub mod LineOf

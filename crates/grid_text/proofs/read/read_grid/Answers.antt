@@ -1,4 +1,4 @@
-use Rattle.std.proofs.Common.{◌≡◌, ℤ, Ok, ◌+◌, length, to_z, of_z, sym, ap, subst, ◌∙◌, arith, w64}
+use Rattle.std.proofs.Common.{◌≡◌, ℤ, Ok, ◌+◌, length, to_z, of_z, refl, sym, ap, subst, ◌∙◌, arith, w64}
 use Rattle.std.specs.Prelude.{IsTrue}
 use Rattle.std.proofs.lemmas.Result.{err_from_is_err_and}
 use Rattle.map_nums.specs.Grids.{IsSize, cells_in}
@@ -49,20 +49,19 @@ returns-in_err-cells-clause-reads c =
     rw (p.1, p.2) (no_cells c.args.bytes.now head left c.cells.result c.in_err-cells.field-0.0 after (subst IsSize c.in-Some.ensures.size c.cells.ensures.size) (c.cells.ensures.cells ∙ ap cells_in c.in-Some.ensures.size)
     (subst (λ (z : ℤ). Refuses c.in_err-cells.field-0.0 (cells_from z c.cells.result 0 left)) (null_kept c.args.bytes.now pairs.found left c.next_byte-end.result head c.in_ok-pairs.ensures.pairs c.in_ok-head.ensures) c.in_err-cells.ensures))
 
-pub from_cells-requires : goal.from_cells-requires
-from_cells-requires c =
-    ap length c.deref.ensures.value
-    ∙ omega (arith, cells_count (to_z w64 (of_z w64 c.in_ok-head.head.null)) c.cells.result 0 (tokens_left c.args.bytes.now c.in_ok-pairs.pairs.next) c.in_ok-cells.cells.items c.in_ok-cells.ensures, c.cells.ensures.cells)
+pub of_cells-requires : goal.of_cells-requires
+of_cells-requires c =
+    omega (arith, cells_count (to_z w64 (of_z w64 c.in_ok-head.head.null)) c.cells.result 0 (tokens_left c.args.bytes.now c.in_ok-pairs.pairs.next) c.in_ok-cells.cells.items c.in_ok-cells.ensures, c.cells.ensures.cells)
 
 pub returns-clause-reads : goal.returns-clause-reads
 returns-clause-reads c =
     let pairs = c.in_ok-pairs.pairs in
     let left = tokens_left c.args.bytes.now pairs.next in
     let head = head_of c.in_ok-head.head in
-    grid_read c.args.bytes.now c.args.stamp head left c.cells.result c.in_ok-cells.cells.items c.deref.result.now c.in-Some.extent c.in_ok-layer.layer
+    grid_read c.args.bytes.now c.args.stamp head left c.cells.result c.in_ok-cells.cells.items c.in_ok-cells.cells.items c.in-Some.extent c.in_ok-layer.layer
     (grid_in-after c.args.bytes.now pairs.found left c.next_byte-end.result head c.in_ok-pairs.ensures.pairs c.next_byte-end.ensures c.in_ok-head.ensures)
     c.cells.ensures.size c.in-Some.ensures.size c.cells.ensures.cells
-    (subst (λ (z : ℤ). cells_from z c.cells.result 0 left ≡ Ok c.in_ok-cells.cells.items) (null_kept c.args.bytes.now pairs.found left c.next_byte-end.result head c.in_ok-pairs.ensures.pairs c.in_ok-head.ensures) c.in_ok-cells.ensures) c.in_ok-layer.ensures c.deref.ensures.value
+    (subst (λ (z : ℤ). cells_from z c.cells.result 0 left ≡ Ok c.in_ok-cells.cells.items) (null_kept c.args.bytes.now pairs.found left c.next_byte-end.result head c.in_ok-pairs.ensures.pairs c.in_ok-head.ensures) c.in_ok-cells.ensures) c.in_ok-layer.ensures refl
 
 pub returns-clause-header : goal.returns-clause-header
 returns-clause-header c =

@@ -1,0 +1,50 @@
+//! Edits, and why they are refused.
+
+use layer_tiles::Layer;
+use map_words::Name;
+use statement_parser::LineEdit;
+use std::alloc::{AllocError, AllocFailed};
+use map_nums::NoMemory;
+
+/// What changes the names of a map.
+#[derive(Drop)]
+pub enum Edit {
+    /// A further source. Its stamps become the edit's number.
+    Load { name: Name, layer: Layer },
+    Line(LineEdit),
+}
+
+/// An accepted edit.
+#[derive(Clone, Copy, Debug, PartialEq, Eq)]
+pub struct Accepted {
+    /// How many edits were accepted so far, this one included; at most 2^64-1.
+    pub number: u64,
+}
+
+/// Of what there would be too many.
+#[derive(Clone, Copy, Debug, PartialEq, Eq)]
+pub enum Which {
+    /// 32 sources.
+    Sources,
+    /// 64 flat statements.
+    Statements,
+}
+
+/// Why an edit is refused. Rows and columns count from 1.
+#[derive(Debug, Drop)]
+pub enum Refusal {
+    /// The name is no source and no statement.
+    Unknown(Name),
+    /// The name is a statement.
+    Derived(Name),
+    /// The name is there already.
+    Exists(Name),
+    /// The rows and columns of the map, which are others, or which a rectangle leaves.
+    Size(u64, u64),
+    Limit(Which),
+    /// The name would be reached from its own operands.
+    Cycle(Name),
+    /// The first statement with a value that no cell may hold, and the row and column of its first such cell.
+    Overflow(Name, u64, u64),
+    NoMemory,
+}

@@ -1,0 +1,49 @@
+-- What a request is answered.
+use Rattle.std.specs.Prelude.{ℕ, ◌+◌, ◌-◌, ◌*◌, nat_le, Bool, ◌&&◌, List, ◌++◌, map, length, flat_map, Option, Some, None, unwrap_or, codes, if◌then◌else◌}
+use Rattle.map_nums.specs.Grids.{Size, Grid, cell_at}
+use Rattle.map_defs.specs.Ops.{Name}
+use Rattle.map_defs.specs.Nodes.{missing}
+use Rattle.statement_parser.specs.Lines.{Request, ask_value, ask_grid, ask_list}
+use Rattle.statement_parser.specs.Canonical.{cell_text, written_text}
+use Rattle.grid_text.specs.Printed.{grid_text}
+use Rattle.map_edits.specs.Entries.{Def, source, statement, Entry, nodes_of}
+use Rattle.map_edits.specs.EngineStates.{EngineState, value_of}
+use Rattle.map_machine.specs.States.{MapState}
+use Rattle.map_machine.specs.Replies.{undefined_reply, value_reply}
+use Rattle.map_machine.specs.Causes.{counted}
+
+-- the first missing name of a layer; its own where it isn't there
+abbrev pub lacking : EngineState → Name → Name
+lacking s n = unwrap_or (missing (nodes_of s.entries) n) n
+
+-- what a request on one layer is answered, by the layer's grid where it has one
+abbrev pub of_layer : EngineState → Name → (Grid → List ℕ) → List ℕ
+of_layer s n told = of_grid (value_of s n)
+  where
+    of_grid : Option Grid → List ℕ
+    of_grid None = undefined_reply n (lacking s n)
+    of_grid (Some grid) = told grid
+
+-- rows and columns count from 1
+abbrev pub is_on : Size → ℕ → ℕ → Bool
+is_on s r c = nat_le 1 r && nat_le r s.rows && nat_le 1 c && nat_le c s.columns
+
+-- the cell in a row and a column, in words
+abbrev pub cell_told : Grid → ℕ → ℕ → List ℕ
+cell_told g r c = if is_on g.size r c then cell_text (cell_at g.cells ((r - 1) * g.size.columns + (c - 1))) else codes "outside"
+
+-- the line of a name in the list
+abbrev pub entry_line : Entry → List ℕ
+entry_line e = of_def e.name e.def
+  where
+    of_def : Name → Def → List ℕ
+    of_def n (source grid) = codes "source " ++ n ++ codes "\n"
+    of_def n (statement written flats) = written_text n written ++ codes "\n"
+
+abbrev pub list_reply : List Entry → List ℕ
+list_reply entries = counted (codes "list") (length entries) ++ codes "\n" ++ flat_map entry_line entries
+
+abbrev pub answer_to : MapState → Request → List ℕ
+answer_to s (ask_value n r c) = of_layer s.engine n (λ grid. value_reply n r c (cell_told grid r c))
+answer_to s (ask_grid n) = of_layer s.engine n (λ grid. grid_text s.header grid.size grid.cells)
+answer_to s ask_list = list_reply s.engine.entries
