@@ -1,0 +1,9 @@
+pub mod Among
+pub mod Chains
+pub mod Looks
+pub mod Unfolds
+pub mod Defined
+pub mod Order
+pub mod Puts
+pub mod Kept
+pub mod Accepted
