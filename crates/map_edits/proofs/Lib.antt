@@ -1,0 +1,6 @@
+pub mod Among
+pub mod Chains
+pub mod Looks
+pub mod Unfolds
+pub mod Defined
+pub mod Order
