@@ -1,7 +1,8 @@
 -- The layers of a state's statements.
 use Rattle.std.specs.Prelude.{◌≡◌, ℕ, Bool, true, List, find, Option, Some, None, option_map, bytes_eq, Result, Ok, Err, Vec, ⊤}
 use Rattle.std.specs.declared.alloc.Global.{Global}
-use Rattle.map_nums.specs.Grids.{Grid}
+use Rattle.map_nums.specs.Grids.{Size, Grid}
+use Rattle.layer_tiles.specs.Layers.{layer_of}
 use Rattle.map_defs.specs.Ops.{Name, Op}
 use Rattle.map_edits.specs.Entries.{by_op, layers, find_making}
 use Rattle.map_edits.specs.EngineStates.{EngineState, value_of}
@@ -10,6 +11,10 @@ use Rattle.live_engine.specs.Held.{grid_of}
 use Rattle.live_engine.specs.declared.values.Valued.{Valued}
 use Rattle.live_engine.specs.declared.values.Halt.{Halt}
 use Rattle.live_engine.specs.declared.values.Halt.TheVariants.{Overflow, NoMemory}
+
+-- a layer of this size, with one stamp for all tiles
+abbrev pub IsOfStamp : Size → ℕ → Valued → Type 0
+IsOfStamp size stamp v = v.layer ≡ layer_of size v.layer.cells stamp
 
 -- the grid that is kept for a name
 abbrev pub kept : List Valued → Name → Option Grid
