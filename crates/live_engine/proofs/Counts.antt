@@ -1,8 +1,8 @@
 -- How many sources and flat statements there are after an edit.
-use Rattle.std.proofs.Common.{◌≡◌, ℕ, suc, ◌+◌, ◌≤◌, ◌<◌, ◌^◌, Bool, true, false, cond, not, List, [], ◌∷◌, ◌++◌, map, find, length, count_by, Option, Some, None, is_some, option_map, bytes_eq, refl, sym, ap, subst, ◌∙◌, arith, if◌then◌else◌}
+use Rattle.std.proofs.Common.{◌≡◌, ℕ, suc, ◌+◌, ◌≤◌, ◌<◌, ◌^◌, Bool, true, false, cond, not, List, [], ◌∷◌, ◌++◌, map, find, length, ◌-◌, count_by, Option, Some, None, is_some, option_map, bytes_eq, refl, sym, ap, subst, ◌∙◌, arith, if◌then◌else◌}
 use Rattle.std.proofs.lemmas.List.Sums.{sum_by-cons, sum_by-append}
 use Rattle.map_nums.specs.Grids.{Grid}
-use Rattle.map_defs.specs.Ops.{Name, Op}
+use Rattle.map_defs.specs.Ops.{Name, Op, needs_of}
 use Rattle.map_defs.specs.Statements.{Flat}
 use Rattle.statement_parser.specs.Lines as lines
 use Rattle.statement_parser.specs.Lines.{Written}
@@ -12,17 +12,16 @@ use Rattle.map_defs.specs.Expansion.{expansion_of}
 use Rattle.map_edits.specs.Entries.{Def, source, statement, Entry, find_def, put_entry, drop_entry, LayerDef, given_grid, by_op, flat_layer, layers, layers_of, nodes_of}
 use Rattle.map_edits.specs.Edits.{is_source, is_flat, is_zonal}
 use Rattle.map_edits.specs.Laws.{IsOwnDef, IsOwn}
+use Rattle.map_edits.proofs.Puts.{own_put}
 use Rattle.live_engine.specs.Held.{flats_of, def_of, entry_of, entries_of}
+use Rattle.statement_graph.specs.Puts.{own_name}
+use Rattle.live_engine.specs.Groups.{statement_nodes, written_node}
+use Rattle.live_engine.specs.Standing.{is_source_item, OtherThanSource}
 use Rattle.live_engine.specs.declared.held.Item.{Item}
 use Rattle.live_engine.specs.declared.held.Item.TheVariants.{Source, Statement}
 
 count_first : {X : Type 0} (p : X → Bool) (x : X) (xs : List X) → count_by p (x ∷ xs) ≡ cond (p x) 1 0 + count_by p xs
 count_first p x xs = sum_by-cons (λ y. cond (p y) 1 0) x xs
-
--- whether an item is a source
-abbrev pub is_source_item : Item → Bool
-is_source_item (Source layer) = true
-is_source_item (Statement written) = false
 
 source_item : (n : Name) (item : Item) → is_source (record { name = n; def = def_of n item }) ≡ is_source_item item
 source_item n (Source layer) = refl
@@ -172,3 +171,39 @@ no_zonals (e ∷ es) =
     let first = zonals_first e.0 e.1 in
     let rest = no_zonals es in
     omega (arith, both, first, rest)
+
+-- ---- a statement is put
+
+put_split : (es : List Entry) (n : Name) (d : Def) → IsOwn es → IsOwnDef n d → count_by is_source (put_entry es n d) + count_by is_flat (layers (put_entry es n d)) ≡ length (put_entry es n d)
+put_split es n d own here = counts_split (put_entry es n d) (own_put es n d own here)
+
+-- how many flat statements there are after one is put in place of what was found
+abbrev pub flats_with : Option Def → ℕ → ℕ
+flats_with None k = k + 1
+flats_with (Some d) k = k
+
+pub flats_put : (es : List Entry) (n : Name) (written : Written) (op : Op) (o : Option Def) → IsOwn es → find_def es n ≡ o → OtherThanSource o
+    → (flats_with o (length es - count_by is_source es)) ≡ count_by is_flat (layers (put_entry es n (statement written (record { name = n; op = op } ∷ []))))
+flats_put es n written op None own is other =
+    let d = statement written (record { name = n; op = op } ∷ []) in
+    let before : count_by is_source es + count_by is_flat (layers es) ≡ length es = counts_split es own in
+    let after : count_by is_source (put_entry es n d) + count_by is_flat (layers (put_entry es n d)) ≡ length (put_entry es n d) = put_split es n d own (op, refl) in
+    let longer : length (put_entry es n d) ≡ suc (length es) = length_put_new es n d is in
+    let same : count_by is_source (put_entry es n d) ≡ count_by is_source es + 0 = sources_put_new es n d is in
+    omega (arith, before, after, longer, same)
+flats_put es n written op (Some (source grid)) own is other = absurd other
+flats_put es n written op (Some (statement w fs)) own is other =
+    let d = statement written (record { name = n; op = op } ∷ []) in
+    let before : count_by is_source es + count_by is_flat (layers es) ≡ length es = counts_split es own in
+    let after : count_by is_source (put_entry es n d) + count_by is_flat (layers (put_entry es n d)) ≡ length (put_entry es n d) = put_split es n d own (op, refl) in
+    let longer : length (put_entry es n d) ≡ length es = length_put_there es n d (ap is_some is) in
+    let same : count_by is_source (put_entry es n d) ≡ count_by is_source es = sources_put_same es n (statement w fs) d is refl in
+    omega (arith, before, after, longer, same)
+
+-- the nodes of a statement that is written
+pub statement_nodes_is : (n : Name) (w : Written) → written_node n w ∷ [] ≡ statement_nodes (flats_of n w)
+statement_nodes_is n (lines.plain op) = ap statement_nodes (sym (flats_is n op))
+
+-- its last node has its name
+pub own_name_is : (n : Name) (w : Written) → own_name (written_node n w ∷ []) ≡ Some n
+own_name_is n (lines.plain op) = refl

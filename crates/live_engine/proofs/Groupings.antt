@@ -1,5 +1,5 @@
 -- The groups of entries after an edit are those that the graph makes of theirs.
-use Rattle.std.proofs.Common.{◌≡◌, ℕ, suc, ◌+◌, ◌≤◌, Bool, true, false, cond, not, ◌||◌, List, [], ◌∷◌, ◌++◌, map, find, flat_map, length, Option, Some, None, is_some, option_map, bytes_eq, refl, sym, ap, subst, ◌∙◌}
+use Rattle.std.proofs.Common.{◌≡◌, ℕ, suc, ◌+◌, ◌≤◌, Bool, true, false, cond, not, ◌||◌, List, [], ◌∷◌, ◌++◌, map, find, flat_map, length, Option, Some, None, is_some, option_map, bytes_eq, IsTrue, IsFalse, Result, Ok, Err, refl, sym, ap, subst, ◌∙◌}
 use Rattle.std.specs.List.{list_any}
 use Rattle.std.proofs.lemmas.List.{map-append}
 use Rattle.map_nums.specs.Grids.{Grid}
@@ -11,7 +11,11 @@ use Rattle.map_edits.specs.Entries.{Def, source, statement, Entry, find_def, put
 use Rattle.map_edits.proofs.Among.{same_name}
 use Rattle.statement_graph.specs.Groups.{Group, nodes_in, has_group, put_group, drop_group}
 use Rattle.statement_graph.specs.Puts.{source_node}
-use Rattle.live_engine.specs.Groups.{group_of, groups_of}
+use Rattle.statement_graph.specs.Puts.{IsPut}
+use Rattle.statement_graph.specs.declared.refusal.GraphRefusal.{GraphRefusal}
+use Rattle.statement_graph.specs.declared.refusal.GraphRefusal.TheVariants.{Cycle, NoMemory}
+use Rattle.map_defs.specs.Depths.{is_looped}
+use Rattle.live_engine.specs.Groups.{group_of, groups_of, statement_nodes, IsGraphWith}
 
 pub nodes_in_groups : (es : List Entry) → nodes_in (groups_of es) ≡ nodes_of es
 nodes_in_groups [] = refl
@@ -24,10 +28,6 @@ has_group_is (e ∷ es) n = go (bytes_eq e.name n) (has_group_is es n)
     go : (b : Bool) → has_group (groups_of es) n ≡ is_some (find_def es n) → (b || has_group (groups_of es) n) ≡ is_some (option_map (λ (x : Entry). x.def) (cond b (Some e) (find (λ (x : Entry). bytes_eq x.name n) es)))
     go true rest = refl
     go false rest = rest
-
--- the nodes of a statement
-abbrev pub statement_nodes : List Flat → List Node
-statement_nodes flats = map node_of_layer (map flat_layer flats)
 
 pub groups_put : (es : List Entry) (n : Name) (written : Written) (flats : List Flat) → put_group (groups_of es) n (statement_nodes flats) ≡ groups_of (put_entry es n (statement written flats))
 groups_put [] n written flats = refl
@@ -72,3 +72,18 @@ groups_drop (e ∷ es) n = go (bytes_eq e.name n) (groups_drop es n)
         → cond (not b) (group_of e ∷ drop_group (groups_of es) n) (drop_group (groups_of es) n) ≡ groups_of (cond (not b) (e ∷ drop_entry es n) (drop_entry es n))
     go true rest = rest
     go false rest = ap (λ gs. group_of e ∷ gs) rest
+
+-- ---- a statement is put into a copy
+
+module _ (given graph next : List Group) (n : Name) (given_nodes nodes : List Node) where
+  pub graph_with : given ≡ graph → given_nodes ≡ nodes → (next ≡ put_group given n given_nodes) × IsFalse (is_looped (nodes_in (put_group given n given_nodes)) n)
+      → (next ≡ put_group graph n nodes) × IsFalse (is_looped (nodes_in (put_group graph n nodes)) n)
+  graph_with same all put =
+      let P : List Group → List Node → Type 0 = λ g ns. (next ≡ put_group g n ns) × IsFalse (is_looped (nodes_in (put_group g n ns)) n) in
+      subst (λ g. P g nodes) same (subst (P given) all put)
+
+  pub graph_without : (refusal : GraphRefusal) → given ≡ graph → given_nodes ≡ nodes → IsPut {V = Unit {0}} given next n given_nodes (Err refusal) → IsGraphWith graph n nodes (Err refusal)
+  graph_without Cycle same all put =
+      let P : List Group → List Node → Type 0 = λ g ns. IsTrue (is_looped (nodes_in (put_group g n ns)) n) in
+      subst (λ g. P g nodes) same (subst (P given) all put.1)
+  graph_without NoMemory same all put = tt

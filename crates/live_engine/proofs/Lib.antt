@@ -1,3 +1,6 @@
 mod Items
 mod Groupings
 mod Counts
+mod Standings
+mod Lawful
+mod Accepting

@@ -4,10 +4,19 @@
 //! The engine keeps each layer, where the machine that it is proved against evaluates every statement anew.
 #![tactic(auto)]
 
+mod adding;
+mod defining;
+mod dropping;
 mod edits;
 mod engine;
+mod evaluating;
+mod graphs;
 mod held;
+mod limits;
+mod painting;
+mod placing;
 mod reads;
+mod repainting;
 mod scene;
 mod values;
 
