@@ -1,20 +1,21 @@
 -- What an accepted edit keeps.
-use Rattle.std.proofs.Common.{◌≡◌, ℤ, Bool, true, false, cond, nat_lt, List, [], ◌∷◌, count_by, Option, Some, None, is_some, Result, Ok, Err, refl, sym, ap, subst, ◌∙◌}
-use Rattle.map_nums.specs.Grids.{Grid, constant}
+use Rattle.std.proofs.Common.{◌≡◌, ℤ, Bool, true, false, cond, nat_lt, List, [], ◌∷◌, count_by, Option, Some, None, is_some, Result, Ok, Err, length, refl, sym, ap, subst, ◌∙◌, ◌⊎◌, inl, inr}
+use Rattle.map_nums.specs.Grids.{Size, Grid, constant}
 use Rattle.map_defs.specs.Ops.{Name}
 use Rattle.map_defs.specs.Statements as statements
 use Rattle.map_defs.specs.Statements.{Flat}
 use Rattle.map_defs.specs.Expansion.{WrongCall, not_defined, wrong_count, expansion_of}
-use Rattle.map_defs.specs.Depths.{is_looped}
+use Rattle.map_defs.specs.Depths.{reaches, is_looped, by_depth}
 use Rattle.statement_parser.specs.Lines.{Written}
 use Rattle.statement_parser.specs.ToOps.{to_written}
 use Rattle.map_edits.specs.Entries.{Def, source, statement, Entry, find_def, put_entry, drop_entry, layers, nodes_of}
-use Rattle.map_edits.specs.EngineStates.{EngineState}
+use Rattle.map_edits.specs.EngineStates.{EngineState, no_entries, value_of}
 use Rattle.map_edits.specs.Faults.{Fault, fault_of}
 use Rattle.map_edits.specs.Edits.{Edit, load, new_layer, paint, define, drop_name, Rectangle, Refusal, cycle, beyond, sources, statements as too_many, zonals, is_source, is_flat, is_zonal, most_sources, most_flats, most_zonals, is_within, painted, same_size, add_source, paint_source, bounded, put_statement, define_entry, entries_after, with_entries, may_fault, without_fault, settled, accept_entries, accept}
-use Rattle.map_edits.specs.Laws.{IsOwnDef, IsWellMade}
+use Rattle.map_edits.specs.Laws.{HasNoCycle, IsOwnDef, IsOwn, IsWellMade, edited}
 use Rattle.map_edits.proofs.Puts.{own_put, own_drop, apart_put, apart_drop}
-use Rattle.map_edits.proofs.Kept.{source_keeps_no_cycle, drop_keeps_no_cycle, put_keeps_no_cycle}
+use Rattle.map_edits.proofs.Kept.{source_alone, drop_keeps_no_cycle, put_keeps_no_cycle}
+use Rattle.map_edits.proofs.Agreeing.{put_keeps_values, drop_keeps_values}
 
 -- ---- an answer that isn't a refusal
 
@@ -28,27 +29,15 @@ cond_ok false r o es e = absurd cc
 
 -- ---- the entries
 
-module _ (es : List Entry) (n : Name) (well : IsWellMade es) where
-  pub source_keeps : (grid : Grid) → IsWellMade (put_entry es n (source grid))
-  source_keeps grid = record {
-    none_looped = source_keeps_no_cycle es n well.own grid well.none_looped;
-    own = own_put es n (source grid) well.own tt;
-    apart = apart_put es n (source grid) well.apart;
-  }
+-- a definition is put, which isn't looped
+pub record IsPut (es : List Entry) (n : Name) (new : List Entry) : Type 0 where
+  pub def : Def
+  pub own : IsOwnDef n def
+  pub alone : is_looped (nodes_of new) n ≡ false
+  pub entries : new ≡ put_entry es n def
 
-  pub drop_keeps : IsWellMade (drop_entry es n)
-  drop_keeps = record {
-    none_looped = drop_keeps_no_cycle es n well.own well.none_looped;
-    own = own_drop es n well.own;
-    apart = apart_drop es n well.apart;
-  }
-
-  pub statement_keeps : (written : Written) (flats : List Flat) → IsOwnDef n (statement written flats) → is_looped (nodes_of (put_entry es n (statement written flats))) n ≡ false → IsWellMade (put_entry es n (statement written flats))
-  statement_keeps written flats here alone = record {
-    none_looped = put_keeps_no_cycle es n well.own (statement written flats) here well.none_looped alone;
-    own = own_put es n (statement written flats) well.own here;
-    apart = apart_put es n (statement written flats) well.apart;
-  }
+abbrev pub IsChanged : List Entry → Name → List Entry → Type 0
+IsChanged es n new = (new ≡ drop_entry es n) ⊎ IsPut es n new
 
 -- without procedures a statement stands for itself
 plain_is_own : (n : Name) (w : statements.Written) (written : Written) (flats : List Flat) → expansion_of [] n w ≡ Ok flats → IsOwnDef n (statement written flats)
@@ -56,55 +45,75 @@ unfolding expansion_of
 plain_is_own n (statements.plain op) written flats e = let same : record { name = n; op = op } ∷ [] ≡ flats = cc in (op, sym same)
 plain_is_own n (statements.call p ts) written flats e = absurd cc
 
-module _ (es new : List Entry) (n : Name) (well : IsWellMade es) where
-  added_keeps : (grid : Grid) → add_source es n grid ≡ Ok new → IsWellMade new
-  added_keeps grid e =
-      let is : Ok (put_entry es n (source grid)) ≡ Ok new = cond_ok (nat_lt (count_by is_source es) most_sources) (beyond sources) (Ok (put_entry es n (source grid))) new e in
-      let same : put_entry es n (source grid) ≡ new = cc in
-      subst IsWellMade same (source_keeps es n well grid)
+module _ (es new : List Entry) (n : Name) (own : IsOwn es) where
+  source_is_put : (grid : Grid) (o : Result (List Entry) Refusal) → o ≡ Ok (put_entry es n (source grid)) → o ≡ Ok new → IsChanged es n new
+  source_is_put grid o is e =
+      let both : Ok (put_entry es n (source grid)) ≡ Ok new = sym is ∙ e in
+      let same : new ≡ put_entry es n (source grid) = cc in
+      inr (record { def = source grid; own = tt; alone = ap (λ q. is_looped (nodes_of q) n) same ∙ source_alone es n own grid; entries = same })
 
-  bounded_is : (entries : List Entry) → bounded n entries ≡ Ok new → (entries ≡ new) × (is_looped (nodes_of entries) n ≡ false)
+  added_is : (grid : Grid) → add_source es n grid ≡ Ok new → IsChanged es n new
+  added_is grid e = source_is_put grid (Ok (put_entry es n (source grid))) refl (cond_ok (nat_lt (count_by is_source es) most_sources) (beyond sources) (Ok (put_entry es n (source grid))) new e)
+
+  bounded_is : (entries : List Entry) → bounded n entries ≡ Ok new → (new ≡ entries) × (is_looped (nodes_of entries) n ≡ false)
   bounded_is entries e =
       let flats = cond_err (nat_lt most_flats (count_by is_flat (layers entries))) (beyond too_many) _ new e in
       let zonal = cond_err (nat_lt most_zonals (count_by is_zonal (layers entries))) (beyond zonals) _ new flats.1 in
       let looped = cond_err (is_looped (nodes_of entries) n) (cycle n) (Ok entries) new zonal.1 in
       let is : Ok entries ≡ Ok new = looped.1 in
-      let same : entries ≡ new = cc in
+      let same : new ≡ entries = cc in
       (same, looped.0)
 
-  put_keeps : (written : Written) (o : Result (List Flat) WrongCall) → ((flats : List Flat) → o ≡ Ok flats → IsOwnDef n (statement written flats)) → put_statement es n written o ≡ Ok new → IsWellMade new
-  put_keeps written (Err (not_defined p)) own e = absurd cc
-  put_keeps written (Err (wrong_count given wanted)) own e = absurd cc
-  put_keeps written (Ok flats) own e =
+  put_is : (written : Written) (o : Result (List Flat) WrongCall) → ((flats : List Flat) → o ≡ Ok flats → IsOwnDef n (statement written flats)) → put_statement es n written o ≡ Ok new → IsChanged es n new
+  put_is written (Err (not_defined p)) means e = absurd cc
+  put_is written (Err (wrong_count given wanted)) means e = absurd cc
+  put_is written (Ok flats) means e =
       let r = bounded_is (put_entry es n (statement written flats)) e in
-      subst IsWellMade r.0 (statement_keeps es n well written flats (own flats refl) r.1)
+      inr (record { def = statement written flats; own = means flats refl; alone = ap (λ q. is_looped (nodes_of q) n) r.0 ∙ r.1; entries = r.0 })
 
-  define_keeps : (written : Written) (o : Option Def) → define_entry es n written o ≡ Ok new → IsWellMade new
-  define_keeps written (Some (source grid)) e = absurd cc
-  define_keeps written (Some (statement w flats)) e = put_keeps written (expansion_of [] n (to_written written)) (plain_is_own n (to_written written) written) e
-  define_keeps written None e = put_keeps written (expansion_of [] n (to_written written)) (plain_is_own n (to_written written) written) e
+  define_is : (written : Written) (o : Option Def) → define_entry es n written o ≡ Ok new → IsChanged es n new
+  define_is written (Some (source grid)) e = absurd cc
+  define_is written (Some (statement w flats)) e = put_is written (expansion_of [] n (to_written written)) (plain_is_own n (to_written written) written) e
+  define_is written None e = put_is written (expansion_of [] n (to_written written)) (plain_is_own n (to_written written) written) e
 
-paint_keeps : (s : EngineState) (new : List Entry) (n : Name) (r : Rectangle) (cell : Option ℤ) (o : Option Def) → IsWellMade s.entries → paint_source s n r cell o ≡ Ok new → IsWellMade new
-paint_keeps s new n r cell None well e = absurd cc
-paint_keeps s new n r cell (Some (statement w flats)) well e = absurd cc
-paint_keeps s new n r cell (Some (source grid)) well e =
-    let put = put_entry s.entries n (source (painted s.size r cell grid)) in
-    let is : Ok put ≡ Ok new = cond_ok (is_within s.size r) _ (Ok put) new e in
-    let same : put ≡ new = cc in
-    subst IsWellMade same (source_keeps s.entries n well (painted s.size r cell grid))
+paint_is : (s : EngineState) (new : List Entry) (n : Name) (r : Rectangle) (cell : Option ℤ) (o : Option Def) → IsOwn s.entries → paint_source s n r cell o ≡ Ok new → IsChanged s.entries n new
+paint_is s new n r cell None own e = absurd cc
+paint_is s new n r cell (Some (statement w flats)) own e = absurd cc
+paint_is s new n r cell (Some (source grid)) own e =
+    let put : Result (List Entry) Refusal = Ok (put_entry s.entries n (source (painted s.size r cell grid))) in
+    source_is_put s.entries new n own (painted s.size r cell grid) put refl (cond_ok (is_within s.size r) _ put new e)
 
--- the entries that an edit leaves
-pub entries_keep : (s : EngineState) (edit : Edit) (new : List Entry) → entries_after s edit ≡ Ok new → IsWellMade s.entries → IsWellMade new
-entries_keep s (load n grid) new e well =
+-- an edit drops its name, or puts one definition of it
+pub entries_change : (s : EngineState) (edit : Edit) (new : List Entry) → IsOwn s.entries → entries_after s edit ≡ Ok new → IsChanged s.entries (edited edit) new
+entries_change s (load n grid) new own e =
     let free = cond_err (is_some (find_def s.entries n)) _ (cond (same_size grid.size s.size) (add_source s.entries n grid) (Err _)) new e in
-    added_keeps s.entries new n well grid (cond_ok (same_size grid.size s.size) _ (add_source s.entries n grid) new free.1)
-entries_keep s (new_layer n cell) new e well = added_keeps s.entries new n well (constant s.size cell) (cond_err (is_some (find_def s.entries n)) _ (add_source s.entries n (constant s.size cell)) new e).1
-entries_keep s (paint n r cell) new e well = paint_keeps s new n r cell (find_def s.entries n) well e
-entries_keep s (define n written) new e well = define_keeps s.entries new n well written (find_def s.entries n) e
-entries_keep s (drop_name n) new e well =
+    added_is s.entries new n own grid (cond_ok (same_size grid.size s.size) _ (add_source s.entries n grid) new free.1)
+entries_change s (new_layer n cell) new own e = added_is s.entries new n own (constant s.size cell) (cond_err (is_some (find_def s.entries n)) _ (add_source s.entries n (constant s.size cell)) new e).1
+entries_change s (paint n r cell) new own e = paint_is s new n r cell (find_def s.entries n) own e
+entries_change s (define n written) new own e = define_is s.entries new n own written (find_def s.entries n) e
+entries_change s (drop_name n) new own e =
     let is : Ok (drop_entry s.entries n) ≡ Ok new = cond_ok (is_some (find_def s.entries n)) _ (Ok (drop_entry s.entries n)) new e in
-    let same : drop_entry s.entries n ≡ new = cc in
-    subst IsWellMade same (drop_keeps s.entries n well)
+    let same : new ≡ drop_entry s.entries n = cc in
+    inl same
+
+module _ (es : List Entry) (n : Name) (well : IsWellMade es) where
+  pub drop_keeps : IsWellMade (drop_entry es n)
+  drop_keeps = record {
+    none_looped = drop_keeps_no_cycle es n well.own well.none_looped;
+    own = own_drop es n well.own;
+    apart = apart_drop es n well.apart;
+  }
+
+  pub put_keeps : (d : Def) → IsOwnDef n d → is_looped (nodes_of (put_entry es n d)) n ≡ false → IsWellMade (put_entry es n d)
+  put_keeps d here alone = record {
+    none_looped = put_keeps_no_cycle es n well.own d here well.none_looped alone;
+    own = own_put es n d well.own here;
+    apart = apart_put es n d well.apart;
+  }
+
+  change_keeps : (new : List Entry) → IsChanged es n new → IsWellMade new
+  change_keeps new (inl e) = subst IsWellMade (sym e) drop_keeps
+  change_keeps new (inr put) = subst IsWellMade (sym put.entries) (put_keeps put.def put.own (ap (λ q. is_looped (nodes_of q) n) (sym put.entries) ∙ put.alone))
 
 -- ---- the state
 
@@ -136,5 +145,35 @@ pub accepted_is : (s t : EngineState) (edit : Edit) → accept s edit ≡ Ok t �
 unfolding accept
 accepted_is s t edit e = accepted_parts s t edit (entries_after s edit) refl e
 
+pub accept_changes : (s t : EngineState) (edit : Edit) → accept s edit ≡ Ok t → IsOwn s.entries → IsChanged s.entries (edited edit) t.entries
+accept_changes s t edit e own = entries_change s edit t.entries own (accepted_is s t edit e).entries
+
 pub accept_keeps : (s t : EngineState) (edit : Edit) → accept s edit ≡ Ok t → IsWellMade s.entries → IsWellMade t.entries
-accept_keeps s t edit e well = entries_keep s edit t.entries (accepted_is s t edit e).entries well
+accept_keeps s t edit e well = change_keeps s.entries (edited edit) well t.entries (accept_changes s t edit e well.own)
+
+pub accept_keeps_size : (s t : EngineState) (edit : Edit) → accept s edit ≡ Ok t → t.size ≡ s.size
+accept_keeps_size s t edit e = ap (λ (u : EngineState). u.size) (accepted_is s t edit e).state
+
+-- an edit changes no value but those that reach the edited name
+pub accept_keeps_values : (s t : EngineState) (edit : Edit) → accept s edit ≡ Ok t → IsWellMade s.entries → (m : Name) → reaches (length (nodes_of s.entries)) (nodes_of s.entries) (edited edit) m ≡ false → value_of t m ≡ value_of s m
+accept_keeps_values s t edit e well m free = go (accept_changes s t edit e well.own)
+  where
+    none_looped : HasNoCycle (nodes_of t.entries)
+    none_looped = (accept_keeps s t edit e well).none_looped
+
+    size : s.size ≡ t.size
+    size = sym (accept_keeps_size s t edit e)
+
+    go : IsChanged s.entries (edited edit) t.entries → value_of t m ≡ value_of s m
+    go (inl is) = sym (drop_keeps_values s t well.none_looped none_looped size well.own (edited edit) is m free)
+    go (inr put) = sym (put_keeps_values s t well.none_looped none_looped size well.own (edited edit) put.def put.own put.entries m free)
+
+-- ---- the state without names
+
+pub none_well_made : IsWellMade []
+unfolding is_looped
+none_well_made = record { none_looped = λ n. refl; own = tt; apart = tt }
+
+pub none_faultless : (size : Size) → fault_of (no_entries size) ≡ None
+unfolding fault_of by_depth
+none_faultless size = refl

@@ -75,6 +75,11 @@ module _ (es : List Entry) (n : Name) (own : IsOwn es) where
   put_needs : (d : Def) → IsOwnDef n d → needs_in (nodes_of (put_entry es n d)) n ≡ making_needs (def_making (Some d))
   put_needs d here = needs_by_entry (put_entry es n d) n (own_put es n d own here) ∙ ap (λ o. making_needs (def_making o)) (find_put es n d)
 
+  -- a source is never looped
+  pub source_alone : (grid : Grid) → is_looped (nodes_of (put_entry es n (source grid))) n ≡ false
+  unfolding is_looped
+  source_alone grid = let nodes = nodes_of (put_entry es n (source grid)) in ap (list_any (reaches (length nodes) nodes n)) (put_needs (source grid) tt)
+
   pub put_needs_other : (d : Def) → IsOwnDef n d → (m : Name) → bytes_eq m n ≡ false → needs_in (nodes_of (put_entry es n d)) m ≡ needs_in (nodes_of es) m
   put_needs_other d here m h = needs_by_entry (put_entry es n d) m (own_put es n d own here) ∙ ap (λ o. making_needs (def_making o)) (find_put_other es n d m h) ∙ sym (needs_by_entry es m own)
 
@@ -92,9 +97,6 @@ module _ (es : List Entry) (n : Name) (own : IsOwn es) where
       go true same = absurd (false≢true (ap (is_among m) (sym (ap (needs_in new) (same_name t n same) ∙ here)) ∙ a))
       go false differs = ap (is_among m) (sym (others t differs)) ∙ a
 
-  pub source_keeps_no_cycle : (grid : Grid) → HasNoCycle (nodes_of es) → HasNoCycle (nodes_of (put_entry es n (source grid)))
-  source_keeps_no_cycle grid none = no_cycle_fewer (nodes_of es) (nodes_of (put_entry es n (source grid))) (fewer_by (nodes_of (put_entry es n (source grid))) (put_needs (source grid) tt) (put_needs_other (source grid) tt)) none
-
   pub drop_keeps_no_cycle : HasNoCycle (nodes_of es) → HasNoCycle (nodes_of (drop_entry es n))
   drop_keeps_no_cycle none = no_cycle_fewer (nodes_of es) (nodes_of (drop_entry es n)) (fewer_by (nodes_of (drop_entry es n)) drop_needs drop_needs_other) none
 
@@ -105,3 +107,6 @@ module _ (es : List Entry) (n : Name) (own : IsOwn es) where
       let before = length-nodes_of es own in
       let after = length-nodes_of (put_entry es n d) (own_put es n d own here) in
       no_cycle_changed (nodes_of es) (nodes_of (put_entry es n d)) n (put_needs_other d here) (omega arith) none alone
+
+  pub source_keeps_no_cycle : (grid : Grid) → HasNoCycle (nodes_of es) → HasNoCycle (nodes_of (put_entry es n (source grid)))
+  source_keeps_no_cycle grid none = put_keeps_no_cycle (source grid) tt none (source_alone grid)

@@ -7,3 +7,8 @@ pub mod Order
 pub mod Puts
 pub mod Kept
 pub mod Accepted
+pub mod Agreeing
+pub mod Listed
+pub mod Dropped
+pub mod Evaluating
+pub mod Once

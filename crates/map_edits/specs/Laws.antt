@@ -5,6 +5,7 @@ use Rattle.map_defs.specs.Ops.{Name, Op}
 use Rattle.map_defs.specs.Nodes.{Node}
 use Rattle.map_defs.specs.Depths.{is_looped}
 use Rattle.map_edits.specs.Entries.{Def, source, statement, Entry, find_def, nodes_of}
+use Rattle.map_edits.specs.Edits.{Edit, load, new_layer, paint, define, drop_name}
 
 -- the name is one of these
 abbrev pub is_among : Name → List Name → Bool
@@ -38,3 +39,11 @@ pub record IsWellMade (entries : List Entry) : Type 0 where
   pub none_looped : HasNoCycle (nodes_of entries)
   pub own : IsOwn entries
   pub apart : IsApart entries
+
+-- the name that an edit puts or drops
+abbrev pub edited : Edit → Name
+edited (load n grid) = n
+edited (new_layer n cell) = n
+edited (paint n r cell) = n
+edited (define n written) = n
+edited (drop_name n) = n
