@@ -1,5 +1,5 @@
 -- Names among names.
-use Rattle.std.proofs.Common.{◌≡◌, ℕ, ◌≤◌, max, Bool, true, false, ◌||◌, List, [], ◌∷◌, map, fold, bytes_eq, refl, ap, ◌∙◌, arith}
+use Rattle.std.proofs.Common.{◌≡◌, ℕ, ◌≤◌, max, Bool, true, false, ◌||◌, List, [], ◌∷◌, map, fold, bytes_eq, refl, sym, ap, ◌∙◌, arith}
 use Rattle.std.specs.List.{list_any}
 use Rattle.std.proofs.Math.Nat.{max-le}
 use Rattle.std.proofs.lemmas.Slice.Eq.{bytes_eq-Decides}
@@ -77,3 +77,6 @@ fold_max_agree f g d [] same = refl
 fold_max_agree f g d (x ∷ xs) same =
     let first : f x ≡ g x = same x (or_left (bytes_eq x x) (is_among x xs) (bytes_eq-self x)) in
     ap (λ q. fold (λ a m. max a (f m)) (max d q) xs) first ∙ fold_max_agree f g (max d (g x)) xs (λ m a. same m (or_right (bytes_eq x m) (is_among m xs) a))
+
+pub bytes_eq-turned : (a b : Name) → bytes_eq a b ≡ false → bytes_eq b a ≡ false
+bytes_eq-turned a b h = false_from_ne_true (bytes_eq b a) (λ e. both_ways (bytes_eq a b) h ((bytes_eq-Decides a b).1 (sym (same_name b a e))))

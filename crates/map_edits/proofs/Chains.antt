@@ -11,7 +11,7 @@ use Rattle.map_edits.proofs.Among.{same_name, bytes_eq-self, any_at, any_found, 
 -- ---- what is reached
 
 -- one step more at the end of a path
-reaches_then : (j : ℕ) (nodes : List Node) (n m : Name) → is_among m (needs_in nodes n) ≡ true → (t : Name) → reaches j nodes n t ≡ true → reaches (suc j) nodes m t ≡ true
+pub reaches_then : (j : ℕ) (nodes : List Node) (n m : Name) → is_among m (needs_in nodes n) ≡ true → (t : Name) → reaches j nodes n t ≡ true → reaches (suc j) nodes m t ≡ true
 reaches_then zero nodes n m a t e =
     let here : is_among m (needs_in nodes t) ≡ true = subst (λ q. is_among m (needs_in nodes q) ≡ true) (sym (same_name t n e)) a in
     or_right (bytes_eq t m) (list_any (reaches zero nodes m) (needs_in nodes t)) (any_at (reaches zero nodes m) (needs_in nodes t) m here (bytes_eq-self m))

@@ -4,3 +4,9 @@ pub mod Looks
 pub mod Unfolds
 pub mod Defined
 pub mod Order
+pub mod Puts
+pub mod Kept
+pub mod Accepted
+pub mod Agreeing
+pub mod Listed
+pub mod Dropped

@@ -64,3 +64,22 @@ find_node-name (x ∷ xs) n node e = go (bytes_eq x.name n) refl e (find_node-na
     go : (b : Bool) → bytes_eq x.name n ≡ b → cond b (Some x) (find_node xs n) ≡ Some node → (find_node xs n ≡ Some node → node.name ≡ n) → node.name ≡ n
     go true h e rest = let same : x ≡ node = cc in sym (ap (λ (q : Node). q.name) same) ∙ same_name x.name n h
     go false h e rest = rest e
+
+find_layer-name : (ls : List LayerDef) (n : Name) (l : LayerDef) → find_layer ls n ≡ Some l → l.name ≡ n
+find_layer-name [] n l e = absurd cc
+find_layer-name (x ∷ xs) n l e = go (bytes_eq x.name n) refl e (find_layer-name xs n l)
+  where
+    go : (b : Bool) → bytes_eq x.name n ≡ b → cond b (Some x) (find_layer xs n) ≡ Some l → (find_layer xs n ≡ Some l → l.name ≡ n) → l.name ≡ n
+    go true h e rest = let same : x ≡ l = cc in sym (ap (λ (q : LayerDef). q.name) same) ∙ same_name x.name n h
+    go false h e rest = rest e
+
+abbrev pub made_node : Name → Making → Node
+made_node n making = node_of_layer (record { name = n; making = making })
+
+-- a node by how its layer is made
+pub find_node-making : (ls : List LayerDef) (n : Name) → find_node (map node_of_layer ls) n ≡ option_map (made_node n) (find_making ls n)
+find_node-making ls n = find_node-map ls n ∙ go (find_layer ls n) refl
+  where
+    go : (o : Option LayerDef) → find_layer ls n ≡ o → option_map node_of_layer o ≡ option_map (made_node n) (option_map (λ (l : LayerDef). l.making) o)
+    go None e = refl
+    go (Some l) e = ap (λ q. Some (made_node q l.making)) (find_layer-name ls n l e)
