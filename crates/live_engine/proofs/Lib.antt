@@ -1,1 +1,5 @@
 pub mod Lookups
+pub mod Making
+pub mod Hand
+pub mod Valuing
+pub mod Depths

@@ -1,111 +1,92 @@
 -- What a name stands for among a map's names, and after one of them was put or dropped.
-use Rattle.std.proofs.Common.{◌≡◌, ℕ, Bool, true, false, cond, not, List, [], ◌∷◌, find, Option, Some, None, option_map, bytes_eq, refl, sym, ap, ◌∙◌}
-use Rattle.std.specs.HashMap.{HashMap}
-use Rattle.std.specs.Map.{lookup}
+use Rattle.std.proofs.Common.{◌≡◌, ℕ, Bool, true, false, cond, List, [], ◌∷◌, find, Option, Some, None, option_map, option_copied, bytes_eq, refl, sym, ap, subst, ◌∙◌, Bor}
+use Rattle.std.specs.Map.{lookup, keys_of}
+use Rattle.std.specs.List.{All, AllByRecursion, IsDistinct}
 use Rattle.std.proofs.lemmas.Bool.{both_ways, false_from_ne_true}
-use Rattle.std.proofs.lemmas.Slice.Eq.{bytes_eq-Decides}
+use Rattle.std.proofs.lemmas.List.Elements.{All-head, All-tail}
+use Rattle.std.proofs.lemmas.Option.{none-some, same_Some}
+use Rattle.map_nums.specs.Grids.{Size}
 use Rattle.map_defs.specs.Ops.{Name}
 use Rattle.map_edits.specs.Entries.{Def, Entry, find_def, put_entry, drop_entry}
+use Rattle.map_edits.specs.Laws.{IsApart}
+use Rattle.map_edits.proofs.Among.{same_name, bytes_eq-self}
+use Rattle.map_edits.proofs.Puts.{find_put, find_put_other, find_drop, find_drop_other}
 use Rattle.live_engine.specs.Held.{def_of, entry_of, entries_of}
+use Rattle.live_engine.specs.Engines.{IsItem, IsHeld}
 use Rattle.live_engine.specs.declared.held.Item.{Item}
 
-pub same_name : (a b : Name) → bytes_eq a b ≡ true → a ≡ b
-same_name a b h = (bytes_eq-Decides a b).0 h
+turned : (a b : Name) → bytes_eq a b ≡ true → bytes_eq b a ≡ true
+turned a b h = ap (bytes_eq b) (same_name a b h) ∙ bytes_eq-self b
 
-pub bytes_eq-self : (a : Name) → bytes_eq a a ≡ true
-bytes_eq-self a = (bytes_eq-Decides a a).1 refl
+pub turned_not : (a b : Name) → bytes_eq a b ≡ false → bytes_eq b a ≡ false
+turned_not a b h = false_from_ne_true (bytes_eq b a) (λ e. both_ways (bytes_eq a b) h (turned b a e))
 
-pub turned : (a b : Name) → bytes_eq a b ≡ true → bytes_eq b a ≡ true
-turned a b h = (bytes_eq-Decides b a).1 (sym (same_name a b h))
-
-pub bytes_eq-turned : (a b : Name) → bytes_eq a b ≡ bytes_eq b a
-bytes_eq-turned a b = go (bytes_eq a b) refl
+same_both_ways : (a b : Name) → bytes_eq a b ≡ bytes_eq b a
+same_both_ways a b = go (bytes_eq a b) refl
   where
     go : (x : Bool) → bytes_eq a b ≡ x → x ≡ bytes_eq b a
     go true h = sym (turned a b h)
-    go false h = sym (false_from_ne_true (bytes_eq b a) (λ e. both_ways (bytes_eq a b) h (turned b a e)))
+    go false h = sym (turned_not a b h)
 
--- another than the first is no other than the second
-pub apart : (a b c : Name) → bytes_eq a b ≡ false → bytes_eq a c ≡ true → bytes_eq b c ≡ false
-apart a b c h same = false_from_ne_true (bytes_eq b c) (λ e. both_ways (bytes_eq a b) h ((bytes_eq-Decides a b).1 (same_name a c same ∙ sym (same_name b c e))))
+-- ---- the names before
 
-abbrev pub in_entries : List Entry → Name → Option Entry
-in_entries es n = find (λ (e : Entry). bytes_eq e.name n) es
+abbrev pub find_entry : List Entry → Name → Option Entry
+find_entry es n = find (λ (e : Entry). bytes_eq e.name n) es
 
 abbrev pub its_def : Option Entry → Option Def
 its_def o = option_map (λ (e : Entry). e.def) o
 
--- ---- the names before
-
-pub held_def : (items : List (List ℕ × Item)) (n : Name) → find_def (entries_of items) n ≡ option_map (def_of n) (lookup (bytes_eq n) items)
+held_def : (items : List (List ℕ × Item)) (n : Name) → find_def (entries_of items) n ≡ option_map (def_of n) (lookup (bytes_eq n) items)
 held_def [] n = refl
 held_def (e ∷ es) n =
-    ap (λ b. its_def (cond b (Some (entry_of e)) (in_entries (entries_of es) n))) (bytes_eq-turned e.0 n)
+    ap (λ b. its_def (cond b (Some (entry_of e)) (find_entry (entries_of es) n))) (same_both_ways e.0 n)
     ∙ go (bytes_eq n e.0) refl (held_def es n)
   where
     go : (b : Bool) → bytes_eq n e.0 ≡ b → find_def (entries_of es) n ≡ option_map (def_of n) (lookup (bytes_eq n) es)
-        → its_def (cond b (Some (entry_of e)) (in_entries (entries_of es) n)) ≡ option_map (def_of n) (cond b (Some e.1) (lookup (bytes_eq n) es))
+        → its_def (cond b (Some (entry_of e)) (find_entry (entries_of es) n)) ≡ option_map (def_of n) (cond b (Some e.1) (lookup (bytes_eq n) es))
     go true h rest = ap (λ m. Some (def_of m e.1)) (sym (same_name n e.0 h))
     go false h rest = rest
 
--- ---- a name is put
+pub held_none : (items : List (List ℕ × Item)) (n : Name) (o : Option (Bor Item)) → option_copied o ≡ lookup (bytes_eq n) items → o ≡ None → find_def (entries_of items) n ≡ None
+held_none items n o got none = held_def items n ∙ ap (option_map (def_of n)) (sym got ∙ ap option_copied none)
 
-alone_def : (n m : Name) (d : Def) (b : Bool) → its_def (cond b (Some (record { name = n; def = d })) None) ≡ cond b (Some d) None
-alone_def n m d true = refl
-alone_def n m d false = refl
+pub held_some : (items : List (List ℕ × Item)) (n : Name) (o : Option (Bor Item)) (b : Bor Item) (item : Item) → option_copied o ≡ lookup (bytes_eq n) items → o ≡ Some b → b.now ≡ item
+    → find_def (entries_of items) n ≡ Some (def_of n item)
+held_some items n o b item got some is = held_def items n ∙ ap (option_map (def_of n)) (sym got ∙ ap option_copied some) ∙ ap (λ i. Some (def_of n i)) is
 
-here_def : (e : Entry) (es : List Entry) (m : Name) (d : Def) (b : Bool) → its_def (cond b (Some (record e { def = d })) (in_entries es m)) ≡ cond b (Some d) (its_def (cond b (Some e) (in_entries es m)))
-here_def e es m d true = refl
-here_def e es m d false = refl
-
-pub put_def : (es : List Entry) (n m : Name) (d : Def) → find_def (put_entry es n d) m ≡ cond (bytes_eq n m) (Some d) (find_def es m)
-put_def [] n m d = alone_def n m d (bytes_eq n m)
-put_def (e ∷ es) n m d = go (bytes_eq e.name n) refl (put_def es n m d)
+looked_up : (size : Size) (items : List (List ℕ × Item)) (n : Name) (item : Item) → All (IsHeld size) items → lookup (bytes_eq n) items ≡ Some item → IsItem size item
+looked_up size [] n item all e = absurd (none-some item e)
+looked_up size (x ∷ xs) n item all e = go (bytes_eq n x.0) e (looked_up size xs n item (All-tail (IsHeld size) x xs all))
   where
-    past : (b : Bool) → bytes_eq e.name m ≡ b → bytes_eq e.name n ≡ false → find_def (put_entry es n d) m ≡ cond (bytes_eq n m) (Some d) (find_def es m)
-        → its_def (cond b (Some e) (in_entries (put_entry es n d) m)) ≡ cond (bytes_eq n m) (Some d) (its_def (cond b (Some e) (in_entries es m)))
-    past true same h rest = let other = apart e.name n m h same in rw other refl
-    past false same h rest = rest
+    go : (b : Bool) → cond b (Some x.1) (lookup (bytes_eq n) xs) ≡ Some item → (lookup (bytes_eq n) xs ≡ Some item → IsItem size item) → IsItem size item
+    go true e rest = subst (IsItem size) (same_Some x.1 item e) (All-head (IsHeld size) x xs all).1
+    go false e rest = rest e
 
-    go : (b : Bool) → bytes_eq e.name n ≡ b → find_def (put_entry es n d) m ≡ cond (bytes_eq n m) (Some d) (find_def es m)
-        → find_def (cond b (record e { def = d } ∷ es) (e ∷ put_entry es n d)) m ≡ cond (bytes_eq n m) (Some d) (find_def (e ∷ es) m)
-    go true h rest =
-        here_def e es m d (bytes_eq e.name m)
-        ∙ ap (λ q. cond (bytes_eq q m) (Some d) (find_def (e ∷ es) m)) (same_name e.name n h)
-    go false h rest = past (bytes_eq e.name m) refl h rest
+pub held_item : (size : Size) (items : List (List ℕ × Item)) (n : Name) (o : Option (Bor Item)) (b : Bor Item) (item : Item) → All (IsHeld size) items
+    → option_copied o ≡ lookup (bytes_eq n) items → o ≡ Some b → b.now ≡ item → IsItem size item
+held_item size items n o b item all got some is = looked_up size items n item all (sym got ∙ ap option_copied some ∙ ap (λ i. Some i) is)
+
+-- ---- a name is put or dropped
 
 pub put_here : (es : List Entry) (n m : Name) (d : Def) → bytes_eq n m ≡ true → find_def (put_entry es n d) m ≡ Some d
-put_here es n m d h = put_def es n m d ∙ ap (λ b. cond b (Some d) (find_def es m)) h
+put_here es n m d h = ap (find_def (put_entry es n d)) (sym (same_name n m h)) ∙ find_put es n d
 
 pub put_past : (es : List Entry) (n m : Name) (d : Def) → bytes_eq n m ≡ false → find_def (put_entry es n d) m ≡ find_def es m
-put_past es n m d h = put_def es n m d ∙ ap (λ b. cond b (Some d) (find_def es m)) h
-
--- ---- a name is dropped
-
-pub drop_def : (es : List Entry) (n m : Name) → find_def (drop_entry es n) m ≡ cond (bytes_eq n m) None (find_def es m)
-drop_def [] n m = nothing (bytes_eq n m)
-  where
-    nothing : (b : Bool) → ◌≡◌ {A = Option Def} None (cond b None None)
-    nothing true = refl
-    nothing false = refl
-drop_def (e ∷ es) n m = go (bytes_eq e.name n) refl (drop_def es n m)
-  where
-    past : (b : Bool) → bytes_eq e.name m ≡ b → bytes_eq e.name n ≡ false → find_def (drop_entry es n) m ≡ cond (bytes_eq n m) None (find_def es m)
-        → its_def (cond b (Some e) (in_entries (drop_entry es n) m)) ≡ cond (bytes_eq n m) None (its_def (cond b (Some e) (in_entries es m)))
-    past true same h rest = let other = apart e.name n m h same in rw other refl
-    past false same h rest = rest
-
-    gone : (b : Bool) → bytes_eq n m ≡ b → bytes_eq e.name n ≡ true → cond b None (find_def es m) ≡ cond b None (find_def (e ∷ es) m)
-    gone true same h = refl
-    gone false same h = let other : bytes_eq e.name m ≡ false = ap (λ q. bytes_eq q m) (same_name e.name n h) ∙ same in rw other refl
-
-    go : (b : Bool) → bytes_eq e.name n ≡ b → find_def (drop_entry es n) m ≡ cond (bytes_eq n m) None (find_def es m)
-        → find_def (cond (not b) (e ∷ drop_entry es n) (drop_entry es n)) m ≡ cond (bytes_eq n m) None (find_def (e ∷ es) m)
-    go true h rest = rest ∙ gone (bytes_eq n m) refl h
-    go false h rest = past (bytes_eq e.name m) refl h rest
+put_past es n m d h = find_put_other es n d m (turned_not n m h)
 
 pub drop_here : (es : List Entry) (n m : Name) → bytes_eq n m ≡ true → find_def (drop_entry es n) m ≡ None
-drop_here es n m h = drop_def es n m ∙ ap (λ b. cond b None (find_def es m)) h
+drop_here es n m h = ap (find_def (drop_entry es n)) (sym (same_name n m h)) ∙ find_drop es n
 
 pub drop_past : (es : List Entry) (n m : Name) → bytes_eq n m ≡ false → find_def (drop_entry es n) m ≡ find_def es m
-drop_past es n m h = drop_def es n m ∙ ap (λ b. cond b None (find_def es m)) h
+drop_past es n m h = find_drop_other es n m (turned_not n m h)
+
+-- ---- no name stands twice
+
+lookup_none : (k : Name) (items : List (List ℕ × Item)) → AllByRecursion (λ y. bytes_eq k y ≡ false) (keys_of items) → lookup (bytes_eq k) items ≡ None
+lookup_none k [] all = refl
+lookup_none k (e ∷ es) all = ap (λ b. cond b (Some e.1) (lookup (bytes_eq k) es)) all.0 ∙ lookup_none k es all.1
+
+pub apart_items : (items : List (List ℕ × Item)) → IsDistinct bytes_eq (keys_of items) → IsApart (entries_of items)
+unfolding IsDistinct
+apart_items [] distinct = tt
+apart_items (e ∷ es) distinct = (held_def es e.0 ∙ ap (option_map (def_of e.0)) (lookup_none e.0 es distinct.0), apart_items es distinct.1)
