@@ -1,13 +1,14 @@
 -- Operands, where the grids that they need are at hand.
-use Rattle.std.proofs.Common.{◌≡◌, ℕ, zero, suc, ◌+◌, ◌<◌, ◌≤◌, Bool, true, false, cond, List, [], ◌∷◌, ◌++◌, map, find, take, length, slice_get, Option, Some, None, option_map, is_some, bytes_eq, refl, sym, ap, subst, ◌∙◌, arith}
+use Rattle.std.proofs.Common.{◌≡◌, ℕ, zero, suc, ◌+◌, ◌<◌, ◌≤◌, Bool, true, false, cond, List, [], ◌∷◌, ◌++◌, map, find, take, length, slice_get, Option, Some, None, option_map, is_some, bytes_eq, refl, sym, ap, subst, ◌∙◌, arith, ◌⊎◌, inl, inr, Bor, get_or, pos}
 use Rattle.std.specs.List.{All}
-use Rattle.std.proofs.lemmas.Bool.{false≢true}
+use Rattle.std.proofs.lemmas.Bool.{false≢true, true≢false, cases_lt}
 use Rattle.std.proofs.lemmas.List.{take_all, take_more, map_push, length_push}
 use Rattle.std.proofs.lemmas.List.Elements.{All-head, All-tail, All-push}
-use Rattle.std.proofs.lemmas.Option.{none-some, same_Some, slice_get_within, get_or_from_slice_get}
+use Rattle.std.proofs.lemmas.Option.{none-some, same_Some, slice_get_within, get_or_from_slice_get, slice_get-get_or}
 use Rattle.map_nums.specs.Grids.{Size, Cells, Grid}
 use Rattle.map_defs.specs.Ops as ops
 use Rattle.map_defs.specs.Ops.{Name}
+use Rattle.map_defs.specs.Operate.{operate}
 use Rattle.statement_parser.specs.Formed.{Each, IsTerm, IsOp}
 use Rattle.statement_parser.specs.Lines.{Term, layer, value, Op, local, difference, ratio, rating, terms_of}
 use Rattle.statement_parser.specs.ToOps.{to_term, to_op}
@@ -17,8 +18,8 @@ use Rattle.statement_parser.specs.declared.op.Term.TheVariants as a_term
 use Rattle.layer_tiles.specs.Changes.{ChangeState}
 use Rattle.layer_tiles.specs.Layers.{LayerState}
 use Rattle.local_ops.specs.Operands.{cells_after}
-use Rattle.map_edits.specs.Entries.{given_grid, by_op, layers, find_making}
-use Rattle.map_edits.specs.EngineStates.{EngineState, all_some, term_cells}
+use Rattle.map_edits.specs.Entries.{Making, Entry, given_grid, by_op, layers, find_making}
+use Rattle.map_edits.specs.EngineStates.{EngineState, all_some, made, term_cells}
 use Rattle.live_engine.specs.Held.{grid_of}
 use Rattle.live_engine.specs.Values.{IsOfStamp, kept, at_hand}
 use Rattle.live_engine.specs.declared.values.Valued.{Valued}
@@ -148,3 +149,32 @@ pub operands_all : (size : Size) (f : Name → Option Grid) (o : Op) (k : ℕ) (
 operands_all size f o k changes so_far long =
     ap all_some (operands_same size f o ∙ ap (map (operand_cells size f)) (sym (take_all k (terms_of o) long)) ∙ so_far.cells)
     ∙ all_some-map (cells_after changes)
+
+-- past the last term
+pub past_terms : (o : Op) (k : ℕ) (r : Option (Bor given.Term)) → option_map (λ t. term_view t.now) r ≡ slice_get (terms_of o) k → ((t : Bor given.Term) → r ≡ Some t → ⊥) → length (terms_of o) ≤ k
+past_terms o k r got none = go (cases_lt k (length (terms_of o)))
+  where
+    no_term : (r : Option (Bor given.Term)) → ((t : Bor given.Term) → r ≡ Some t → ⊥) → option_map (λ t. term_view t.now) r ≡ None
+    no_term None e = refl
+    no_term (Some t) e = absurd (e t refl)
+
+    go : (k < length (terms_of o)) ⊎ (length (terms_of o) ≤ k) → length (terms_of o) ≤ k
+    go (inl h) =
+        let there : slice_get (terms_of o) k ≡ Some (get_or (terms_of o) k (value (pos 0))) = slice_get-get_or (terms_of o) k (value (pos 0)) h in
+        absurd (none-some _ (sym (no_term r none) ∙ got ∙ there))
+    go (inr h) = h
+
+-- ---- a statement
+
+pub never_made : (es : List Entry) (n : Name) (op : ops.Op) → find_making (layers es) n ≡ Some (by_op op) → find_making (layers es) n ≡ None → ⊥
+never_made es n op e none = none-some (by_op op) (sym none ∙ e)
+
+pub never_given : (es : List Entry) (n : Name) (op : ops.Op) (grid : Grid) → find_making (layers es) n ≡ Some (by_op op) → find_making (layers es) n ≡ Some (given_grid grid) → ⊥
+never_given es n op grid e is = let both : Some (given_grid grid) ≡ Some (by_op op) = sym is ∙ e in absurd cc
+
+pub operands_there : (size : Size) (f : Name → Option Grid) (m : Option Making) (op : ops.Op) → m ≡ Some (by_op op) → is_some (made size f m) ≡ true → is_some (all_some (map (term_cells size f) (ops.terms_of op))) ≡ true
+operands_there size f m op is there = go (all_some (map (term_cells size f) (ops.terms_of op))) (ap (λ x. is_some (made size f x)) (sym is) ∙ there)
+  where
+    go : (cells : Option (List Cells)) → is_some (option_map (operate size op) cells) ≡ true → is_some cells ≡ true
+    go None h = h
+    go (Some cs) h = refl

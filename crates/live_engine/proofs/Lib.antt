@@ -3,3 +3,4 @@ pub mod Making
 pub mod Hand
 pub mod Valuing
 pub mod Depths
+pub mod Steps

@@ -10,10 +10,8 @@ use Rattle.map_defs.specs.Ops.{Name}
 use Rattle.map_defs.specs.Expansion.{expansion_of}
 use Rattle.statement_parser.specs.Lines.{Op, Written, plain}
 use Rattle.statement_parser.specs.ToOps.{to_op}
-use Rattle.statement_parser.specs.Views.{op_view, written_view}
-use Rattle.statement_parser.specs.declared.op.Op as given
+use Rattle.statement_parser.specs.Views.{written_view}
 use Rattle.statement_parser.specs.declared.line.Written as writtens
-use Rattle.statement_parser.specs.declared.line.Written.TheVariants as a_written
 use Rattle.layer_tiles.specs.Changes.{ChangeState}
 use Rattle.map_edits.specs.Entries.{Def, source, statement, Entry, find_def, put_entry, drop_entry, given_grid, by_op, layers, find_making}
 use Rattle.map_edits.specs.Laws.{IsOwnDef, IsOwn, IsApart}
@@ -95,7 +93,7 @@ own_def : (n : Name) (d : Def) → IsLinedDef n d → IsOwnDef n d
 own_def n (source grid) lined = tt
 own_def n (statement w flats) lined = own_written n w flats lined
 
-own_lined : (es : List Entry) → AreLined es → IsOwn es
+pub own_lined : (es : List Entry) → AreLined es → IsOwn es
 own_lined [] lined = tt
 own_lined (e ∷ es) lined = (own_def e.name e.def lined.0, own_lined es lined.1)
 
@@ -142,14 +140,14 @@ module _ (es : List Entry) (n : Name) (o : Option Found) (own : IsOwn es) (def :
   pub making_source : (change : ChangeState) → o ≡ Some (Source change) → find_making (layers es) n ≡ Some (given_grid (record { size = change.size; cells = change.cells }))
   making_source change is = making_found (Some (Source change)) is
 
-  pub making_plain : (b : Bor writtens.Written) (op : given.Op) → o ≡ Some (Statement b) → b.now ≡ a_written.Plain op → find_making (layers es) n ≡ Some (by_op (to_op (op_view op)))
+  pub making_plain : (b : Bor writtens.Written) (op : Op) → o ≡ Some (Statement b) → written_view b.now ≡ plain op → find_making (layers es) n ≡ Some (by_op (to_op op))
   making_plain b op is plain_is =
       making_found (Some (Statement b)) is
-      ∙ ap (λ w. def_making (Some (statement (written_view w) (flats_of n (written_view w))))) plain_is
-      ∙ ap (λ fs. def_making (Some (statement (plain (op_view op)) fs))) (flats_plain n (op_view op))
+      ∙ ap (λ w. def_making (Some (statement w (flats_of n w)))) plain_is
+      ∙ ap (λ fs. def_making (Some (statement (plain op) fs))) (flats_plain n op)
 
   pub making_statement : (b : Bor writtens.Written) → o ≡ Some (Statement b) → (op : ops.Op) × (find_making (layers es) n ≡ Some (by_op op))
-  making_statement b is = go b.now refl
+  making_statement b is = go (written_view b.now) refl
     where
-      go : (w : writtens.Written) → b.now ≡ w → (op : ops.Op) × (find_making (layers es) n ≡ Some (by_op op))
-      go (a_written.Plain op) e = (to_op (op_view op), making_plain b op is e)
+      go : (w : Written) → written_view b.now ≡ w → (op : ops.Op) × (find_making (layers es) n ≡ Some (by_op op))
+      go (plain op) e = (to_op op, making_plain b op is e)

@@ -6,9 +6,9 @@ ghost use Rattle.map_nums.specs.Grids.{cells_in};
 ghost use Rattle.map_defs.specs.Ops as ops;
 ghost use Rattle.statement_graph.specs.Groups.{nodes_in};
 ghost use Rattle.statement_parser.specs.Formed.{IsOp, IsTerm};
-ghost use Rattle.statement_parser.specs.Lines.{terms_of};
+ghost use Rattle.statement_parser.specs.Lines.{plain, terms_of};
 ghost use Rattle.statement_parser.specs.ToOps.{to_op, to_term};
-ghost use Rattle.statement_parser.specs.Views.{op_view, term_view};
+ghost use Rattle.statement_parser.specs.Views.{op_view, term_view, written_view};
 ghost use Rattle.local_ops.specs.Operands.{cells_after};
 ghost use Rattle.map_edits.specs.Entries.{by_op, find_making, layers, nodes_of};
 ghost use Rattle.map_edits.specs.EngineStates.{all_some, made, term_cells};
@@ -61,13 +61,14 @@ pub(crate) fn evaluate_all<M: Tally>(
     let mut values = Vec::new(alloc);
     let mut k = 0;
     while let Some(node) = graph.node(k) {
-        if graph.missing(&node.name).is_none() {
-            let valued = evaluate_one(alloc, scene, &values, &node.name, stamp, tally)?;
-            let Ok(()) = values.push(valued) else {
-                return Err(Halt::NoMemory);
-            };
-        }
         k += 1;
+        if graph.missing(&node.name).is_some() {
+            continue;
+        }
+        let valued = evaluate_one(alloc, scene, &values, &node.name, stamp, tally)?;
+        let Ok(()) = values.push(valued) else {
+            return Err(Halt::NoMemory);
+        };
     }
     Ok(values)
 }
@@ -90,18 +91,51 @@ fn evaluate_one<M: Tally>(
     ensures parts { KeepsParts (M.counts tally.old) (M.counts tally.new) }
 {
     match scene.find(name) {
-        Some(Found::Statement(Written::Plain(op))) => {
-            let operands = operands_of(scene, values, stamp, op);
-            match evaluate(alloc, op, &operands, scene.extent, stamp, tally) {
-                Ok(layer) => match name.copy(alloc) {
-                    Ok(name) => Ok(Valued { name, layer }),
-                    Err(_) => Err(Halt::NoMemory),
-                },
-                Err(KernelRefusal::Overflow(at)) => Err(overflow(alloc, scene.extent, name, at)),
-                Err(KernelRefusal::NoMemory) => Err(Halt::NoMemory),
-            }
+        None => unreachable!(),
+        Some(Found::Source(_)) => unreachable!(),
+        Some(Found::Statement(written)) => {
+            let op = plain_op(written);
+            evaluate_op(alloc, scene, values, name, op, stamp, tally)
         }
-        _ => unreachable!(),
+    }
+}
+
+/// The operation that a statement is.
+fn plain_op(written: &Written) -> &Op
+    ensures { written_view written.now ≡ plain (op_view result.now) }
+{
+    match written {
+        Written::Plain(op) => op,
+    }
+}
+
+/// Evaluates the operation of a statement.
+fn evaluate_op<M: Tally>(
+    alloc: Global,
+    scene: &Scene<'_>,
+    values: &[Valued],
+    name: &Name,
+    op: &Op,
+    stamp: u64,
+    tally: &mut M,
+) -> Result<Valued, Halt>
+    requires scene { IsScene scene.now }
+    requires stamped { All (IsOfStamp scene.now.extent stamp) values.now }
+    requires statement { find_making (layers (after_scene scene.now)) name.now ≡ Some (by_op (to_op (op_view op.now))) }
+    requires formed { IsOp (op_view op.now) }
+    requires there { IsSome (all_some (map (term_cells scene.now.extent (at_hand (state_of scene.now) values.now)) (ops.terms_of (to_op (op_view op.now))))) }
+    ensures value { IsValued scene.now.extent name.now (made scene.now.extent (at_hand (state_of scene.now) values.now) (find_making (layers (after_scene scene.now)) name.now)) result }
+    ensures stamped { IfOk result (IsOfStamp scene.now.extent stamp) }
+    ensures parts { KeepsParts (M.counts tally.old) (M.counts tally.new) }
+{
+    let operands = operands_of(scene, values, stamp, op);
+    match evaluate(alloc, op, &operands, scene.extent, stamp, tally) {
+        Ok(layer) => match name.copy(alloc) {
+            Ok(name) => Ok(Valued { name, layer }),
+            Err(_) => Err(Halt::NoMemory),
+        },
+        Err(KernelRefusal::Overflow(at)) => Err(overflow(alloc, scene.extent, name, at)),
+        Err(KernelRefusal::NoMemory) => Err(Halt::NoMemory),
     }
 }
 
