@@ -1,5 +1,5 @@
 -- The list by depth: no longer than the nodes, and cut at one of them.
-use Rattle.std.proofs.Common.{◌≡◌, ℕ, zero, suc, ◌+◌, ◌<◌, ◌≤◌, Bool, true, false, cond, leb, eqb, ◌&&◌, ◌==◌, List, [], ◌∷◌, ◌++◌, filter, flat_map, take, drop, length, slice_get, Option, Some, None, is_some, refl, sym, ap, ◌∙◌, arith, add-one}
+use Rattle.std.proofs.Common.{◌≡◌, ℕ, zero, suc, ◌+◌, ◌≤◌, Bool, true, false, cond, leb, ◌&&◌, ◌==◌, List, [], ◌∷◌, ◌++◌, filter, flat_map, take, drop, length, slice_get, Some, is_some, refl, ap, arith, add-one}
 use Rattle.std.specs.List.{range_with_len}
 use Rattle.std.proofs.lemmas.Bool.{and_parts, eqb-true, lt-leb, le-leb, leb-true}
 use Rattle.std.proofs.lemmas.List.{length-append}

@@ -1,7 +1,7 @@
 -- Operands, where the grids that they need are at hand.
 use Rattle.std.proofs.Common.{◌≡◌, ℕ, zero, suc, ◌+◌, ◌<◌, ◌≤◌, Bool, true, false, cond, List, [], ◌∷◌, ◌++◌, map, find, take, length, slice_get, Option, Some, None, option_map, is_some, bytes_eq, refl, sym, ap, subst, ◌∙◌, arith, ◌⊎◌, inl, inr, Bor, get_or, pos}
 use Rattle.std.specs.List.{All}
-use Rattle.std.proofs.lemmas.Bool.{false≢true, true≢false, cases_lt}
+use Rattle.std.proofs.lemmas.Bool.{false≢true, cases_lt}
 use Rattle.std.proofs.lemmas.List.{take_all, take_more, map_push, length_push}
 use Rattle.std.proofs.lemmas.List.Elements.{All-head, All-tail, All-push}
 use Rattle.std.proofs.lemmas.Option.{none-some, same_Some, slice_get_within, get_or_from_slice_get, slice_get-get_or}
@@ -10,7 +10,7 @@ use Rattle.map_defs.specs.Ops as ops
 use Rattle.map_defs.specs.Ops.{Name}
 use Rattle.map_defs.specs.Operate.{operate}
 use Rattle.statement_parser.specs.Formed.{Each, IsTerm, IsOp}
-use Rattle.statement_parser.specs.Lines.{Term, layer, value, Op, local, difference, ratio, rating, terms_of}
+use Rattle.statement_parser.specs.Lines.{Term, value, Op, local, difference, ratio, rating, terms_of}
 use Rattle.statement_parser.specs.ToOps.{to_term, to_op}
 use Rattle.statement_parser.specs.Views.{term_view}
 use Rattle.statement_parser.specs.declared.op.Term as given

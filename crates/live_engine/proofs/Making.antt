@@ -1,10 +1,9 @@
 -- Each statement of a scene is one flat statement of its own name, and no name stands twice.
-use Rattle.std.proofs.Common.{◌≡◌, ℕ, Bool, true, false, cond, not, List, [], ◌∷◌, find, Option, Some, None, option_map, bytes_eq, refl, sym, ap, subst, ◌∙◌, Bor}
+use Rattle.std.proofs.Common.{◌≡◌, ℕ, Bool, true, false, cond, not, List, [], ◌∷◌, Option, Some, None, option_map, bytes_eq, refl, sym, ap, subst, ◌∙◌, Bor}
 use Rattle.std.specs.Bool.{⊤}
 use Rattle.std.specs.Map.{keys_of}
 use Rattle.std.specs.List.{IsDistinct}
 use Rattle.std.proofs.lemmas.Option.{none-some, same_Some}
-use Rattle.map_nums.specs.Grids.{Grid}
 use Rattle.map_defs.specs.Ops as ops
 use Rattle.map_defs.specs.Ops.{Name}
 use Rattle.map_defs.specs.Expansion.{expansion_of}

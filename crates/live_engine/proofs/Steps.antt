@@ -1,16 +1,16 @@
 -- The loop over the statements by depth: what is kept after the first of them.
-use Rattle.std.proofs.Common.{◌≡◌, ℕ, suc, ◌+◌, ◌≤◌, Bool, true, false, cond, not, ◌&&◌, ◌||◌, nat_lt, List, [], ◌∷◌, ◌++◌, map, find, take, drop, length, slice_get, Option, Some, None, Result, Ok, Err, option_map, is_some, bytes_eq, ◌⊎◌, refl, sym, ap, subst, ◌∙◌, arith, inl, inr, Bor, get_or, option_copied, ◌<◌, if◌then◌else◌}
-use Rattle.std.specs.List.{All, list_any, IsDistinct}
+use Rattle.std.proofs.Common.{◌≡◌, ℕ, suc, ◌+◌, ◌≤◌, Bool, true, false, cond, not, ◌&&◌, ◌||◌, nat_lt, List, [], ◌∷◌, ◌++◌, map, find, take, drop, length, slice_get, Option, Some, None, Ok, Err, option_map, is_some, bytes_eq, ◌⊎◌, refl, sym, ap, subst, ◌∙◌, arith, inl, inr, Bor, get_or, option_copied, ◌<◌, ◌^◌, if◌then◌else◌}
+use Rattle.std.specs.List.{All, IsDistinct}
 use Rattle.std.specs.Map.{keys_of}
-use Rattle.std.proofs.lemmas.Bool.{false≢true, or_cases, or_left, or_right, cases_lt}
+use Rattle.std.proofs.lemmas.Bool.{false≢true, or_cases, cases_lt}
 use Rattle.std.proofs.lemmas.List.{take_all, map-append}
 use Rattle.std.proofs.lemmas.List.Elements.{All-push, All-nil}
 use Rattle.std.proofs.lemmas.List.Folds.{list_any-append}
-use Rattle.std.proofs.lemmas.Option.{none-some, same_Some, slice_get-get_or}
-use Rattle.map_nums.specs.Grids.{Size, Cells, Grid}
+use Rattle.std.proofs.lemmas.Option.{none-some, same_Some, slice_get-get_or, slice_get_within}
+use Rattle.map_nums.specs.Grids.{Size, Grid}
 use Rattle.map_defs.specs.Ops as ops
 use Rattle.map_defs.specs.Ops.{Name, needs_of}
-use Rattle.map_defs.specs.Nodes.{Node, find_node, needs_in, lacks, missing}
+use Rattle.map_defs.specs.Nodes.{Node, lacks, missing}
 use Rattle.map_defs.specs.Depths.{by_depth}
 use Rattle.map_defs.specs.Sight.{most_viewers}
 use Rattle.statement_parser.specs.Lines.{Op, local, difference, ratio, rating}
@@ -19,7 +19,7 @@ use Rattle.map_edits.specs.Entries.{Entry, Making, given_grid, by_op, layers, fi
 use Rattle.map_edits.specs.EngineStates.{EngineState, made, value_of}
 use Rattle.map_edits.specs.Faults.{Fault, too_many_viewers, overflow, viewers_of, wide_place, overflow_at, fault_of_layer, first_fault, fault_of}
 use Rattle.map_edits.specs.Laws.{is_among, is_named_in, HasNoCycle, IsApart}
-use Rattle.map_edits.proofs.Among.{same_name, bytes_eq-self}
+use Rattle.map_edits.proofs.Among.{same_name}
 use Rattle.map_edits.proofs.Looks.{making_needs, needs_in-layers, made_node, find_node-making}
 use Rattle.map_edits.proofs.Unfolds.{made_agree, value_unfolds}
 use Rattle.map_edits.proofs.Defined.{value_is_defined}
@@ -35,7 +35,7 @@ use Rattle.live_engine.specs.declared.values.Halt.{Halt}
 use Rattle.live_engine.specs.declared.values.Halt.TheVariants.{Overflow, NoMemory}
 use Rattle.live_engine.specs.declared.values.Valued.{Valued}
 use Rattle.live_engine.proofs.Hand.{hand_none, hand_source, hand_kept}
-use Rattle.live_engine.proofs.Depths.{cut_at, taken_to}
+use Rattle.live_engine.proofs.Depths.{cut_at, taken_to, few_by_depth}
 use Rattle.live_engine.proofs.Making.{AreLined, lined_scene, own_lined, apart_scene, line_op}
 
 -- ---- what is kept, after one layer more
@@ -311,3 +311,19 @@ module _ (s : EngineState) (stamp : ℕ) (settled : IsSettled s.entries) (k : �
     pub all_done : AreValues s values × (fault_of s ≡ None)
     unfolding fault_of
     all_done = (all_kept, ap (λ ns. first_fault (faults_in s ns)) (sym (take_all k (by_depth nodes) long)) ∙ up.faultless)
+
+-- what the graph tells that a name lacks
+pub lacks_as_told : (ns nodes : List Node) (n : Name) (r : Option (Bor Name)) → option_copied r ≡ missing ns n → ns ≡ nodes → is_some (missing nodes n) ≡ is_some r
+lacks_as_told ns nodes n r got same = ap (λ q. is_some (missing q n)) (sym same) ∙ ap is_some (sym got) ∙ copied r
+  where
+    copied : (r : Option (Bor Name)) → is_some (option_copied r) ≡ is_some r
+    copied None = refl
+    copied (Some b) = refl
+
+-- there are fewer than a number of 32 bits counts
+pub counts_on : (ns nodes : List Node) (k : ℕ) (node : Node) → slice_get (by_depth nodes) k ≡ Some node → ns ≡ nodes → length ns < 2 ^ 32 → k + 1 < 2 ^ 32
+counts_on ns nodes k node here same few =
+    let within = slice_get_within (by_depth nodes) k node here in
+    let most = few_by_depth nodes in
+    let alike = ap length same in
+    omega arith

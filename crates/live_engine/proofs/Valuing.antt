@@ -1,5 +1,5 @@
 -- One statement's layer, by what its operation was evaluated to.
-use Rattle.std.proofs.Common.{◌≡◌, ℕ, List, map, Option, Some, None, Result, Ok, Err, option_map, refl, sym, ap, ◌∙◌}
+use Rattle.std.proofs.Common.{◌≡◌, ℕ, List, map, Option, Some, Ok, Err, option_map, refl, sym, ap, ◌∙◌}
 use Rattle.std.specs.List.{position}
 use Rattle.map_nums.specs.Grids.{Size, Cells, Grid}
 use Rattle.map_nums.specs.Answers.{is_wide}

@@ -1,5 +1,5 @@
 -- The layers of a state's statements.
-use Rattle.std.specs.Prelude.{◌≡◌, ℕ, Bool, true, List, find, Option, Some, None, option_map, bytes_eq, Result, Ok, Err, Vec, ⊤}
+use Rattle.std.specs.Prelude.{◌≡◌, ℕ, List, find, Option, Some, None, option_map, bytes_eq, Result, Ok, Err, Vec, ⊤}
 use Rattle.std.specs.declared.alloc.Global.{Global}
 use Rattle.map_nums.specs.Grids.{Size, Grid}
 use Rattle.layer_tiles.specs.Layers.{layer_of}

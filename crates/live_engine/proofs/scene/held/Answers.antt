@@ -1,4 +1,4 @@
-use Rattle.std.proofs.Common.{◌≡◌, Some, sym, ap, ◌∙◌}
+use Rattle.std.proofs.Common.{Some, sym, ap, ◌∙◌}
 use Rattle.map_edits.specs.Entries.{source}
 use Rattle.layer_tiles.specs.Changes.{ChangeState}
 use Rattle.live_engine.specs.declared.held.Item.TheVariants.{Source, Statement}

@@ -1,4 +1,4 @@
-use Rattle.std.proofs.Common.{◌≡◌, Some, None, sym, ap, ◌∙◌}
+use Rattle.std.proofs.Common.{Some, ap, ◌∙◌}
 use Rattle.statement_parser.specs.ToOps.{to_op}
 use Rattle.statement_parser.specs.Views.{op_view}
 use Rattle.live_engine.specs.Scenes.{after_scene, state_of}

@@ -1,16 +1,15 @@
-use Rattle.std.proofs.Common.{◌≡◌, Some, Err, Ok, Result, sym, ap, subst, ◌∙◌}
+use Rattle.std.proofs.Common.{◌≡◌, Err, subst}
 use Rattle.map_defs.specs.Operate.{operate}
 use Rattle.statement_parser.specs.ToOps.{to_op}
 use Rattle.statement_parser.specs.Views.{op_view}
 use Rattle.local_ops.specs.Operands.{cells_after}
-use Rattle.layer_tiles.specs.Layers.{LayerState}
 use Rattle.layer_tiles.specs.declared.kernels.KernelRefusal.{KernelRefusal}
 use Rattle.layer_tiles.specs.declared.kernels.KernelRefusal.TheVariants.{Overflow}
 use Rattle.op_jobs.specs.Evaluated.{IsEvaluated}
 use Rattle.map_edits.specs.Entries.{find_making, layers}
 use Rattle.live_engine.specs.Scenes.{after_scene, state_of}
 use Rattle.live_engine.specs.Values.{at_hand}
-use Rattle.live_engine.proofs.Valuing.{valued_layer, valued_halt, stamped_layer}
+use Rattle.live_engine.proofs.Valuing.{valued_layer, valued_halt}
 use Rattle.live_engine.proofs.values.evaluate_op.Goals as goal
 
 pub returns-in-Ok-copy-clause-value : goal.returns-in-Ok-copy-clause-value

@@ -1,10 +1,8 @@
 use Rattle.std.proofs.Common.{◌≡◌, Some, None, sym, ap, ◌∙◌, option_map}
-use Rattle.map_nums.specs.Grids.{Grid}
 use Rattle.layer_tiles.specs.Changes.{ChangeState}
-use Rattle.layer_tiles.specs.Layers.{LayerState}
 use Rattle.live_engine.specs.Held.{grid_of}
 use Rattle.live_engine.specs.Scenes.{after_scene, state_of}
-use Rattle.live_engine.specs.Values.{at_hand, kept}
+use Rattle.live_engine.specs.Values.{at_hand}
 use Rattle.live_engine.proofs.Making.{own_scene, making_none, making_source, making_statement}
 use Rattle.live_engine.proofs.Hand.{hand_none, hand_source, hand_kept, kept_size, cells_of_layer, never_absent}
 use Rattle.live_engine.proofs.values.operand_of.Goals as goal

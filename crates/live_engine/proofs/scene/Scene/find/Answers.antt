@@ -1,4 +1,4 @@
-use Rattle.std.proofs.Common.{◌≡◌, Some, sym, ap, ◌∙◌}
+use Rattle.std.proofs.Common.{Some, sym, ap, ◌∙◌}
 use Rattle.layer_tiles.specs.Patches.{patched}
 use Rattle.layer_tiles.specs.Changes.{ChangeState}
 use Rattle.statement_parser.specs.Views.{written_view}
