@@ -47,7 +47,7 @@ impl Layer {
         ensures { IfOk result (λ layer. layer ≡ layer_of extent (constant extent cell).cells stamp) }
     {
         let cells = vec![in alloc; cell; extent.cells() as usize]?;
-        Layer::of(alloc, extent, cells, stamp)
+        Layer::of_cells(alloc, extent, cells, stamp)
     }
 
     /// The cells row by row, with one stamp for all tiles.
@@ -60,22 +60,16 @@ impl Layer {
         requires { length cells.now ≡ cells_in extent }
         ensures { IfOk result (λ layer. layer ≡ layer_of extent cells.now stamp) }
     {
-        Layer::of(alloc, extent, Vec::from_slice(alloc, cells)?, stamp)
+        Layer::of_cells(alloc, extent, Vec::from_slice(alloc, cells)?, stamp)
     }
 
-    /// The layer of a patch that holds every tile, with one stamp for all tiles. Its one list of cells is new memory.
-    pub fn fresh(alloc: Global, patch: Patch, stamp: u64) -> Result<Layer, NoMemory>
-        requires { HoldsAll patch }
-        ensures { IfOk result (λ layer. layer ≡ layer_of patch.size (patched patch.size [] patch.tiles) stamp) }
-    {
-        let extent = patch.extent();
-        let mut cells = vec![in alloc; Cell::null(); extent.cells() as usize]?;
-        write_tiles(extent, &patch, &mut cells);
-        Layer::of(alloc, extent, cells, stamp)
-    }
-
-    /// A layer that takes the cells over.
-    fn of(alloc: Global, extent: Extent, cells: Vec<Cell>, stamp: u64) -> Result<Layer, NoMemory>
+    /// The layer that takes a list of cells over, row by row, with one stamp for all tiles. Only the stamps are new memory.
+    pub fn of_cells(
+        alloc: Global,
+        extent: Extent,
+        cells: Vec<Cell>,
+        stamp: u64,
+    ) -> Result<Layer, NoMemory>
         requires { length cells.items ≡ cells_in extent }
         ensures { IfOk result (λ layer. layer ≡ layer_of extent cells.items stamp) }
     {
@@ -85,6 +79,19 @@ impl Layer {
             cells,
             stamps,
         })
+    }
+
+    /// The layer of a patch that holds every tile, with one stamp for all tiles. Its lists were laid out when the patch was
+    /// completed, so it wants no memory.
+    pub fn fresh(patch: Patch, stamp: u64) -> Layer
+        requires { HoldsAll patch }
+        ensures { result ≡ layer_of patch.size (patched patch.size [] patch.tiles) stamp }
+    {
+        let (tiles, mut layer) = patch.laid_out();
+        let extent = layer.extent();
+        write_tiles(extent, &tiles, &mut layer.cells);
+        layer.restamp(stamp);
+        layer
     }
 
     pub fn copy(&self, alloc: Global) -> Result<Layer, NoMemory>
@@ -146,7 +153,7 @@ impl Layer {
         ensures { IsCommitted self.old patch stamp self.new }
     {
         stamp_tiles(self.extent, &patch, &self.cells, &mut self.stamps, stamp);
-        write_tiles(self.extent, &patch, &mut self.cells);
+        write_tiles(self.extent, patch.tiles(), &mut self.cells);
     }
 
     /// Gives every tile the stamp.

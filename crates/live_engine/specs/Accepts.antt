@@ -20,6 +20,7 @@ use Rattle.live_engine.specs.declared.edits.Refusal.TheVariants.{Unknown, Derive
 abbrev pub line_edit : lines.Edit → edits.Edit
 line_edit (lines.define n w) = edits.define n w
 line_edit (lines.paint n r1 c1 r2 c2 cell) = edits.paint n (record { top = r1; left = c1; bottom = r2; right = c2 }) cell
+line_edit (lines.new_layer n cell) = edits.new_layer n cell
 line_edit (lines.drop n) = edits.drop_name n
 
 abbrev pub edit_of : Edit → edits.Edit

@@ -4,7 +4,8 @@ use Rattle.std.specs.List.{All}
 use Rattle.std.proofs.lemmas.List.{get_or-take, get_or-drop, get_or_default, map_more, map-append, get_or-map}
 use Rattle.std.proofs.lemmas.List.FromFn.{get_or-map-range_with_len}
 use Rattle.std.proofs.lemmas.Nat.{mul-add-lt}
-use Rattle.map_nums.specs.Answers.{is_wide, IsAnswer}
+use Rattle.map_nums.specs.Answers.{is_wide}
+use Rattle.map_nums.specs.Exact.{IsExact}
 use Rattle.map_nums.specs.Grids.{Size, IsSize, Cells, cells_in}
 use Rattle.map_defs.specs.Local.{LocalOp, local_cell, local_at, local_grid, cells_at}
 use Rattle.layer_tiles.specs.Tiles.{Block, block_row, tile_start, tile_top, tile_left, tile_height, tile_width, tiles_in}
@@ -14,8 +15,7 @@ use Rattle.layer_tiles.specs.PlaceByPlace.{cell_in, IsPlacesAnswer, IsPlaceRefus
 use Rattle.layer_tiles.specs.declared.kernels.KernelRefusal.{KernelRefusal}
 use Rattle.layer_tiles.specs.declared.kernels.KernelRefusal.TheVariants.{Overflow}
 use Rattle.layer_tiles.specs.declared.kernels.KernelRefusal.TheVariants as refusal
-use Rattle.map_nums.specs.declared.StatRefusal.{StatRefusal}
-use Rattle.map_nums.specs.declared.StatRefusal.TheVariants.{Wide, NoMemory}
+use Rattle.map_nums.specs.declared.Wide.{Wide}
 use Rattle.layer_tiles.proofs.Strides.{get_or-strided}
 use Rattle.layer_tiles.proofs.Rounds.{here}
 use Rattle.layer_tiles.proofs.Making.{answer_from_places, made_more}
@@ -105,17 +105,14 @@ row_wide op blocks s t r c at made m sizes p q e wide = record {
 }
 
 -- a row with the answer of one more place, or why it has none
-pub row_put : (op : LocalOp) (blocks : List Block) (h w r c at : ℕ) (made new : Block) (answer : Result (Option ℤ) StatRefusal) → IsMade (cell_by op blocks) h w (r * w + c) made → HaveSize h w blocks → r < h → c < w → IsAnswer (local_cell op (row_cells blocks r c)) answer → IfOk answer (λ value. new ≡ record made { cells = set made.cells (r * made.width + c) value }) → refused_at at answer ≡ Ok tt → IsMade (cell_by op blocks) h w (r * w + (c + 1)) new
+pub row_put : (op : LocalOp) (blocks : List Block) (h w r c at : ℕ) (made new : Block) (answer : Result (Option ℤ) Wide) → IsMade (cell_by op blocks) h w (r * w + c) made → HaveSize h w blocks → r < h → c < w → IsExact (local_cell op (row_cells blocks r c)) answer → IfOk answer (λ value. new ≡ record made { cells = set made.cells (r * made.width + c) value }) → refused_at at answer ≡ Ok tt → IsMade (cell_by op blocks) h w (r * w + (c + 1)) new
 row_put op blocks h w r c at made new (Ok value) m sizes p q a n e = row_more op blocks h w r c made new value value m sizes p q a refl n
-row_put op blocks h w r c at made new (Err Wide) m sizes p q a n e = cc
-row_put op blocks h w r c at made new (Err NoMemory) m sizes p q a n e = cc
+row_put op blocks h w r c at made new (Err wide) m sizes p q a n e = cc
 
-pub row_refused : (op : LocalOp) (blocks : List Block) (s : Size) (t r c at : ℕ) (made : Block) (answer : Result (Option ℤ) StatRefusal) (e : KernelRefusal) → IsMade (cell_by op blocks) (tile_height s t) (tile_width s t) (r * tile_width s t + c) made → HaveSize (tile_height s t) (tile_width s t) blocks → r < tile_height s t → c < tile_width s t → at ≡ (tile_top s t + r) * s.columns + tile_left s t + c → IsAnswer (local_cell op (row_cells blocks r c)) answer → refused_at at answer ≡ Err e → IsPlaceRefusal (cell_by op blocks) s t e
+pub row_refused : (op : LocalOp) (blocks : List Block) (s : Size) (t r c at : ℕ) (made : Block) (answer : Result (Option ℤ) Wide) (e : KernelRefusal) → IsMade (cell_by op blocks) (tile_height s t) (tile_width s t) (r * tile_width s t + c) made → HaveSize (tile_height s t) (tile_width s t) blocks → r < tile_height s t → c < tile_width s t → at ≡ (tile_top s t + r) * s.columns + tile_left s t + c → IsExact (local_cell op (row_cells blocks r c)) answer → refused_at at answer ≡ Err e → IsPlaceRefusal (cell_by op blocks) s t e
 row_refused op blocks s t r c at made (Ok value) e m sizes p q l a x = cc
-row_refused op blocks s t r c at made (Err Wide) (Overflow place) m sizes p q l a x = let same : place ≡ at = cc in row_wide op blocks s t r c place made m sizes p q (same ∙ l) a
-row_refused op blocks s t r c at made (Err Wide) refusal.NoMemory m sizes p q l a x = tt
-row_refused op blocks s t r c at made (Err NoMemory) (Overflow place) m sizes p q l a x = cc
-row_refused op blocks s t r c at made (Err NoMemory) refusal.NoMemory m sizes p q l a x = tt
+row_refused op blocks s t r c at made (Err wide) (Overflow place) m sizes p q l a x = let same : place ≡ at = cc in row_wide op blocks s t r c place made m sizes p q (same ∙ l) a
+row_refused op blocks s t r c at made (Err wide) refusal.NoMemory m sizes p q l a x = tt
 
 -- the cells at a place of the operands' tiles are those of their grids at its cell
 pub cells_of-blocks : (s : Size) (t r c : ℕ) (operands : List ChangeState) → r < tile_height s t → c < tile_width s t → cells_of (blocks_of s t operands) (r * tile_width s t + c) ≡ cells_at (cells_after operands) (cell_in s t r c)

@@ -7,9 +7,7 @@ use Rattle.layer_tiles.specs.Tiles.{Block, block_row, tile_block}
 use Rattle.layer_tiles.specs.Changes.{ChangeState}
 use Rattle.layer_tiles.specs.declared.kernels.KernelRefusal.{KernelRefusal}
 use Rattle.layer_tiles.specs.declared.kernels.KernelRefusal.TheVariants.{Overflow}
-use Rattle.layer_tiles.specs.declared.kernels.KernelRefusal.TheVariants as refusal
-use Rattle.map_nums.specs.declared.StatRefusal.{StatRefusal}
-use Rattle.map_nums.specs.declared.StatRefusal.TheVariants.{Wide, NoMemory}
+use Rattle.map_nums.specs.declared.Wide.{Wide}
 
 -- the size of the first
 abbrev pub size_of : List ChangeState → Size
@@ -40,7 +38,6 @@ abbrev pub HaveSize : ℕ → ℕ → List Block → Type 0
 HaveSize height width blocks = All (λ b. (b.height ≡ height) × (b.width ≡ width)) blocks
 
 -- what becomes of a tile at a cell with this answer
-abbrev pub refused_at : ℕ → Result (Option ℤ) StatRefusal → Result (Unit {0}) KernelRefusal
+abbrev pub refused_at : ℕ → Result (Option ℤ) Wide → Result (Unit {0}) KernelRefusal
 refused_at at (Ok value) = Ok tt
-refused_at at (Err Wide) = Err (Overflow at)
-refused_at at (Err NoMemory) = Err refusal.NoMemory
+refused_at at (Err wide) = Err (Overflow at)

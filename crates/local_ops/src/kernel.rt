@@ -1,8 +1,9 @@
 //! A tile of a Local operation.
-ghost use Rattle.std.specs.Prelude.{◌≡◌, ◌+◌, ◌*◌, ◌<◌, length, map, slice_set, IfOk, IsFalse};
+ghost use Rattle.std.specs.Prelude.{◌≡◌, ◌+◌, ◌*◌, ◌<◌, ◌≤◌, length, map, take, slice_set, IfOk, IsFalse};
 ghost use Rattle.std.specs.Result.{ForOk};
 ghost use Rattle.std.specs.List.{All};
-ghost use Rattle.map_nums.specs.Answers.{IsAnswer, is_wide};
+ghost use Rattle.map_nums.specs.Answers.{is_wide};
+ghost use Rattle.map_nums.specs.Exact.{IsExact};
 ghost use Rattle.map_nums.specs.Grids.{cell_at};
 ghost use Rattle.map_defs.specs.Local.{local_cell, local_grid};
 ghost use Rattle.layer_tiles.specs.Tiles.{block_row, tiles_in, tile_height, tile_width};
@@ -16,7 +17,7 @@ use crate::ops::LocalOp;
 use crate::pairs::of_two;
 use crate::values::value_of;
 use layer_tiles::{Cell, Extent, KernelRefusal, NoMemory, Operands, Tally, Tile, TileView, Value};
-use map_nums::StatRefusal;
+use map_nums::Wide;
 use std::alloc::Global;
 
 /// Tile `tile` of the operation over the operands after the edit.
@@ -86,14 +87,13 @@ fn make_tile(
         return Err(KernelRefusal::NoMemory);
     };
     for r in 0..extent.place(tile).height {
-        make_row(alloc, op, views, extent, tile, r, &mut made)?;
+        make_row(op, views, extent, tile, r, &mut made)?;
     }
     Ok(made)
 }
 
 /// A row of that tile.
 fn make_row(
-    alloc: Global,
     op: &LocalOp,
     views: &[TileView<'_>],
     extent: Extent,
@@ -111,7 +111,7 @@ fn make_row(
     if views.len() == 2 {
         return row_of_two(op, views, extent, tile, r, made);
     }
-    row_of_any(alloc, op, views, extent, tile, r, made)
+    row_of_any(op, views, extent, tile, r, made)
 }
 
 /// A row of a tile of two operands.
@@ -144,7 +144,6 @@ fn row_of_two(
 
 /// A row of a tile of any operands.
 fn row_of_any(
-    alloc: Global,
     op: &LocalOp,
     views: &[TileView<'_>],
     extent: Extent,
@@ -161,43 +160,33 @@ fn row_of_any(
 {
     let place = extent.place(tile);
     let start = (place.top + r) * extent.columns() + place.left;
-    let Ok(rows) = rows_of(alloc, views, r) else {
-        return Err(KernelRefusal::NoMemory);
-    };
+    let rows = rows_of(views, r);
     for c in 0..place.width {
-        let answer = value_at(alloc, op, &rows, c);
+        let answer = value_at(op, &rows[..views.len()], c);
         put(made, r, c, start + c, answer)?;
     }
     Ok(())
 }
 
-/// Row `r` of each operand.
-fn rows_of<'a, 'b>(
-    alloc: Global,
-    views: &'a [TileView<'b>],
-    r: u32,
-) -> Result<Vec<&'a [Cell]>, NoMemory>
-    requires { All (λ b. r < b.height) views.now }
-    ensures rows { IfOk result (λ rows. map (λ row. row.now) rows.items ≡ map (λ b. block_row b r) views.now) }
-    ensures widths { IfOk result (λ rows. map (λ row. length row.now) rows.items ≡ map (λ b. b.width) views.now) }
+/// Row `r` of each operand, then empty ones.
+fn rows_of<'a, 'b>(views: &'a [TileView<'b>], r: u32) -> [&'a [Cell]; 8]
+    requires most { length views.now ≤ 8 }
+    requires within { All (λ b. r < b.height) views.now }
+    ensures rows { map (λ row. row.now) (take (length views.now) result) ≡ map (λ b. block_row b r) views.now }
+    ensures widths { map (λ row. length row.now) (take (length views.now) result) ≡ map (λ b. b.width) views.now }
 {
-    let mut rows = Vec::new(alloc);
-    for view in views {
-        rows.push(view.row(r))?;
+    let mut rows: [&'a [Cell]; 8] = [&[]; 8];
+    for (k, view) in views.iter().enumerate() {
+        rows[k] = view.row(r);
     }
-    Ok(rows)
+    rows
 }
 
 /// The operation's value in column `c` of rows, null where an operand is null there.
-fn value_at(
-    alloc: Global,
-    op: &LocalOp,
-    rows: &[&[Cell]],
-    c: u32,
-) -> Result<Option<Value>, StatRefusal>
+fn value_at(op: &LocalOp, rows: &[&[Cell]], c: u32) -> Result<Option<Value>, Wide>
     requires takes { Takes (op_of op.now) (length rows.now) }
     requires within { All (λ row. c < length row.now) rows.now }
-    ensures { IsAnswer (local_cell (op_of op.now) (map (λ row. cell_at row.now c) rows.now)) result }
+    ensures { IsExact (local_cell (op_of op.now) (map (λ row. cell_at row.now c) rows.now)) result }
 {
     let mut values = [0; 8];
     for (k, row) in rows.iter().enumerate() {
@@ -206,7 +195,7 @@ fn value_at(
             None => return Ok(None),
         }
     }
-    value_of(alloc, op, &values[..rows.len()])
+    value_of(op, &mut values[..rows.len()])
 }
 
 /// Puts the answer for cell `at` into its row and column of the tile.
@@ -215,7 +204,7 @@ fn put(
     r: u32,
     c: u32,
     at: u32,
-    answer: Result<Option<Value>, StatRefusal>,
+    answer: Result<Option<Value>, Wide>,
 ) -> Result<(), KernelRefusal>
     requires in_range { ForOk answer (λ value. IsFalse (is_wide value)) }
     requires row { r < made.old.height }
@@ -225,8 +214,7 @@ fn put(
 {
     match answer {
         Ok(value) => made.set(r, c, cell_of(value)),
-        Err(StatRefusal::Wide) => return Err(KernelRefusal::Overflow(at)),
-        Err(StatRefusal::NoMemory) => return Err(KernelRefusal::NoMemory),
+        Err(Wide) => return Err(KernelRefusal::Overflow(at)),
     }
     Ok(())
 }

@@ -1,7 +1,7 @@
 //! What an operation makes of two cells. The numbers are summed and compared in 64 bits, and nothing is copied.
 ghost use Rattle.std.specs.Prelude.{◌≡◌, [], ◌∷◌, Some, pos};
 ghost use Rattle.std.specs.Int.{int_div_euclid};
-ghost use Rattle.map_nums.specs.Answers.{IsAnswer};
+ghost use Rattle.map_nums.specs.Exact.{IsExact};
 ghost use Rattle.map_nums.specs.Stats.{statistic_of, total_of, product_of, maximum_of, minimum_of, variety_of};
 ghost use Rattle.map_defs.specs.Local.{local_cell, of_numbers};
 ghost use Rattle.local_ops.specs.Operations.{op_of, Takes};
@@ -9,12 +9,12 @@ ghost use Rattle.local_ops.specs.Operations.{op_of, Takes};
 use crate::ops::LocalOp;
 use crate::values::{difference, kept, ratio};
 use layer_tiles::{Cell, Value};
-use map_nums::{Stat, StatRefusal};
+use map_nums::{Stat, Wide};
 
 /// The operation's value of two cells, null where one is null.
-pub(crate) fn of_two(op: &LocalOp, left: Cell, right: Cell) -> Result<Option<Value>, StatRefusal>
+pub(crate) fn of_two(op: &LocalOp, left: Cell, right: Cell) -> Result<Option<Value>, Wide>
     requires { Takes (op_of op.now) 2 }
-    ensures { IsAnswer (local_cell (op_of op.now) (left ∷ right ∷ [])) result }
+    ensures { IsExact (local_cell (op_of op.now) (left ∷ right ∷ [])) result }
 {
     let Some(first) = left.get() else {
         return Ok(None);
@@ -26,9 +26,9 @@ pub(crate) fn of_two(op: &LocalOp, left: Cell, right: Cell) -> Result<Option<Val
 }
 
 /// The operation's value of two values.
-fn of_pair(op: &LocalOp, left: Value, right: Value) -> Result<Option<Value>, StatRefusal>
+fn of_pair(op: &LocalOp, left: Value, right: Value) -> Result<Option<Value>, Wide>
     requires { Takes (op_of op.now) 2 }
-    ensures { IsAnswer (of_numbers (op_of op.now) (left ∷ right ∷ [])) result }
+    ensures { IsExact (of_numbers (op_of op.now) (left ∷ right ∷ [])) result }
 {
     match op {
         LocalOp::Stat(stat) => statistic_of_pair(*stat, left, right),
@@ -39,8 +39,8 @@ fn of_pair(op: &LocalOp, left: Value, right: Value) -> Result<Option<Value>, Sta
 }
 
 /// A statistic of two values.
-fn statistic_of_pair(stat: Stat, left: Value, right: Value) -> Result<Option<Value>, StatRefusal>
-    ensures { IsAnswer (statistic_of stat (left ∷ right ∷ [])) result }
+fn statistic_of_pair(stat: Stat, left: Value, right: Value) -> Result<Option<Value>, Wide>
+    ensures { IsExact (statistic_of stat (left ∷ right ∷ [])) result }
 {
     match stat {
         Stat::Sum => kept(total(left, right)),

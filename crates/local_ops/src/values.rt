@@ -1,24 +1,19 @@
 //! What an operation makes of values.
 ghost use Rattle.std.specs.Prelude.{◌≡◌, length, Some, ◌-ℤ◌};
-ghost use Rattle.map_nums.specs.Answers.{IsAnswer};
+ghost use Rattle.map_nums.specs.Exact.{IsExact};
 ghost use Rattle.map_defs.specs.Local.{of_numbers, ratio_of, rated};
 ghost use Rattle.local_ops.specs.Operations.{op_of, Takes};
 
 use crate::ops::LocalOp;
-use map_nums::{Rate, StatRefusal, VMAX, Value, floor_div, statistic};
-use std::alloc::Global;
+use map_nums::{Rate, VMAX, Value, Wide, floor_div, statistic_in};
 
-/// The operation's value, where all operands have one.
-pub(crate) fn value_of(
-    alloc: Global,
-    op: &LocalOp,
-    values: &[Value],
-) -> Result<Option<Value>, StatRefusal>
-    requires { Takes (op_of op.now) (length values.now) }
-    ensures { IsAnswer (of_numbers (op_of op.now) values.now) result }
+/// The operation's value, where all operands have one. It may bring the values into another order.
+pub(crate) fn value_of(op: &LocalOp, values: &mut [Value]) -> Result<Option<Value>, Wide>
+    requires { Takes (op_of op.now) (length values.old) }
+    ensures { IsExact (of_numbers (op_of op.now) values.old) result }
 {
     match op {
-        LocalOp::Stat(stat) => statistic(alloc, *stat, values),
+        LocalOp::Stat(stat) => statistic_in(*stat, values),
         LocalOp::Difference => difference(values[0], values[1]),
         LocalOp::Ratio => ratio(values[0], values[1]),
         LocalOp::Rating(rates) => found(rated(rates.as_slice(), values[0])),
@@ -26,15 +21,15 @@ pub(crate) fn value_of(
 }
 
 /// `left - right`.
-pub(crate) fn difference(left: Value, right: Value) -> Result<Option<Value>, StatRefusal>
-    ensures { IsAnswer (Some (left -ℤ right)) result }
+pub(crate) fn difference(left: Value, right: Value) -> Result<Option<Value>, Wide>
+    ensures { IsExact (Some (left -ℤ right)) result }
 {
     kept(left as i64 - right as i64)
 }
 
 /// The floor of `left / right`, null where `right` is 0.
-pub(crate) fn ratio(left: Value, right: Value) -> Result<Option<Value>, StatRefusal>
-    ensures { IsAnswer (ratio_of left right) result }
+pub(crate) fn ratio(left: Value, right: Value) -> Result<Option<Value>, Wide>
+    ensures { IsExact (ratio_of left right) result }
 {
     match floor_div(left as i64, right as i64) {
         Some(quotient) => kept(quotient),
@@ -55,8 +50,8 @@ fn rated(rates: &[Rate], value: Value) -> Option<Value>
 }
 
 /// The value, or that no cell may hold it.
-fn found(value: Option<Value>) -> Result<Option<Value>, StatRefusal>
-    ensures { IsAnswer value result }
+fn found(value: Option<Value>) -> Result<Option<Value>, Wide>
+    ensures { IsExact value result }
 {
     match value {
         Some(number) => kept(number as i64),
@@ -65,11 +60,11 @@ fn found(value: Option<Value>) -> Result<Option<Value>, StatRefusal>
 }
 
 /// The number, or that no cell may hold it.
-pub(crate) fn kept(number: i64) -> Result<Option<Value>, StatRefusal>
-    ensures { IsAnswer (Some number) result }
+pub(crate) fn kept(number: i64) -> Result<Option<Value>, Wide>
+    ensures { IsExact (Some number) result }
 {
     if number < -VMAX || number > VMAX {
-        return Err(StatRefusal::Wide);
+        return Err(Wide);
     }
     Ok(Some(number as i32))
 }

@@ -10,3 +10,5 @@ pub mod Accepted
 pub mod Agreeing
 pub mod Listed
 pub mod Dropped
+pub mod Evaluating
+pub mod Once

@@ -23,7 +23,7 @@ pub each_more : (P Q : Node → Type 0) → ((x : Node) → P x → Q x) → (xs
 each_more P Q more [] each = tt
 each_more P Q more (x ∷ xs) each = (more x each.0, each_more P Q more xs each.1)
 
-each_append : (P : Node → Type 0) (xs ys : List Node) → Each P xs → Each P ys → Each P (xs ++ ys)
+pub each_append : (P : Node → Type 0) (xs ys : List Node) → Each P xs → Each P ys → Each P (xs ++ ys)
 each_append P [] ys first rest = rest
 each_append P (x ∷ xs) ys first rest = (first.0, each_append P xs ys first.1 rest)
 
@@ -68,7 +68,7 @@ none_found : (o : Option Node) → is_some o ≡ false → o ≡ None
 none_found None e = refl
 none_found (Some x) e = absurd (true≢false e)
 
-not_there : (es : List Entry) (n : Name) → IsOwn es → find_def es n ≡ None → find_node (nodes_of es) n ≡ None
+pub not_there : (es : List Entry) (n : Name) → IsOwn es → find_def es n ≡ None → find_node (nodes_of es) n ≡ None
 not_there es n own e = none_found (find_node (nodes_of es) n) (is_some-layers (layers es) n ∙ ap is_some (making_by_entry es n own ∙ ap def_making e))
 
 one_more : (x : Node) (xs : List Node) → find_node xs x.name ≡ None → Each (IsFoundIn xs) xs → Each (IsFoundIn (x ∷ xs)) (x ∷ xs)

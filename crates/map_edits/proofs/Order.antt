@@ -15,11 +15,11 @@ use Rattle.map_edits.proofs.Unfolds.{depth_of_flat, depth_in_le_nodes, needed_is
 -- ---- lists in order of a rank
 
 module _ (rank : Node → ℕ) where
-  abbrev AllFrom : ℕ → List Node → Type 0
+  abbrev pub AllFrom : ℕ → List Node → Type 0
   AllFrom d [] = ⊤
   AllFrom d (x ∷ xs) = (d ≤ rank x) × AllFrom d xs
 
-  abbrev AllAt : ℕ → List Node → Type 0
+  abbrev pub AllAt : ℕ → List Node → Type 0
   AllAt d [] = ⊤
   AllAt d (x ∷ xs) = (rank x ≡ d) × AllAt d xs
 
@@ -27,7 +27,7 @@ module _ (rank : Node → ℕ) where
   IsRising [] = ⊤
   IsRising (x ∷ xs) = AllFrom (rank x) xs × IsRising xs
 
-  from_less : (d e : ℕ) (xs : List Node) → d ≤ e → AllFrom e xs → AllFrom d xs
+  pub from_less : (d e : ℕ) (xs : List Node) → d ≤ e → AllFrom e xs → AllFrom d xs
   from_less d e [] h all = tt
   from_less d e (x ∷ xs) h all = let first : e ≤ rank x = all.0 in (omega arith, from_less d e xs h all.1)
 
@@ -40,7 +40,7 @@ module _ (rank : Node → ℕ) where
   rising_append d (x ∷ xs) ys at from rising = let first : rank x ≡ d = at.0 in (from_less (rank x) d (xs ++ ys) (omega arith) (from_append d xs ys at.1 from), rising_append d xs ys at.1 from rising)
 
   -- what passes a test that only lower ranks pass is not among the higher
-  none_from : (q : Node → Bool) (d : ℕ) → ((y : Node) → q y ≡ true → rank y < d) → (xs : List Node) → AllFrom d xs → list_any q xs ≡ true → ⊥
+  pub none_from : (q : Node → Bool) (d : ℕ) → ((y : Node) → q y ≡ true → rank y < d) → (xs : List Node) → AllFrom d xs → list_any q xs ≡ true → ⊥
   none_from q d low [] all e = false≢true e
   none_from q d low (x ∷ xs) all e = go (or_cases (q x) (list_any q xs) e) (none_from q d low xs all.1)
     where
@@ -64,7 +64,7 @@ module _ (rank : Node → ℕ) where
   -- ---- rank by rank
 
   module _ (p : ℕ → Node → Bool) (at : (d : ℕ) (x : Node) → p d x ≡ true → rank x ≡ d) (nodes : List Node) where
-    filter_at : (d : ℕ) (xs : List Node) → AllAt d (filter (p d) xs)
+    pub filter_at : (d : ℕ) (xs : List Node) → AllAt d (filter (p d) xs)
     filter_at d [] = tt
     filter_at d (x ∷ xs) = go (p d x) refl (filter_at d xs)
       where
@@ -72,10 +72,10 @@ module _ (rank : Node → ℕ) where
         go true h rest = (at d x h, rest)
         go false h rest = rest
 
-    abbrev ranked : ℕ → ℕ → List Node
+    abbrev pub ranked : ℕ → ℕ → List Node
     ranked a k = flat_map (λ d. filter (p d) nodes) (range_with_len a k)
 
-    ranked_from : (a k : ℕ) → AllFrom a (ranked a k)
+    pub ranked_from : (a k : ℕ) → AllFrom a (ranked a k)
     ranked_from a zero = tt
     ranked_from a (suc k) = from_append a (filter (p a) nodes) (ranked (a + 1) k) (filter_at a nodes) (from_less a (a + 1) (ranked (a + 1) k) (omega arith) (ranked_from (a + 1) k))
 
@@ -110,16 +110,16 @@ filter_finds p n node (x ∷ xs) e h = go (bytes_eq x.name n) refl e (λ r. filt
         rw passes (or_left (bytes_eq x.name n) (is_named_in n (filter p xs)) same)
     go false differs found rest = later (p x) (rest found)
 
+abbrev pub depth_at : List Node → Node → ℕ
+depth_at nodes node = depth_in nodes node.name
+
+abbrev pub is_flat_at : List Node → ℕ → Node → Bool
+is_flat_at nodes d node = is_some node.needs && (depth_in nodes node.name == d)
+
+pub flat_at : (nodes : List Node) (d : ℕ) (x : Node) → is_flat_at nodes d x ≡ true → depth_at nodes x ≡ d
+flat_at nodes d x e = eqb-true (depth_at nodes x) d (and_parts (is_some x.needs) (depth_at nodes x == d) e).1
+
 module _ (nodes : List Node) (none : HasNoCycle nodes) where
-  abbrev depth_at : Node → ℕ
-  depth_at node = depth_in nodes node.name
-
-  abbrev is_flat_at : ℕ → Node → Bool
-  is_flat_at d node = is_some node.needs && (depth_in nodes node.name == d)
-
-  flat_at : (d : ℕ) (x : Node) → is_flat_at d x ≡ true → depth_at x ≡ d
-  flat_at d x e = eqb-true (depth_at x) d (and_parts (is_some x.needs) (depth_at x == d) e).1
-
   -- each flat statement is in the order by depth
   pub all_flats_listed : (n : Name) (node : Node) (ns : List Name) → find_node nodes n ≡ Some node → node.needs ≡ Some ns → is_named_in n (by_depth nodes) ≡ true
   unfolding by_depth
@@ -129,18 +129,18 @@ module _ (nodes : List Node) (none : HasNoCycle nodes) where
       let flat = depth_of_flat nodes none n node ns e is in
       let deep : d ≡ depth_in nodes n = ap (depth_in nodes) named in
       let high = depth_in_le_nodes nodes none n in
-      let passes : is_flat_at d node ≡ true = and_from (is_some node.needs) (d == d) (ap is_some is) (eq-eqb d d refl) in
-      ranked_any depth_at is_flat_at flat_at nodes (λ x. bytes_eq x.name n) d 1 (length nodes) (omega arith) (omega arith) (filter_finds (is_flat_at d) n node nodes e passes)
+      let passes : is_flat_at nodes d node ≡ true = and_from (is_some node.needs) (d == d) (ap is_some is) (eq-eqb d d refl) in
+      ranked_any (depth_at nodes) (is_flat_at nodes) (flat_at nodes) nodes (λ x. bytes_eq x.name n) d 1 (length nodes) (omega arith) (omega arith) (filter_finds (is_flat_at nodes d) n node nodes e passes)
 
   -- and stands after each flat statement that it needs
   pub needs_come_before : (before after : List Node) (node : Node) → by_depth nodes ≡ before ++ node ∷ after → (m : Name) → is_among m (needs_in nodes node.name) ≡ true
       → (found : Node) (ns : List Name) → find_node nodes m ≡ Some found → found.needs ≡ Some ns → is_named_in m before ≡ true
   unfolding by_depth
   needs_come_before before after node split m needed found ns e is =
-      let low : (y : Node) → bytes_eq y.name m ≡ true → depth_at y < depth_at node = λ y same.
+      let low : (y : Node) → bytes_eq y.name m ≡ true → depth_at nodes y < depth_at nodes node = λ y same.
       let named : depth_in nodes y.name ≡ depth_in nodes m = ap (depth_in nodes) (same_name y.name m same) in
       let less = needed_is_less_deep nodes none node.name m needed in
       omega arith in
-      let rising : IsRising depth_at (before ++ node ∷ after) = subst (IsRising depth_at) split (ranked_rising depth_at is_flat_at flat_at nodes 1 (length nodes)) in
+      let rising : IsRising (depth_at nodes) (before ++ node ∷ after) = subst (IsRising (depth_at nodes)) split (ranked_rising (depth_at nodes) (is_flat_at nodes) (flat_at nodes) nodes 1 (length nodes)) in
       let listed : list_any (λ (x : Node). bytes_eq x.name m) (before ++ node ∷ after) ≡ true = ap (is_named_in m) (sym split) ∙ all_flats_listed m found ns e is in
-      stands_before depth_at (λ x. bytes_eq x.name m) node after low before rising listed
+      stands_before (depth_at nodes) (λ x. bytes_eq x.name m) node after low before rising listed

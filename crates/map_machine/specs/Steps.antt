@@ -23,7 +23,7 @@ pub record Stepped : Type 0 where
 abbrev pub edit_of : lines.Edit → Edit
 edit_of (lines.define n w) = define n w
 edit_of (lines.paint n r1 c1 r2 c2 cell) = paint n (record { top = r1; left = c1; bottom = r2; right = c2 }) cell
--- NEWLAYER
+edit_of (lines.new_layer n cell) = new_layer n cell
 edit_of (lines.drop n) = drop_name n
 
 -- the state is as before

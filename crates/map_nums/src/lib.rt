@@ -1,6 +1,7 @@
 //! Whole-number arithmetic, the statistics of a list of values, and the numbers and small types that every crate shares.
 //!
-//! `statistic` gives any of the nine statistics of a list; `in_range` is the one test of what a cell may hold.
+//! `statistic` gives any of the nine statistics of a list, and `statistic_in` the same without memory; `in_range` is the one
+//! test of what a cell may hold.
 #![tactic(auto)]
 
 ghost use Rattle.std.specs.Prelude.{◌≡◌};
@@ -16,7 +17,7 @@ mod tests;
 
 pub use numbers::{cmp_cross, in_range};
 pub use rounding::{floor_div, floor_root};
-pub use statistics::statistic;
+pub use statistics::{statistic, statistic_in};
 use std::alloc::{AllocError, AllocFailed};
 
 /// A number that a cell holds.
@@ -62,6 +63,10 @@ pub struct Rate {
     pub high: Value,
     pub give: Option<Value>,
 }
+
+/// A number is outside the range of a cell's value.
+#[derive(Clone, Copy, Debug, PartialEq, Eq)]
+pub struct Wide;
 
 /// Why a statistic has no answer.
 #[derive(Clone, Copy, Debug, PartialEq, Eq)]

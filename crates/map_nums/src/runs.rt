@@ -1,12 +1,10 @@
 //! The values of a list by how often they occur, over the runs of equal values in ascending order.
-ghost use Rattle.std.specs.Prelude.{◌≡◌, ◌↔◌, ◌<◌, length, IfOk, IsSorted, IsTrue};
+ghost use Rattle.std.specs.Prelude.{◌≡◌, ◌↔◌, ◌<◌, length, IsPermutation, IsSorted, IsTrue};
 ghost use Rattle.std.specs.Ordering.{int_cmp};
 ghost use Rattle.map_nums.specs.Leaders.{prefers, leader_of, better_run, IsSameAsNext};
 ghost use Rattle.map_nums.specs.Stats.{majority_of, minority_of, variety_of};
 
 use crate::Value;
-use crate::ranks::ascending;
-use std::alloc::{AllocError, Global};
 
 /// Which number of occurrences leads.
 #[derive(Clone, Copy)]
@@ -34,28 +32,31 @@ struct Run {
     count: usize,
 }
 
-/// The value that occurs most often, the least of such.
-pub(crate) fn majority(alloc: Global, values: &[Value]) -> Result<Option<Value>, AllocError>
-    ensures { IfOk result (λ m. m ≡ majority_of values.now) }
+/// The value that occurs most often, the least of such. The values are brought into ascending order.
+pub(crate) fn majority(values: &mut [Value]) -> Option<Value>
+    ensures majority { result ≡ majority_of values.old }
+    ensures order { IsPermutation values.old values.new }
 {
-    let sorted = ascending(alloc, values)?;
-    Ok(leader(&sorted, Wanted::Most))
+    values.sort_unstable();
+    leader(values, Wanted::Most)
 }
 
-/// The value that occurs least often, the least of such.
-pub(crate) fn minority(alloc: Global, values: &[Value]) -> Result<Option<Value>, AllocError>
-    ensures { IfOk result (λ m. m ≡ minority_of values.now) }
+/// The value that occurs least often, the least of such. The values are brought into ascending order.
+pub(crate) fn minority(values: &mut [Value]) -> Option<Value>
+    ensures minority { result ≡ minority_of values.old }
+    ensures order { IsPermutation values.old values.new }
 {
-    let sorted = ascending(alloc, values)?;
-    Ok(leader(&sorted, Wanted::Least))
+    values.sort_unstable();
+    leader(values, Wanted::Least)
 }
 
-/// How many different values there are.
-pub(crate) fn variety(alloc: Global, values: &[Value]) -> Result<usize, AllocError>
-    ensures { IfOk result (λ n. n ≡ variety_of values.now) }
+/// How many different values there are. They are brought into ascending order.
+pub(crate) fn variety(values: &mut [Value]) -> usize
+    ensures variety { result ≡ variety_of values.old }
+    ensures order { IsPermutation values.old values.new }
 {
-    let sorted = ascending(alloc, values)?;
-    Ok(run_count(&sorted))
+    values.sort_unstable();
+    run_count(values)
 }
 
 /// The value whose run leads, the least of such.

@@ -79,7 +79,21 @@ fn a_late_zero_makes_a_long_product_zero(rt: HostRuntime) {
 fn an_empty_list_has_none(rt: HostRuntime) {
     for stat in STATS {
         assert_eq!(rt; statistic(rt.alloc(), stat, &[]), Ok(None), "{stat:?}");
+        assert_eq!(rt; statistic_in(stat, &mut []), Ok(None), "{stat:?}");
     }
+}
+
+#[test]
+fn in_place(rt: HostRuntime) {
+    for (stat, want) in STATS.iter().zip([18, 0, 9, -3, 2, 5, 5, 0, 4].iter()) {
+        let mut values = [5, -3, 5, 0, -3, 5, 9];
+        assert_eq!(rt;
+            statistic_in(*stat, &mut values),
+            Ok(Some(*want)),
+            "{stat:?}"
+        );
+    }
+    assert_eq!(rt; statistic_in(Stat::Sum, &mut [TOP, TOP]), Err(Wide));
 }
 
 #[test]

@@ -4,5 +4,9 @@
 #![tactic(auto)]
 
 mod evaluation;
+mod tiling;
 
 pub use evaluation::evaluate;
+
+#[cfg(test)]
+mod tests;

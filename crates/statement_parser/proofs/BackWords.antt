@@ -165,7 +165,7 @@ lookup_none {A} (row ∷ rows) t p h = go (bytes_eq t row.0) refl (lookup_none r
 
 no_command : (n : Text) → is_plain n ≡ true → command_named n ≡ None
 unfolding command_named is_plain is_reserved is_among
-no_command n p = lookup_none commands n p (refl, (refl, (refl, (refl, (refl, (refl, tt))))))
+no_command n p = lookup_none commands n p (refl, (refl, (refl, (refl, (refl, (refl, (refl, tt)))))))
 
 pub words_back : (m : Manner) (n : Text) (w : Written) → IsTrue (is_plain n) → IsWritten w → IsLine m (written_texts n w) (edit (define n w))
 words_back m n (plain o) p h = start (command_named n) (name_of n) (no_command n p) (name_back n p) (op_back m (λ op. edit (define n (plain op))) o h)

@@ -11,7 +11,7 @@ use Rattle.statement_parser.specs.Places.{tests}
 use Rattle.statement_parser.specs.Operations.{operation_named}
 use Rattle.statement_parser.specs.Grammar.{line_rule, command_named}
 use Rattle.statement_parser.specs.ReadLocal.{and_at, statistic_at, pair_at, difference_at, ratio_at, to_at, range_at, rate_at, with_at, rating_at, body_at}
-use Rattle.statement_parser.specs.ReadLine.{define_at, corners_at, paint_at, drop_at, value_at, grid_at, list_at, quit_at, line_at}
+use Rattle.statement_parser.specs.ReadLine.{define_at, corners_at, paint_at, new_at, drop_at, value_at, grid_at, list_at, quit_at, line_at}
 use Rattle.statement_parser.specs.Texts.{seen, column, is_short, LineText, silent, worded, refusal_of, RefusedText, bad_byte, bad_word}
 use Rattle.statement_parser.specs.Rows.{Rows}
 use Rattle.statement_parser.proofs.SoundLines.{healthy_line}
@@ -25,13 +25,15 @@ refused_row bytes f s e g h =
     bad_word f.kind f.left s e g (refused_so tests (line_rule first_language) (seen bytes) f (healthy_line first_language).sound refl (sym (line_reads first_language (seen bytes)) ∙ h))
 
 pub rows : Rows
-unfolding line_at define_at corners_at paint_at drop_at value_at grid_at list_at quit_at and_at statistic_at pair_at difference_at ratio_at to_at range_at rate_at with_at rating_at body_at operation_named command_named is_plain is_dotted is_reserved is_among number_text
+unfolding line_at define_at corners_at paint_at new_at drop_at value_at grid_at list_at quit_at and_at statistic_at pair_at difference_at ratio_at to_at range_at rate_at with_at rating_at body_at operation_named command_named is_plain is_dotted is_reserved is_among number_text
 rows = record {
   empty = silent refl refl;
   note = silent refl refl;
   whole = line_row (codes "B = LocalSum of A and 3") _ refl refl refl refl;
   rated = line_row (codes "R = LocalRating of A with 9 for 1 to 3 with null for -5") _ refl refl refl refl;
   painted = line_row (codes "paint A 01 +1 2 2 -0") _ refl refl refl refl;
+  fresh = line_row (codes "new C 1") _ refl refl refl refl;
+  fresh_null = line_row (codes "new C null") _ refl refl refl refl;
   dotted = line_row (codes "grid A.result.b") _ refl refl refl refl;
   alone = refused_row (codes "foo") _ refl refl refl refl;
   unknown = refused_row (codes "C = LocalSun of A and 1") _ refl refl refl refl;
@@ -43,7 +45,9 @@ rows = record {
   reserved_call = refused_row (codes "C = of(A)") _ refl refl refl refl;
   not_yet = refused_row (codes "C = FocalSum of A") _ refl refl refl refl;
   reserved_name = refused_row (codes "end = LocalSum of A and 1") _ refl refl refl refl;
-  later_form = refused_row (codes "new C 1") _ refl refl refl refl;
+  reserved_layer = refused_row (codes "new of 1") _ refl refl refl refl;
+  beyond = refused_row (codes "new C 2000000001") _ refl refl refl refl;
+  later_form = refused_row (codes "label C 1 x") _ refl refl refl refl;
   bad_byte = bad_byte refl refl refl;
   ninth = refused_row (codes "B = LocalSum of 1 and 2 and 3 and 4 and 5 and 6 and 7 and 8 and 9") _ refl refl refl refl;
 }

@@ -10,7 +10,7 @@ use Rattle.map_words.specs.Names.{is_plain, is_dotted}
 use Rattle.map_words.specs.Numbers.{number_text, if_between}
 use Rattle.grammar_core.specs.Rules.{Rule, ends, on, next}
 use Rattle.grammar_core.proofs.Ends.{AllEnds, each_end, ends_on, ends_next, ends_or, ends_also}
-use Rattle.statement_parser.specs.Lines.{Manner, Term, layer, value, Op, local, difference, ratio, rating, plain, define, paint, drop, ask_value, ask_grid, ask_list, Line, edit, ask, quit}
+use Rattle.statement_parser.specs.Lines.{Manner, Term, layer, value, Op, local, difference, ratio, rating, plain, define, paint, new_layer, drop, ask_value, ask_grid, ask_list, Line, edit, ask, quit}
 use Rattle.statement_parser.specs.Operations.{operation_named}
 use Rattle.statement_parser.specs.Places.{the, name_of, any_of, value_of, side_of, term_of, cell_of}
 use Rattle.statement_parser.specs.Bodies.{and_terms, statistic_body, pair_body, to_part, rate_part, with_rates, rating_body, operation_body}
@@ -23,7 +23,7 @@ use Rattle.statement_parser.specs.Formed.{Each, IsTerm, IsCell, IsRate, IsOp, Is
 use Rattle.statement_parser.specs.declared.operation.Operation.{Operation}
 use Rattle.statement_parser.specs.declared.operation.Operation.TheVariants.{Local, Difference, Ratio, Rating}
 use Rattle.statement_parser.specs.declared.command.Command.{Command}
-use Rattle.statement_parser.specs.declared.command.Command.TheVariants.{Paint, Drop, Value, Grid, List as Listing, Quit}
+use Rattle.statement_parser.specs.declared.command.Command.TheVariants.{Paint, New, Drop, Value, Grid, List as Listing, Quit}
 
 -- ---- what a place gives
 
@@ -171,6 +171,7 @@ define_formed m n p =
 
 command_formed : (c : Command) → Formed (command_rule c)
 command_formed Paint = then_name _ (λ n p. then_side _ (λ r1 a. then_side _ (λ c1 b. then_side _ (λ r2 c. then_side _ (λ c2 d. then_cell _ (λ v q. done (edit (paint n r1 c1 r2 c2 v)) (p, a, b, c, d, q)))))))
+command_formed New = then_name _ (λ n p. then_cell _ (λ v q. done (edit (new_layer n v)) (p, q)))
 command_formed Drop = then_name _ (λ n p. done (edit (drop n)) p)
 command_formed Value = then_any _ (λ n p. then_side _ (λ r a. then_side _ (λ c b. done (ask (ask_value n r c)) (p, a, b))))
 command_formed Grid = then_any _ (λ n p. done (ask (ask_grid n)) p)

@@ -10,3 +10,5 @@ pub mod Numerals
 pub mod BackWords
 pub mod BackBytes
 pub mod Computed
+pub mod LineOfLemmas
+pub mod ToOpsLemmas

@@ -6,13 +6,13 @@ use Rattle.grammar_core.specs.Rules.{ends}
 use Rattle.grammar_core.specs.Run.{run, is_node}
 use Rattle.grammar_core.specs.Readers.{◌>>=◌, one_at, end_at}
 use Rattle.grammar_core.proofs.Reading.{place, place_k, end_reads, ends_tail, or_else, or_refused, start_place}
-use Rattle.statement_parser.specs.Lines.{Manner, Op, plain, define, paint, drop, ask_value, ask_grid, ask_list, blank, edit, ask, quit}
+use Rattle.statement_parser.specs.Lines.{Manner, Op, plain, define, paint, new_layer, drop, ask_value, ask_grid, ask_list, blank, edit, ask, quit}
 use Rattle.statement_parser.specs.Places.{the, name_of, any_of, side_of, cell_of, tests}
-use Rattle.statement_parser.specs.Grammar.{define_rule, paint_rule, drop_rule, value_rule, grid_rule, command_named, command_rule, line_rule}
+use Rattle.statement_parser.specs.Grammar.{define_rule, paint_rule, new_rule, drop_rule, value_rule, grid_rule, command_named, command_rule, line_rule}
 use Rattle.statement_parser.specs.ReadLocal.{body_at}
-use Rattle.statement_parser.specs.ReadLine.{define_at, corners_at, paint_at, drop_at, value_at, grid_at, list_at, quit_at, command_at, statement_at, started_at, line_at}
+use Rattle.statement_parser.specs.ReadLine.{define_at, corners_at, paint_at, new_at, drop_at, value_at, grid_at, list_at, quit_at, command_at, statement_at, started_at, line_at}
 use Rattle.statement_parser.specs.declared.command.Command.{Command}
-use Rattle.statement_parser.specs.declared.command.Command.TheVariants.{Paint, Drop, Value, Grid, List as Listing, Quit}
+use Rattle.statement_parser.specs.declared.command.Command.TheVariants.{Paint, New, Drop, Value, Grid, List as Listing, Quit}
 use Rattle.statement_parser.proofs.PlaceFacts.{the_place, name_place, any_place, side_place, cell_place, command_place}
 use Rattle.statement_parser.proofs.ReadsBodies.{body_reads}
 
@@ -33,6 +33,12 @@ paint_reads =
     place_k tests side_of true _ (k n) _ side_place (λ r2. refl) (λ r2.
     place_k tests side_of true (λ c2 ws. Ok ((r1, c1, r2, c2), ws)) (k n) _ side_place (λ c2. refl) (λ c2.
     place tests cell_of true _ _ cell_place (λ v. refl) (λ v. end_reads tests (edit (paint n r1 c1 r2 c2 v))))))))
+
+new_reads : (ws : List Text) → new_at ws ≡ run tests new_rule ws
+unfolding new_at
+new_reads =
+    place tests name_of false _ _ name_place (λ n. refl) (λ n.
+    place tests cell_of true _ _ cell_place (λ v. refl) (λ v. end_reads tests (edit (new_layer n v))))
 
 drop_reads : (ws : List Text) → drop_at ws ≡ run tests drop_rule ws
 unfolding drop_at
@@ -59,6 +65,7 @@ quit_reads = end_reads tests quit
 
 command_reads : (c : Command) (ws : List Text) → command_at c ws ≡ run tests (command_rule c) ws
 command_reads Paint = paint_reads
+command_reads New = new_reads
 command_reads Drop = drop_reads
 command_reads Value = value_reads
 command_reads Grid = grid_reads
@@ -67,6 +74,7 @@ command_reads Quit = quit_reads
 
 command_node : (c : Command) → is_node (command_rule c) ≡ true
 command_node Paint = refl
+command_node New = refl
 command_node Drop = refl
 command_node Value = refl
 command_node Grid = refl

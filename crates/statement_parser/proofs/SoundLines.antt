@@ -4,11 +4,11 @@ use Rattle.std.specs.Prelude.{codes}
 use Rattle.map_words.specs.Bytes.{Text}
 use Rattle.grammar_core.specs.Rules.{Rule, on, next, ends, ◌<|>◌}
 use Rattle.grammar_core.proofs.Parts.{Healthy, NoBody, healthy_next, healthy_end, healthy_ends, all_on, all_or, tail_ends}
-use Rattle.statement_parser.specs.Lines.{Manner, plain, define, paint, drop, ask_value, ask_grid, ask_list, Line, blank, edit, ask, quit}
+use Rattle.statement_parser.specs.Lines.{Manner, plain, define, paint, new_layer, drop, ask_value, ask_grid, ask_list, Line, blank, edit, ask, quit}
 use Rattle.statement_parser.specs.Places.{name_of, any_of, side_of, tests}
 use Rattle.statement_parser.specs.Grammar.{define_rule, command_named, command_rule, line_rule}
 use Rattle.statement_parser.specs.declared.command.Command.{Command}
-use Rattle.statement_parser.specs.declared.command.Command.TheVariants.{Paint, Drop, Value, Grid, List as Listing, Quit}
+use Rattle.statement_parser.specs.declared.command.Command.TheVariants.{Paint, New, Drop, Value, Grid, List as Listing, Quit}
 use Rattle.statement_parser.proofs.PlaceFacts.{name_takes, name_place, any_takes, any_place, side_takes, side_place, command_place}
 use Rattle.statement_parser.proofs.SoundBodies.{the_tail, cell_tail, healthy_body}
 
@@ -26,6 +26,7 @@ healthy_define m n = (the_tail (codes "=") _ refl refl (healthy_body m (λ op. e
 
 healthy_command : (c : Command) → Healthy tests (command_rule c)
 healthy_command Paint = healthy_name _ (λ n. healthy_side _ (λ r1. healthy_side _ (λ c1. healthy_side _ (λ r2. healthy_side _ (λ c2. (cell_tail _ (λ v. healthy_ends tests (edit (paint n r1 c1 r2 c2 v)))).healthy)))))
+healthy_command New = healthy_name _ (λ n. (cell_tail _ (λ v. healthy_ends tests (edit (new_layer n v)))).healthy)
 healthy_command Drop = healthy_name _ (λ n. healthy_ends tests (edit (drop n)))
 healthy_command Value = healthy_any _ (λ n. healthy_side _ (λ r. healthy_side _ (λ c. healthy_ends tests (ask (ask_value n r c)))))
 healthy_command Grid = healthy_any _ (λ n. healthy_ends tests (ask (ask_grid n)))

@@ -4,7 +4,7 @@ use Rattle.map_nums.specs.declared.Rate.{Rate}
 use Rattle.map_nums.specs.Numbers.{is_value}
 use Rattle.map_words.specs.Bytes.{Text}
 use Rattle.map_words.specs.Names.{is_plain, is_dotted}
-use Rattle.statement_parser.specs.Lines.{Term, layer, value, Op, local, difference, ratio, rating, Written, plain, Edit, define, paint, drop, Request, ask_value, ask_grid, ask_list, Line, blank, edit, ask, quit}
+use Rattle.statement_parser.specs.Lines.{Term, layer, value, Op, local, difference, ratio, rating, Written, plain, Edit, define, paint, new_layer, drop, Request, ask_value, ask_grid, ask_list, Line, blank, edit, ask, quit}
 
 abbrev pub Each : {A : Type 0} → (A → Type 0) → List A → Type 0
 Each P [] = Unit {0}
@@ -38,6 +38,7 @@ IsSide n = (1 ≤ n) × (n ≤ 4096)
 abbrev pub IsEdit : Edit → Type 0
 IsEdit (define n w) = IsTrue (is_plain n) × IsWritten w
 IsEdit (paint n r1 c1 r2 c2 v) = IsTrue (is_plain n) × IsSide r1 × IsSide c1 × IsSide r2 × IsSide c2 × IsCell v
+IsEdit (new_layer n v) = IsTrue (is_plain n) × IsCell v
 IsEdit (drop n) = IsTrue (is_plain n)
 
 -- a plain or a dotted name

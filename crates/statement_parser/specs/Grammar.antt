@@ -2,12 +2,12 @@
 use Rattle.std.specs.Prelude.{List, [], ◌∷◌, Option, Some, codes}
 use Rattle.map_words.specs.Bytes.{Text}
 use Rattle.grammar_core.specs.Rules.{Rule, Derives, node, ends, on, next, ◌<|>◌}
-use Rattle.statement_parser.specs.Lines.{Manner, Written, plain, define, paint, drop, ask_value, ask_grid, ask_list, Line, blank, edit, ask, quit}
+use Rattle.statement_parser.specs.Lines.{Manner, Written, plain, define, paint, new_layer, drop, ask_value, ask_grid, ask_list, Line, blank, edit, ask, quit}
 use Rattle.statement_parser.specs.Operations.{lookup, operation_named}
 use Rattle.statement_parser.specs.Places.{the, name_of, any_of, side_of, cell_of}
 use Rattle.statement_parser.specs.Bodies.{operation_body}
 use Rattle.statement_parser.specs.declared.command.Command.{Command}
-use Rattle.statement_parser.specs.declared.command.Command.TheVariants.{Paint, Drop, Value, Grid, List as Listing, Quit}
+use Rattle.statement_parser.specs.declared.command.Command.TheVariants.{Paint, New, Drop, Value, Grid, List as Listing, Quit}
 
 -- an operation, and then what f allows
 abbrev pub body_rule : Manner → (Written → Rule Text Line) → Rule Text Line
@@ -22,6 +22,10 @@ abbrev pub paint_rule : Rule Text Line
 paint_rule =
     next name_of (λ n. next side_of (λ r1. next side_of (λ c1. next side_of (λ r2. next side_of (λ c2. next cell_of (λ v.
     ends (edit (paint n r1 c1 r2 c2 v))))))))
+
+-- name cell
+abbrev pub new_rule : Rule Text Line
+new_rule = next name_of (λ n. next cell_of (λ v. ends (edit (new_layer n v))))
 
 -- name
 abbrev pub drop_rule : Rule Text Line
@@ -38,13 +42,14 @@ grid_rule = next any_of (λ n. ends (ask (ask_grid n)))
 -- the lines that begin with a word of their own
 abbrev pub commands : List (Text × Command)
 commands =
-    (codes "paint", Paint) ∷ (codes "drop", Drop) ∷ (codes "value", Value) ∷ (codes "grid", Grid) ∷ (codes "list", Listing) ∷ (codes "quit", Quit) ∷ []
+    (codes "paint", Paint) ∷ (codes "new", New) ∷ (codes "drop", Drop) ∷ (codes "value", Value) ∷ (codes "grid", Grid) ∷ (codes "list", Listing) ∷ (codes "quit", Quit) ∷ []
 
 unfoldable pub command_named : Text → Option Command
 command_named t = lookup commands t
 
 abbrev pub command_rule : Command → Rule Text Line
 command_rule Paint = paint_rule
+command_rule New = new_rule
 command_rule Drop = drop_rule
 command_rule Value = value_rule
 command_rule Grid = grid_rule

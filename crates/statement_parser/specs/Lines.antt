@@ -35,6 +35,8 @@ pub data Edit : Type 0 where
   define : Text → Written → Edit
   -- the first row and column, the last row and column, and the cell
   paint : Text → ℕ → ℕ → ℕ → ℕ → Option ℤ → Edit
+  -- a layer that has this cell everywhere
+  new_layer : Text → Option ℤ → Edit
   drop : Text → Edit
 
 -- a line that asks for something

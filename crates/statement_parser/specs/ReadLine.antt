@@ -5,12 +5,12 @@ use Rattle.grammar_core.specs.declared.Kind.TheVariants.{Syntax}
 use Rattle.grammar_core.specs.declared.Fault.{Fault}
 use Rattle.grammar_core.specs.Run.{refused}
 use Rattle.grammar_core.specs.Readers.{◌>>=◌, Read, one_at, end_at}
-use Rattle.statement_parser.specs.Lines.{Line, plain, define, paint, drop, ask_value, ask_grid, ask_list, blank, edit, ask, quit}
+use Rattle.statement_parser.specs.Lines.{Line, plain, define, paint, new_layer, drop, ask_value, ask_grid, ask_list, blank, edit, ask, quit}
 use Rattle.statement_parser.specs.Places.{the, name_of, any_of, side_of, cell_of, tests}
 use Rattle.statement_parser.specs.Grammar.{command_named}
 use Rattle.statement_parser.specs.ReadLocal.{body_at}
 use Rattle.statement_parser.specs.declared.command.Command.{Command}
-use Rattle.statement_parser.specs.declared.command.Command.TheVariants.{Paint, Drop, Value, Grid, List as Listing, Quit}
+use Rattle.statement_parser.specs.declared.command.Command.TheVariants.{Paint, New, Drop, Value, Grid, List as Listing, Quit}
 
 unfoldable pub define_at : Text → List Text → Result Line Fault
 define_at n ws = do
@@ -35,6 +35,13 @@ paint_at ws = do
   v ← one_at tests cell_of true k.1
   e ← end_at v.1
   Ok (edit (paint n.0 k.0.0 k.0.1 k.0.2 k.0.3 v.0))
+
+unfoldable pub new_at : List Text → Result Line Fault
+new_at ws = do
+  n ← one_at tests name_of false ws
+  v ← one_at tests cell_of true n.1
+  e ← end_at v.1
+  Ok (edit (new_layer n.0 v.0))
 
 unfoldable pub drop_at : List Text → Result Line Fault
 drop_at ws = do
@@ -68,6 +75,7 @@ quit_at ws = do
 
 abbrev pub command_at : Command → List Text → Result Line Fault
 command_at Paint ws = paint_at ws
+command_at New ws = new_at ws
 command_at Drop ws = drop_at ws
 command_at Value ws = value_at ws
 command_at Grid ws = grid_at ws

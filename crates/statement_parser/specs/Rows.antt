@@ -2,7 +2,7 @@
 use Rattle.std.specs.Prelude.{pos, negsuc, [], ◌∷◌, ◌++◌, Some, None, codes}
 use Rattle.map_nums.specs.declared.Stat.TheVariants as stats
 use Rattle.map_words.specs.Bytes.{Text}
-use Rattle.statement_parser.specs.Lines.{first_language, layer, value, local, rating, plain, define, paint, ask_grid, Line, blank, edit, ask}
+use Rattle.statement_parser.specs.Lines.{first_language, layer, value, local, rating, plain, define, paint, new_layer, ask_grid, Line, blank, edit, ask}
 use Rattle.statement_parser.specs.Texts.{LineText, Refusal, syntax, operation, number, RefusedText}
 
 abbrev pub Is : Text → Line → Type 0
@@ -18,6 +18,8 @@ pub record Rows : Type 0 where
   pub rated : Is (codes "R = LocalRating of A with 9 for 1 to 3 with null for -5") (edit (define (codes "R") (plain (rating (layer (codes "A"))
       (record { low = pos 1; high = pos 3; give = Some (pos 9) } ∷ record { low = negsuc 4; high = negsuc 4; give = None } ∷ [])))))
   pub painted : Is (codes "paint A 01 +1 2 2 -0") (edit (paint (codes "A") 1 1 2 2 (Some (pos 0))))
+  pub fresh : Is (codes "new C 1") (edit (new_layer (codes "C") (Some (pos 1))))
+  pub fresh_null : Is (codes "new C null") (edit (new_layer (codes "C") None))
   pub dotted : Is (codes "grid A.result.b") (ask (ask_grid (codes "A.result.b")))
   pub alone : IsRefused (codes "foo") (syntax 4)
   pub unknown : IsRefused (codes "C = LocalSun of A and 1") (operation 5)
@@ -29,6 +31,8 @@ pub record Rows : Type 0 where
   pub reserved_call : IsRefused (codes "C = of(A)") (syntax 5)
   pub not_yet : IsRefused (codes "C = FocalSum of A") (operation 5)
   pub reserved_name : IsRefused (codes "end = LocalSum of A and 1") (syntax 1)
-  pub later_form : IsRefused (codes "new C 1") (syntax 1)
+  pub reserved_layer : IsRefused (codes "new of 1") (syntax 5)
+  pub beyond : IsRefused (codes "new C 2000000001") (number 7)
+  pub later_form : IsRefused (codes "label C 1 x") (syntax 1)
   pub bad_byte : IsRefused (codes "C = LocalSun of " ++ 127 ∷ []) (syntax 17)
   pub ninth : IsRefused (codes "B = LocalSum of 1 and 2 and 3 and 4 and 5 and 6 and 7 and 8 and 9") (syntax 61)

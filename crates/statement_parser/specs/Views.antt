@@ -14,7 +14,7 @@ use Rattle.statement_parser.specs.declared.line.Request as requests
 use Rattle.statement_parser.specs.declared.line.Request.TheVariants as a_request
 use Rattle.statement_parser.specs.declared.line.Line as lines
 use Rattle.statement_parser.specs.declared.line.Line.TheVariants as a_line
-use Rattle.statement_parser.specs.Lines.{Term, layer, value, Op, local, difference, ratio, rating, Written, plain, Edit, define, paint, drop, Request, ask_value, ask_grid, ask_list, Line, blank, edit, ask, quit}
+use Rattle.statement_parser.specs.Lines.{Term, layer, value, Op, local, difference, ratio, rating, Written, plain, Edit, define, paint, new_layer, drop, Request, ask_value, ask_grid, ask_list, Line, blank, edit, ask, quit}
 
 -- the texts of words
 abbrev pub texts_of : List Word → List Text
@@ -39,6 +39,7 @@ written_view (a_written.Plain o) = plain (op_view o)
 abbrev pub edit_view : edits.LineEdit → Edit
 edit_view (an_edit.Define n w) = define n (written_view w)
 edit_view (an_edit.Paint n r1 c1 r2 c2 v) = paint n r1 c1 r2 c2 v
+edit_view (an_edit.New n v) = new_layer n v
 edit_view (an_edit.Drop n) = drop n
 
 abbrev pub request_view : requests.Request → Request

@@ -7,6 +7,7 @@ ghost use Rattle.statement_parser.specs.Grammar.{command_named as command_of_nam
 #[derive(Clone, Copy, Debug, PartialEq, Eq)]
 pub enum Command {
     Paint,
+    New,
     Drop,
     Value,
     Grid,
@@ -21,6 +22,9 @@ pub fn command_named(word: &[u8]) -> Option<Command>
 {
     if word == b"paint".as_slice() {
         return Some(Command::Paint);
+    }
+    if word == b"new".as_slice() {
+        return Some(Command::New);
     }
     if word == b"drop".as_slice() {
         return Some(Command::Drop);

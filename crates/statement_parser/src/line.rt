@@ -25,6 +25,11 @@ pub enum LineEdit {
         c2: u32,
         cell: Cell,
     },
+    /// A layer that has this cell everywhere.
+    New {
+        name: Name,
+        cell: Cell,
+    },
     Drop {
         name: Name,
     },

@@ -4,6 +4,7 @@ ghost use Rattle.std.specs.Prelude.{◌≡◌, ◌<◌, ◌≤◌, ◌^◌, true
 ghost use Rattle.map_words.specs.Bytes.{first_bad, is_silent as is_silent_text};
 ghost use Rattle.map_words.specs.Words.{words_of};
 ghost use Rattle.map_words.specs.Cut.{placed_all};
+ghost use Rattle.statement_parser.specs.LineOf.{line_of, IsLineRead};
 ghost use Rattle.statement_parser.specs.Lines.{first_language};
 ghost use Rattle.statement_parser.specs.Texts.{first_column as first_column_of, column_among, is_short};
 ghost use Rattle.statement_parser.specs.Formed.{IsFormed};
@@ -89,6 +90,7 @@ fn read_line(alloc: Global, line: &[u8]) -> Result<Line, LineRefusal>
 /// The line that bytes are, without their line end, or their first fault.
 pub fn parse_line(alloc: Global, line: &[u8]) -> Result<Line, LineRefusal>
     ensures parsed { IsParsed first_language line_view line.now result }
+    ensures read { IsLineRead (line_of first_language line.now) line_view result }
     ensures formed { IfOk result (λ x. IsFormed (line_view x)) }
 {
     read_line(alloc, line)

@@ -5,7 +5,7 @@ ghost use Rattle.statement_parser.specs.Views.{texts_of, line_view};
 ghost use Rattle.statement_parser.specs.Gives.{Gives};
 ghost use Rattle.statement_parser.specs.Lines.{first_language};
 ghost use Rattle.statement_parser.specs.Parsed.{IsWordsRead};
-ghost use Rattle.statement_parser.specs.ReadLine.{define_at, corners_at, paint_at, drop_at, value_at, grid_at, list_at, quit_at, line_at};
+ghost use Rattle.statement_parser.specs.ReadLine.{define_at, corners_at, paint_at, new_at, drop_at, value_at, grid_at, list_at, quit_at, line_at};
 
 use crate::command::{Command, command_named};
 use crate::fault::ReadError;
@@ -68,6 +68,20 @@ fn paint(alloc: Global, words: &[Word<'_>]) -> Result<Line, ReadError>
     }
 }
 
+#[tactic(auto, unfolding(crate::specs::ReadLine::new_at))]
+fn new_layer(alloc: Global, words: &[Word<'_>]) -> Result<Line, ReadError>
+    ensures { Gives line_view result (new_at (texts_of words.now)) }
+{
+    let (name, rest) = name(alloc, words)?;
+    match cell(rest) {
+        Err(error) => Err(error),
+        Ok((cell, rest)) => {
+            end(rest)?;
+            Ok(Line::Edit(LineEdit::New { name, cell }))
+        }
+    }
+}
+
 #[tactic(auto, unfolding(crate::specs::ReadLine::drop_at))]
 fn drop_line(alloc: Global, words: &[Word<'_>]) -> Result<Line, ReadError>
     ensures { Gives line_view result (drop_at (texts_of words.now)) }
@@ -122,6 +136,7 @@ fn line(alloc: Global, words: &[Word<'_>]) -> Result<Line, ReadError>
         [] => Ok(Line::Blank),
         [first, rest @ ..] => match command_named(first.text) {
             Some(Command::Paint) => paint(alloc, rest),
+            Some(Command::New) => new_layer(alloc, rest),
             Some(Command::Drop) => drop_line(alloc, rest),
             Some(Command::Value) => value(alloc, rest),
             Some(Command::Grid) => grid(alloc, rest),

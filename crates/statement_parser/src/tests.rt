@@ -4,12 +4,17 @@ use std::test::Fail;
 
 #[test]
 fn refused_lines(rt: HostRuntime) -> Result<(), Fail> {
-    let lines: [(&[u8], LineRefusal); 24] = [
+    let lines: [(&[u8], LineRefusal); 29] = [
         (b"foo", LineRefusal::Syntax(4)),
         (b"C = LocalSun of A and 1", LineRefusal::Operation(5)),
         (b"C = LocalSum of A and", LineRefusal::Syntax(22)),
         (b"C = LocalSum of A and  ", LineRefusal::Syntax(24)),
-        (b"new of 1", LineRefusal::Syntax(1)),
+        (b"new of 1", LineRefusal::Syntax(5)),
+        (b"new C 2000000001", LineRefusal::Number(7)),
+        (b"new C x", LineRefusal::Syntax(7)),
+        (b"new C", LineRefusal::Syntax(6)),
+        (b"new A.b 1", LineRefusal::Syntax(5)),
+        (b"new C 1 1", LineRefusal::Syntax(9)),
         (b"paint A 0 1 1 1 1", LineRefusal::Number(9)),
         (b"paint A 1 1 1 4097 1", LineRefusal::Number(15)),
         (b"paint A 1 1 1 1 2000000001", LineRefusal::Number(17)),
@@ -70,8 +75,17 @@ fn rates_end_at_thirty_two(rt: HostRuntime) -> Result<(), Fail> {
     Ok(())
 }
 
+/// What each cell of a new layer holds.
+fn new_cell(alloc: Global, line: &[u8]) -> Option<Option<i32>> {
+    let read = parse_line(alloc, line).ok()?;
+    match &read {
+        Line::Edit(LineEdit::New { cell, .. }) => Some(cell.get()),
+        _ => None,
+    }
+}
+
 #[test]
-fn lines_are_read(rt: HostRuntime) {
+fn each_form_is_read(rt: HostRuntime) {
     assert!(rt; matches!(parse_line(rt.alloc(), b"\t # note \x80"), Ok(Line::Blank)));
     assert!(rt; matches!(parse_line(rt.alloc(), b" quit "), Ok(Line::Quit)));
     assert!(rt;
@@ -92,6 +106,11 @@ fn lines_are_read(rt: HostRuntime) {
             Ok(Line::Edit(LineEdit::Drop { .. }))
         )
     );
+    assert_eq!(rt;
+        new_cell(rt.alloc(), b"new C -2000000000"),
+        Some(Some(-2000000000))
+    );
+    assert_eq!(rt; new_cell(rt.alloc(), b"new C null"), Some(None));
     assert!(rt;
         matches!(
             parse_line(rt.alloc(), b"paint A 1 2 3 4 null"),

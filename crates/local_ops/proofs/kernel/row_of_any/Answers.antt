@@ -1,6 +1,6 @@
-use Rattle.std.proofs.Common.{◌<◌, length, map, arith, refl, sym, ap, ◌∙◌, subst, Bor}
+use Rattle.std.proofs.Common.{◌<◌, length, take, arith, refl, sym, subst}
 use Rattle.std.proofs.lemmas.Result.{err_from_is_err_and}
-use Rattle.map_nums.specs.Answers.{IsAnswer}
+use Rattle.map_nums.specs.Exact.{IsExact}
 use Rattle.map_nums.specs.Grids.{Cells}
 use Rattle.map_defs.specs.Local.{local_cell}
 use Rattle.layer_tiles.specs.Tiles.{tile_height, tile_width}
@@ -12,17 +12,15 @@ use Rattle.local_ops.proofs.kernel.row_of_any.Goals.{After-value_at-answer}
 
 pub value_at-answer-requires-clause-within : goal.value_at-answer-requires-clause-within
 value_at-answer-requires-clause-within c =
-    rows-wide c.deref.result.now c.args.views.now (tile_height c.args.extent c.args.tile) (tile_width c.args.extent c.args.tile) c.loop-c.c
-    (ap (map (λ (row : Bor Cells). length row.now)) c.deref.ensures.value ∙ c.in-Ok.ensures.widths) c.requires.sizes (omega (arith, c.place-place.ensures.place.width))
+    rows-wide (take (length c.args.views.now) c.rows_of-rows.result) c.args.views.now (tile_height c.args.extent c.args.tile) (tile_width c.args.extent c.args.tile) c.loop-c.c c.rows_of-rows.ensures.widths c.requires.sizes (omega (arith, c.place-place.ensures.place.width))
 
 within : (c : After-value_at-answer) → c.loop-c.c < tile_width c.args.extent c.args.tile
 within c = omega (arith, c.place-place.ensures.place.width)
 
 -- the answer is that of the column's cells
-answers : (c : After-value_at-answer) → IsAnswer (local_cell (op_of c.args.op.now) (row_cells c.args.views.now c.args.r c.loop-c.c)) c.value_at-answer.result
+answers : (c : After-value_at-answer) → IsExact (local_cell (op_of c.args.op.now) (row_cells c.args.views.now c.args.r c.loop-c.c)) c.value_at-answer.result
 answers c =
-    let rows = ap (map (λ (row : Bor Cells). row.now)) c.deref.ensures.value ∙ c.in-Ok.ensures.rows in
-    subst (λ (cells : Cells). IsAnswer (local_cell (op_of c.args.op.now) cells) c.value_at-answer.result) (rows-column c.deref.result.now c.args.views.now c.args.r c.loop-c.c rows) c.value_at-answer.ensures
+    subst (λ (cells : Cells). IsExact (local_cell (op_of c.args.op.now) cells) c.value_at-answer.result) (rows-column (take (length c.args.views.now) c.rows_of-rows.result) c.args.views.now c.args.r c.loop-c.c c.rows_of-rows.ensures.rows) c.value_at-answer.ensures
 
 pub returns-in_err-put : goal.returns-in_err-put
 returns-in_err-put c =

@@ -1,6 +1,6 @@
 use Rattle.std.proofs.Common.{◌<◌, arith, refl, sym, subst}
 use Rattle.std.proofs.lemmas.Result.{err_from_is_err_and}
-use Rattle.map_nums.specs.Answers.{IsAnswer}
+use Rattle.map_nums.specs.Exact.{IsExact}
 use Rattle.map_nums.specs.Grids.{Cells}
 use Rattle.map_defs.specs.Local.{local_cell}
 use Rattle.layer_tiles.specs.Tiles.{tile_height, tile_width}
@@ -14,12 +14,12 @@ within : (c : After-of_two-answer) → c.loop-c.c < tile_width c.args.extent c.a
 within c = omega (arith, c.place-place.ensures.place.width)
 
 -- the answer is that of the column's cells
-answers : (c : After-of_two-answer) → IsAnswer (local_cell (op_of c.args.op.now) (row_cells c.args.views.now c.args.r c.loop-c.c)) c.of_two-answer.result
+answers : (c : After-of_two-answer) → IsExact (local_cell (op_of c.args.op.now) (row_cells c.args.views.now c.args.r c.loop-c.c)) c.of_two-answer.result
 answers c =
     let cells = row_cells-two c.args.views.now (tile_height c.args.extent c.args.tile) (tile_width c.args.extent c.args.tile) c.args.r c.loop-c.c c.index-views-0.result c.index-views-1.result c.row-left.result.now c.row-right.result.now c.index-left-c.result c.index-right-c.result c.requires.sizes c.requires.two (within c)
     c.index-views-0.is c.row-left.ensures.row c.row-left.ensures.width c.index-left-c.is
     c.index-views-1.is c.row-right.ensures.row c.row-right.ensures.width c.index-right-c.is in
-    subst (λ (cells : Cells). IsAnswer (local_cell (op_of c.args.op.now) cells) c.of_two-answer.result) (sym cells) c.of_two-answer.ensures
+    subst (λ (cells : Cells). IsExact (local_cell (op_of c.args.op.now) cells) c.of_two-answer.result) (sym cells) c.of_two-answer.ensures
 
 pub returns-in_err-put : goal.returns-in_err-put
 returns-in_err-put c =

@@ -1,0 +1,62 @@
+-- The program of lines gives the line that bytes are, or how they are refused.
+use Rattle.std.proofs.Common.{◌≡◌, ℕ, Bool, true, false, cond, length, Option, Some, None, Result, Ok, Err, refl, ap, subst}
+use Rattle.map_words.specs.Bytes.{Text, first_bad, is_silent}
+use Rattle.grammar_core.specs.declared.Fault.{Fault}
+use Rattle.grammar_core.specs.Run.{run}
+use Rattle.grammar_core.proofs.FirstFault.{found_so, refused_so}
+use Rattle.statement_parser.specs.declared.refusal.LineRefusal.{LineRefusal}
+use Rattle.statement_parser.specs.declared.refusal.LineRefusal.TheVariants as refusals
+use Rattle.statement_parser.specs.Lines.{Manner, Line, blank}
+use Rattle.statement_parser.specs.Places.{tests}
+use Rattle.statement_parser.specs.Grammar.{line_rule}
+use Rattle.statement_parser.specs.Texts.{seen, is_short, LineText, silent, worded, Refusal, long, syntax, operation, number, RefusedText, too_long, bad_byte, bad_word}
+use Rattle.statement_parser.specs.Parsed.{IsParsed}
+use Rattle.statement_parser.specs.LineOf.{of_words, of_bytes, line_of, IsLineOf, IsLineRead}
+use Rattle.statement_parser.proofs.SoundLines.{healthy_line}
+use Rattle.statement_parser.proofs.Whole.{settled_text}
+
+-- the bytes are this line, or are refused so
+abbrev Told : Manner → Text → Result Line Refusal → Type 0
+Told m bytes (Ok x) = LineText m bytes x
+Told m bytes (Err r) = RefusedText m bytes r
+
+words_told : (m : Manner) (bytes : Text) → is_short bytes ≡ true → is_silent bytes ≡ false → first_bad bytes ≡ None → (o : Result Line Fault) → run tests (line_rule m) (seen bytes) ≡ o → Told m bytes (of_words bytes o)
+words_told m bytes short spoken good (Ok x) e = worded short spoken good (found_so tests (line_rule m) (seen bytes) x e)
+words_told m bytes short spoken good (Err f) e = bad_word f.kind f.left short spoken good (refused_so tests (line_rule m) (seen bytes) f (healthy_line m).sound refl e)
+
+bytes_told : (m : Manner) (bytes : Text) (short quiet : Bool) (bad : Option ℕ) → is_short bytes ≡ short → is_silent bytes ≡ quiet → first_bad bytes ≡ bad
+    → Told m bytes (cond short (cond quiet (Ok blank) (of_bytes m bytes bad)) (Err (long (length bytes))))
+bytes_told m bytes false quiet bad e f g = too_long e
+bytes_told m bytes true true bad e f g = silent e f
+bytes_told m bytes true false (Some at) e f g = bad_byte e f g
+bytes_told m bytes true false None e f g = words_told m bytes e f g (run tests (line_rule m) (seen bytes)) refl
+
+told : (m : Manner) (bytes : Text) → Told m bytes (line_of m bytes)
+unfolding line_of
+told m bytes = bytes_told m bytes (is_short bytes) (is_silent bytes) (first_bad bytes) refl refl refl
+
+-- what bytes are is all that they are
+line_told : (m : Manner) (bytes : Text) (o : Result Line Refusal) → Told m bytes o → (x : Line) → LineText m bytes x → o ≡ Ok x
+line_told m bytes (Ok y) t x d = ap (λ (z : Line). Ok z) ((settled_text m bytes).one_line y x t d)
+line_told m bytes (Err r) t x d = absurd ((settled_text m bytes).never_both x r d t)
+
+refusal_told : (m : Manner) (bytes : Text) (o : Result Line Refusal) → Told m bytes o → (r : Refusal) → RefusedText m bytes r → o ≡ Err r
+refusal_told m bytes (Ok x) t r d = absurd ((settled_text m bytes).never_both x r t d)
+refusal_told m bytes (Err s) t r d = ap (λ (q : Refusal). Err q) ((settled_text m bytes).one_refusal s r t d)
+
+pub line_of_is : (m : Manner) (bytes : Text) → IsLineOf m bytes
+line_of_is m bytes = record {
+  line = line_told m bytes (line_of m bytes) (told m bytes);
+  refusal = refusal_told m bytes (line_of m bytes) (told m bytes);
+  is_line = λ x e. subst (Told m bytes) e (told m bytes);
+  is_refused = λ r e. subst (Told m bytes) e (told m bytes);
+}
+
+-- what was parsed is what the program gives
+pub parsed_read : {V : Type 0} (m : Manner) (view : V → Line) (bytes : Text) (r : Result V LineRefusal) → IsParsed m view bytes r → IsLineRead (line_of m bytes) view r
+parsed_read m view bytes (Ok x) h = (line_of_is m bytes).line (view x) h
+parsed_read m view bytes (Err (refusals.Long n)) h = (line_of_is m bytes).refusal (long n) h
+parsed_read m view bytes (Err (refusals.Syntax at)) h = (line_of_is m bytes).refusal (syntax at) h
+parsed_read m view bytes (Err (refusals.Operation at)) h = (line_of_is m bytes).refusal (operation at) h
+parsed_read m view bytes (Err (refusals.Number at)) h = (line_of_is m bytes).refusal (number at) h
+parsed_read m view bytes (Err refusals.NoMemory) h = tt
