@@ -1,3 +1,9 @@
+pub mod Lookups
+pub mod Making
+pub mod Hand
+pub mod Valuing
+pub mod Depths
+pub mod Steps
 mod Items
 mod Groupings
 mod Counts

@@ -1,5 +1,5 @@
 -- The names of a state after an edit, of which nothing is put in place yet.
-use Rattle.std.specs.Prelude.{◌≡◌, ℕ, List, IsTrue, ⊤}
+use Rattle.std.specs.Prelude.{◌≡◌, List, IsTrue, ⊤}
 use Rattle.std.specs.List.{All}
 use Rattle.map_nums.specs.Grids.{Size}
 use Rattle.map_words.specs.Names.{is_plain}

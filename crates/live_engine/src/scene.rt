@@ -41,7 +41,6 @@ pub(crate) enum Found<'a> {
 }
 
 /// What a name stood for before the edit.
-#[tactic(none)]
 fn held<'a>(extent: Extent, names: &'a IndexMap<Name, Item>, name: &Name) -> Option<Found<'a>>
     requires { All (IsHeld extent) names.now.entries }
     ensures def { option_map (found_def name.now) result ≡ find_def (entries_of names.now.entries) name.now }
@@ -56,7 +55,6 @@ fn held<'a>(extent: Extent, names: &'a IndexMap<Name, Item>, name: &Name) -> Opt
 
 impl<'a> Scene<'a> {
     /// What a name stands for after the edit, none where it isn't there.
-    #[tactic(none)]
     pub(crate) fn find(&self, name: &Name) -> Option<Found<'a>>
         requires { IsScene self.now }
         ensures def { option_map (found_def name.now) result ≡ find_def (after_scene self.now) name.now }
