@@ -10,7 +10,8 @@ use Rattle.map_edits.specs.Entries.{Def, source, statement, Entry, find_def, put
 use Rattle.map_edits.specs.Edits.{is_source, is_flat, most_sources, most_flats}
 use Rattle.map_edits.specs.Laws.{IsOwnDef, IsOwn}
 use Rattle.map_edits.proofs.Puts.{own_put, length-nodes_of}
-use Rattle.map_edits.proofs.Accepted.{source_keeps, drop_keeps, statement_keeps}
+use Rattle.map_edits.proofs.Kept.{source_alone}
+use Rattle.map_edits.proofs.Accepted.{drop_keeps, put_keeps}
 use Rattle.statement_graph.specs.Groups.{Group, nodes_in, put_group}
 use Rattle.live_engine.specs.Engines.{AreLawful}
 use Rattle.live_engine.specs.Groups.{groups_of, statement_nodes}
@@ -31,7 +32,7 @@ module _ (es : List Entry) (n : Name) (law : AreLawful es) where
       let more : count_by is_source (put_entry es n d) ≡ count_by is_source es + 1 = sources_put_new es n d none in
       let flats : count_by is_flat (layers es) ≤ 64 = law.flats in
       let few : count_by is_source es < 32 = few in
-      record { well = source_keeps es n law.well grid; sources = omega (arith, more, few); flats = omega (arith, before, after, longer, more, flats) }
+      record { well = put_keeps es n law.well (source grid) tt (source_alone es n law.well.own grid); sources = omega (arith, more, few); flats = omega (arith, before, after, longer, more, flats) }
 
   pub lawful_repaint : (old new : Grid) → find_def es n ≡ Some (source old) → AreLawful (put_entry es n (source new))
   lawful_repaint old new there =
@@ -42,7 +43,7 @@ module _ (es : List Entry) (n : Name) (law : AreLawful es) where
       let same : count_by is_source (put_entry es n d) ≡ count_by is_source es = sources_put_same es n (source old) d there refl in
       let sources : count_by is_source es ≤ 32 = law.sources in
       let flats : count_by is_flat (layers es) ≤ 64 = law.flats in
-      record { well = source_keeps es n law.well new; sources = omega (arith, same, sources); flats = omega (arith, before, after, longer, same, flats) }
+      record { well = put_keeps es n law.well (source new) tt (source_alone es n law.well.own new); sources = omega (arith, same, sources); flats = omega (arith, before, after, longer, same, flats) }
 
   same_sources : (d : Def) (o : Option Def) (written : Written) (flats : List Flat) → d ≡ statement written flats → find_def es n ≡ o → OtherThanSource o → count_by is_source (put_entry es n d) ≡ count_by is_source es
   same_sources d None written flats is none other = subst (λ x. count_by is_source (put_entry es n x) ≡ count_by is_source es) (sym is) (let h : count_by is_source (put_entry es n (statement written flats)) ≡ count_by is_source es + 0 = sources_put_new es n (statement written flats) none in omega (arith, h))
@@ -54,7 +55,7 @@ module _ (es : List Entry) (n : Name) (law : AreLawful es) where
   lawful_define written flats own other few alone =
       let same : count_by is_source (put_entry es n (statement written flats)) ≡ count_by is_source es = same_sources (statement written flats) (find_def es n) written flats refl refl other in
       let sources : count_by is_source es ≤ 32 = law.sources in
-      record { well = statement_keeps es n law.well written flats own alone; sources = omega (arith, same, sources); flats = few }
+      record { well = put_keeps es n law.well (statement written flats) own alone; sources = omega (arith, same, sources); flats = few }
 
   pub lawful_drop : AreLawful (drop_entry es n)
   lawful_drop =

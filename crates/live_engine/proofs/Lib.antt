@@ -10,3 +10,4 @@ mod Counts
 mod Standings
 mod Lawful
 mod Accepting
+mod Editing

@@ -17,7 +17,7 @@ use crate::held::{Held, Item};
 use crate::limits::{MOST_SOURCES, has, sources};
 use crate::placing::place;
 use crate::scene::Shift;
-use layer_tiles::{Layer, Tally};
+use layer_tiles::{Cell, Layer, Tally};
 use map_words::Name;
 use std::alloc::Global;
 
@@ -79,5 +79,28 @@ pub(crate) fn load<M: Tally>(
         return Err(Refusal::Size(extent.rows() as u64, extent.columns() as u64));
     }
     layer.restamp(held.number.saturating_add(1));
+    add_source(held, alloc, name, layer, tally)
+}
+
+/// Makes a layer that has a cell everywhere.
+pub(crate) fn new_layer<M: Tally>(
+    held: &mut Held,
+    alloc: Global,
+    name: Name,
+    cell: Cell,
+    tally: &mut M,
+) -> Result<Accepted, Refusal>
+    requires kept { IsKeptIn held.old }
+    requires room { 0 < spare held.old.names }
+    requires plain { IsTrue (is_plain name) }
+    ensures accepts { Accepts (seen_in held.old) (seen_in held.new) (edits.new_layer name cell) result }
+    ensures kept { IsKeptIn held.new }
+    ensures parts { KeepsParts (M.counts tally.old) (M.counts tally.new) }
+{
+    if has(&held.names, &name) {
+        return Err(Refusal::Exists(name));
+    }
+    let stamp = held.number.saturating_add(1);
+    let layer = Layer::constant(alloc, held.extent, cell, stamp)?;
     add_source(held, alloc, name, layer, tally)
 }

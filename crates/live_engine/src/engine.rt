@@ -11,7 +11,7 @@ ghost use Rattle.live_engine.specs.Holdings.{seen_in, IsKeptIn};
 ghost use Rattle.live_engine.specs.Parts.{KeepsParts};
 ghost use Rattle.live_engine.specs.Asked.{TellsLayer, listed, listed_of};
 
-use crate::adding::load;
+use crate::adding::{load, new_layer};
 use crate::defining::define;
 use crate::dropping::drop_name;
 use crate::edits::{Accepted, Edit, Refusal};
@@ -74,6 +74,7 @@ fn apply_line<M: Tally>(
             };
             paint(held, alloc, name, rectangle, cell, tally)
         }
+        LineEdit::New { name, cell } => new_layer(held, alloc, name, cell, tally),
         LineEdit::Drop { name } => drop_name(held, alloc, name, tally),
     }
 }
