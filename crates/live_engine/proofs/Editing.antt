@@ -1,7 +1,10 @@
 -- What each edit makes of the entries, and why it is refused.
-use Rattle.std.proofs.Common.{◌≡◌, ℕ, ℤ, suc, ◌+◌, ◌≤◌, ◌<◌, ◌^◌, ◌&&◌, Bool, true, false, cond, List, [], ◌∷◌, ◌++◌, length, count_by, nat_lt, Option, Some, None, is_some, option_map, Result, Ok, Err, bytes_eq, IsFalse, IsTrue, refl, sym, ap, subst, ◌∙◌, arith}
+use Rattle.std.proofs.Common.{◌≡◌, ℕ, ℤ, suc, ◌+◌, ◌≤◌, ◌<◌, ◌^◌, ◌&&◌, Bool, true, false, cond, List, [], ◌∷◌, ◌++◌, length, count_by, nat_lt, nat_eq, IfSome, Option, Some, None, is_some, option_map, Result, Ok, Err, bytes_eq, IsFalse, IsTrue, refl, sym, ap, subst, ◌∙◌, arith}
 use Rattle.std.specs.List.{All}
-use Rattle.std.proofs.lemmas.Bool.{lt-ltb, le-ltb, eq-eqb}
+use Rattle.std.proofs.lemmas.Bool.{lt-ltb, le-ltb, and_parts, eqb-true}
+use Rattle.std.specs.Map.{lookup, set_value}
+use Rattle.layer_tiles.specs.Layers.{LayerState, IsCommitted}
+use Rattle.layer_tiles.specs.Patches.{PatchState, patched}
 use Rattle.map_nums.specs.Grids.{Size, Grid, constant}
 use Rattle.map_defs.specs.Ops.{Name, Op}
 use Rattle.map_defs.specs.Nodes.{Node}
@@ -18,27 +21,32 @@ use Rattle.statement_graph.specs.Groups.{Group, nodes_in, has_group, put_group, 
 use Rattle.statement_graph.specs.Puts.{source_node}
 use Rattle.map_edits.specs.Entries.{Def, source, statement, Entry, find_def, put_entry, drop_entry, layers, nodes_of}
 use Rattle.map_edits.specs.EngineStates.{EngineState}
-use Rattle.map_edits.specs.Faults.{fault_of}
-use Rattle.map_edits.specs.Edits.{Edit, load, new_layer, paint, define, drop_name, Rectangle, Refusal, unknown, is_derived, exists_already, wrong_size, beyond, cycle, sources, statements, zonals, is_source, is_flat, is_zonal, is_within, painted, same_size, add_source, paint_source, bounded, put_statement, define_entry, entries_after}
-use Rattle.map_edits.specs.Laws.{IsOwnDef}
-use Rattle.live_engine.specs.Held.{def_of, flats_of, entries_of}
+use Rattle.map_edits.specs.Faults.{overflow, fault_of}
+use Rattle.map_edits.specs.Edits.{Edit, load, new_layer, paint, define, drop_name, Rectangle, Refusal, unknown, is_derived, exists_already, wrong_size, beyond, cycle, sources, statements, zonals, is_source, is_flat, is_zonal, is_within, painted, same_size, add_source, paint_source, bounded, put_statement, define_entry, entries_after, accept}
+use Rattle.map_edits.specs.Laws.{IsOwnDef, IsWellMade}
+use Rattle.map_edits.proofs.Dropped.{drop_has_no_fault}
+use Rattle.live_engine.specs.Held.{grid_of, def_of, flats_of, entries_of}
+use Rattle.live_engine.specs.Commits.{IsPainted, PutsTiles}
+use Rattle.live_engine.specs.Refusals.{refusal_of}
 use Rattle.live_engine.specs.Groups.{groups_of, statement_nodes, written_node}
 use Rattle.live_engine.specs.Engines.{IsHeld, AreLawful}
 use Rattle.live_engine.specs.Scenes.{state_with}
 use Rattle.live_engine.specs.Standing.{standing_of, OtherThanSource}
-use Rattle.live_engine.specs.Values.{AreValues}
-use Rattle.live_engine.specs.Accepts.{Accepts}
+use Rattle.live_engine.specs.Values.{AreValues, IsEvaluation}
+use Rattle.live_engine.specs.Accepts.{Refuses, Accepts}
 use Rattle.live_engine.specs.Holdings.{entries_in, seen_in, IsKeptIn, IsPlaced}
 use Rattle.live_engine.specs.declared.edits.Accepted.{Accepted}
 use Rattle.live_engine.specs.declared.held.Item.{Item}
 use Rattle.live_engine.specs.declared.held.Held.{Held}
-use Rattle.live_engine.specs.declared.held.Item.TheVariants.{Statement}
+use Rattle.live_engine.specs.declared.held.Item.TheVariants.{Source, Statement}
 use Rattle.live_engine.specs.declared.limits.Kind.{Kind}
 use Rattle.live_engine.specs.declared.limits.Kind.TheVariants as kinds
 use Rattle.live_engine.specs.declared.values.Valued.{Valued}
+use Rattle.live_engine.specs.declared.values.Halt.{Halt}
+use Rattle.live_engine.specs.declared.values.Halt.TheVariants as halts
 use Rattle.live_engine.proofs.Counts.{flats_is, no_zonals, statement_nodes_is}
-use Rattle.live_engine.proofs.Groupings.{nodes_in_groups, has_group_is, groups_put, groups_add}
-use Rattle.live_engine.proofs.Items.{entries_insert}
+use Rattle.live_engine.proofs.Groupings.{nodes_in_groups, has_group_is, groups_put, groups_add, groups_drop}
+use Rattle.live_engine.proofs.Items.{find_item, entries_insert, entries_set, held_set}
 use Rattle.live_engine.proofs.Lawful.{nodes_few, nodes_put_few, lawful_define}
 use Rattle.live_engine.proofs.Accepting.{accept_err, placed_accepts, placed_kept}
 
@@ -217,3 +225,65 @@ module _ (held : Held) (n : Name) (written : writtens.Written) (kept : IsKeptIn 
   pub lawful_with : (count : ℕ) → count ≡ count_by is_flat (layers with_it) → count ≤ 64 → is_looped (nodes_of with_it) n ≡ false → AreLawful with_it
   lawful_with count is few alone =
       lawful_define (entries_in held) n kept.lawful (written_view written) (flats_of n (written_view written)) (own_defined n (written_view written)) other (subst (λ k. k ≤ 64) is few) alone
+
+-- ---- sizes
+
+pub size_refused : (s : EngineState) (edit : Edit) (rows columns : ℕ) → entries_after s edit ≡ Err (wrong_size s.size) → rows ≡ s.size.rows → columns ≡ s.size.columns → accept s edit ≡ Err (wrong_size (record { rows = rows; columns = columns }))
+size_refused s edit rows columns after r c =
+    accept_err s edit (wrong_size s.size) after
+    ∙ ap (λ x. Err (wrong_size (record { rows = x; columns = s.size.columns }))) (sym r) ∙ ap (λ x. Err (wrong_size (record { rows = rows; columns = x }))) (sym c)
+
+pub size_is : (a b : Size) → same_size a b ≡ true → a ≡ b
+size_is a b e =
+    let p = and_parts (nat_eq a.rows b.rows) (nat_eq a.columns b.columns) e in
+    ap (λ r. record { rows = r; columns = a.columns }) (eqb-true a.rows b.rows p.0) ∙ ap (λ c. record { rows = b.rows; columns = c }) (eqb-true a.columns b.columns p.1)
+
+-- ---- a drop that halts
+
+pub drop_halted : (s : EngineState) (n : Name) (halt : Halt) → is_some (find_def s.entries n) ≡ true → IsWellMade s.entries → fault_of s ≡ None → IsEvaluation (state_with s.size (drop_entry s.entries n)) (Err halt) → Refuses s s (drop_name n) (refusal_of halt)
+drop_halted s n (halts.Overflow m r c) there well none some =
+    let no_fault : fault_of (state_with s.size (drop_entry s.entries n)) ≡ None = drop_has_no_fault s (state_with s.size (drop_entry s.entries n)) n refl refl well none in
+    let both : None ≡ Some (overflow m r c) = sym no_fault ∙ some in
+    absurd cc
+drop_halted s n halts.NoMemory there well none some = refl
+
+pub dropped_groups : (held : Held) (n : Name) (graph : List Group) → IsKeptIn held → graph ≡ drop_group held.graph n → graph ≡ groups_of (drop_entry (entries_in held) n)
+dropped_groups held n graph kept is = is ∙ ap (λ g. drop_group g n) kept.graph_is ∙ groups_drop (entries_in held) n
+
+-- ---- a source that is painted
+
+pub item_def : (items : List (List ℕ × Item)) (n : Name) (o : Option Item) → lookup (bytes_eq n) items ≡ o → find_def (entries_of items) n ≡ option_map (def_of n) o
+item_def items n o e = find_item items n ∙ ap (option_map (def_of n)) e
+
+abbrev pub tiles_grid : LayerState → PatchState → Grid
+tiles_grid layer patch = record { size = layer.size; cells = patched layer.size layer.cells patch.tiles }
+
+-- tiles that are painted make the entries that the machine has after the paint
+pub paint_tiles : (s : EngineState) (n : Name) (r : Rectangle) (cell : Option ℤ) (layer : LayerState) (patch : PatchState) → find_def s.entries n ≡ Some (source (grid_of layer)) → is_within s.size r ≡ true → layer.size ≡ s.size
+    → patched layer.size layer.cells patch.tiles ≡ (painted layer.size r cell (grid_of layer)).cells → entries_after s (paint n r cell) ≡ Ok (put_entry s.entries n (source (tiles_grid layer patch)))
+paint_tiles s n r cell layer patch there within size cells =
+    let tiles : tiles_grid layer patch ≡ painted layer.size r cell (grid_of layer) = ap (λ cs. record { size = layer.size; cells = cs }) cells in
+    let own : painted layer.size r cell (grid_of layer) ≡ painted s.size r cell (grid_of layer) = ap (λ z. painted z r cell (grid_of layer)) size in
+    paint_paints s n r cell (grid_of layer) there within ∙ ap (λ g. Ok (put_entry s.entries n (source g))) (sym (tiles ∙ own))
+
+module _ (items : List (List ℕ × Item)) (n : Name) (layer : LayerState) (there : lookup (bytes_eq n) items ≡ Some (Source layer)) where
+  pub def_there : find_def (entries_of items) n ≡ Some (source (grid_of layer))
+  def_there = find_item items n ∙ ap (option_map (def_of n)) there
+
+  module _ (patch : PatchState) (stamp : ℕ) (new : List (List ℕ × Item)) (put : PutsTiles items new n patch stamp) where
+    puts : (after : Item) × IsPainted (Source layer) patch stamp after × (new ≡ set_value (bytes_eq n) items after)
+    puts = subst (λ o. IfSome o (λ item. (after : Item) × IsPainted item patch stamp after × (new ≡ set_value (bytes_eq n) items after))) there put
+
+    new_is : (p : (after : Item) × IsPainted (Source layer) patch stamp after × (new ≡ set_value (bytes_eq n) items after)) → new ≡ set_value (bytes_eq n) items (Source p.1.0)
+    new_is p = p.2 ∙ ap (set_value (bytes_eq n) items) p.1.2
+
+    grid_is : (p : (painted : LayerState) × IsCommitted layer patch stamp painted × ((Source painted) ≡ (Source painted))) → grid_of p.0 ≡ tiles_grid layer patch
+    grid_is p = ap (λ s. record { size = s; cells = p.0.cells }) p.1.size ∙ ap (λ c. record { size = layer.size; cells = c }) p.1.cells
+
+    pub painted_entries : entries_of new ≡ put_entry (entries_of items) n (source (tiles_grid layer patch))
+    painted_entries =
+        ap entries_of (new_is puts) ∙ entries_set items n (Source puts.1.0) (ap is_some there)
+        ∙ ap (λ g. put_entry (entries_of items) n (source g)) (grid_is (puts.1.0, puts.1.1, refl))
+
+    pub painted_held : (size : Size) → layer.size ≡ size → All (IsHeld size) items → All (IsHeld size) new
+    painted_held size same held = subst (All (IsHeld size)) (sym (new_is puts)) (held_set size items n held (Source puts.1.0) (puts.1.1.size ∙ same))

@@ -17,7 +17,7 @@ use crate::held::{Held, Item};
 use crate::limits::{MOST_SOURCES, has, sources};
 use crate::placing::place;
 use crate::scene::Shift;
-use layer_tiles::{Cell, Layer, Tally};
+use layer_tiles::{Cell, Extent, Layer, Tally};
 use map_words::Name;
 use std::alloc::Global;
 
@@ -55,6 +55,12 @@ fn add_source<M: Tally>(
     }
 }
 
+fn same_size(one: Extent, other: Extent) -> bool
+    ensures { result ≡ edits.same_size one other }
+{
+    one.rows() == other.rows() && one.columns() == other.columns()
+}
+
 /// Loads a layer.
 pub(crate) fn load<M: Tally>(
     held: &mut Held,
@@ -74,8 +80,7 @@ pub(crate) fn load<M: Tally>(
         return Err(Refusal::Exists(name));
     }
     let extent = held.extent;
-    let size = layer.extent();
-    if size.rows() != extent.rows() || size.columns() != extent.columns() {
+    if !same_size(layer.extent(), extent) {
         return Err(Refusal::Size(extent.rows() as u64, extent.columns() as u64));
     }
     layer.restamp(held.number.saturating_add(1));
