@@ -1,8 +1,10 @@
 -- When an edit is accepted, and what is then held.
-use Rattle.std.proofs.Common.{◌≡◌, ℕ, Bool, true, false, cond, List, [], ◌∷◌, Option, Some, None, Result, Ok, Err, refl, sym, ap, subst, ◌∙◌}
+use Rattle.std.proofs.Common.{◌≡◌, ℕ, Bool, true, false, cond, List, [], ◌∷◌, Option, Some, None, Result, Ok, Err, refl, sym, ap, subst, ◌∙◌, arith}
 use Rattle.std.specs.List.{All}
 use Rattle.map_nums.specs.Counts.{raised}
 use Rattle.map_nums.specs.Grids.{Size}
+use Rattle.std.proofs.lemmas.List.Elements.{All-nil}
+use Rattle.map_defs.specs.Depths.{by_depth, is_looped}
 use Rattle.map_defs.specs.Ops.{Name}
 use Rattle.statement_graph.specs.Groups.{Group}
 use Rattle.map_edits.specs.Entries.{Entry}
@@ -68,10 +70,10 @@ module _ (s : EngineState) (edit : Edit) (es : List Entry) (after : entries_afte
 
 -- ---- what is held after
 
-same_state : (size size' : Size) (items items' : List (List ℕ × Item)) (k k' : ℕ) → size' ≡ size → items' ≡ items → k' ≡ k → seen size items k ≡ seen size' items' k'
+pub same_state : (size size' : Size) (items items' : List (List ℕ × Item)) (k k' : ℕ) → size' ≡ size → items' ≡ items → k' ≡ k → seen size items k ≡ seen size' items' k'
 same_state size size' items items' k k' p q r = ap (λ s. seen s items k) (sym p) ∙ ap (λ x. seen size' x k) (sym q) ∙ ap (λ x. seen size' items' x) (sym r)
 
-kept_at : (size size' : Size) (items items' : List (List ℕ × Item)) (graph graph' : List Group) (values values' : List Valued) (k k' : ℕ)
+pub kept_at : (size size' : Size) (items items' : List (List ℕ × Item)) (graph graph' : List Group) (values values' : List Valued) (k k' : ℕ)
     → size' ≡ size → items' ≡ items → graph' ≡ graph → values' ≡ values → k' ≡ k → IsKept size items graph values k → IsKept size' items' graph' values' k'
 kept_at size size' items items' graph graph' values values' k k' p q g v r kept =
     subst (λ x. IsKept size' items' graph' values' x) (sym r)
@@ -98,3 +100,15 @@ module _ (old new : Held) (edit : Edit) (items : List (List ℕ × Item)) (graph
         values_are = values_with old.extent (entries_of items) (raised old.number 1) values is.0;
         faultless = fault_with old.extent (entries_of items) (raised old.number 1) ∙ is.1;
       })
+
+-- ---- nothing is held at first
+
+pub nothing_kept : (size : Size) → IsKept size [] [] [] 0
+unfolding fault_of by_depth is_looped
+nothing_kept size = record {
+  held = All-nil (IsHeld size);
+  lawful = record { well = record { none_looped = λ n. refl; own = tt; apart = tt }; sources = omega arith; flats = omega arith };
+  graph_is = refl;
+  values_are = λ n op is. absurd cc;
+  faultless = refl;
+}

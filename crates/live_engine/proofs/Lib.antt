@@ -11,3 +11,4 @@ mod Standings
 mod Lawful
 mod Accepting
 mod Editing
+mod Reading

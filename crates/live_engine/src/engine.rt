@@ -1,7 +1,6 @@
 //! The engine.
 
-ghost use Rattle.std.specs.Prelude.{◌≡◌, ◌<◌, ◌≤◌, slice_get};
-ghost use Rattle.std.specs.Option.{option_map};
+ghost use Rattle.std.specs.Prelude.{◌≡◌, ◌<◌, ◌≤◌, IfOk, option_map, slice_get};
 ghost use Rattle.indexmap.specs.IndexMap.{spare};
 ghost use Rattle.statement_parser.specs.Views.{edit_view};
 ghost use Rattle.statement_parser.specs.Formed.{IsEdit};
@@ -17,9 +16,11 @@ use crate::dropping::drop_name;
 use crate::edits::{Accepted, Edit, Refusal};
 use crate::held::Held;
 use crate::painting::Rectangle;
+use crate::reads::{Entry, Missing, entry_in, layer_in};
 use crate::repainting::paint;
 use indexmap::IndexMap;
-use layer_tiles::{Extent, Tally};
+use layer_tiles::{Extent, Layer, Tally};
+use map_words::Name;
 use statement_graph::Graph;
 use statement_parser::LineEdit;
 use std::alloc::Global;
@@ -144,5 +145,20 @@ impl Engine {
         ensures { result ≡ self.now.size }
     {
         self.held.extent
+    }
+
+    /// The layer of a name, or why it has none.
+    pub fn layer(&self, name: &Name) -> Result<&Layer, Missing<'_>>
+        ensures tells { TellsLayer self.now name.now result }
+        ensures size { IfOk result (λ layer. layer.now.size ≡ self.now.size) }
+    {
+        layer_in(&self.held, name)
+    }
+
+    /// The name at a place in order of place, from 0; none past the last.
+    pub fn entry(&self, place: u32) -> Option<Entry<'_>>
+        ensures { option_map listed_of result ≡ option_map listed (slice_get self.now.entries place) }
+    {
+        entry_in(&self.held, place)
     }
 }

@@ -208,7 +208,7 @@ fn operand_of<'a>(
 }
 
 /// The layer that is kept for a name.
-fn layer_of<'a>(values: &'a [Valued], name: &Name) -> Option<&'a Layer>
+pub(crate) fn layer_of<'a>(values: &'a [Valued], name: &Name) -> Option<&'a Layer>
     ensures { option_map (λ l. grid_of l.now) result ≡ kept values.now name.now }
 {
     match values.iter().find(|valued| valued.name == *name) {
