@@ -1,10 +1,10 @@
 -- The loop over the statements by depth: what is kept after the first of them.
-use Rattle.std.proofs.Common.{◌≡◌, ℕ, suc, ◌+◌, ◌≤◌, Bool, true, false, cond, not, ◌&&◌, ◌||◌, nat_lt, List, [], ◌∷◌, ◌++◌, map, find, take, drop, length, slice_get, Option, Some, None, Ok, Err, option_map, is_some, bytes_eq, ◌⊎◌, refl, sym, ap, subst, ◌∙◌, arith, inl, inr, Bor, get_or, option_copied, ◌<◌, ◌^◌, if◌then◌else◌}
+use Rattle.std.proofs.Common.{◌≡◌, ℕ, suc, ◌+◌, ◌≤◌, Bool, true, false, cond, not, ◌&&◌, ◌||◌, nat_lt, List, [], ◌∷◌, ◌++◌, map, filter, find, take, drop, length, slice_get, Option, Some, None, Ok, Err, option_map, is_some, bytes_eq, ◌⊎◌, refl, sym, ap, subst, ◌∙◌, arith, inl, inr, Bor, get_or, option_copied, ◌<◌, ◌^◌, if◌then◌else◌}
 use Rattle.std.specs.List.{All, IsDistinct}
 use Rattle.std.specs.Map.{keys_of}
 use Rattle.std.proofs.lemmas.Bool.{false≢true, or_cases, cases_lt}
-use Rattle.std.proofs.lemmas.List.{take_all, map-append}
-use Rattle.std.proofs.lemmas.List.Elements.{All-push, All-nil}
+use Rattle.std.proofs.lemmas.List.{take_all, map-append, append-nil}
+use Rattle.std.proofs.lemmas.List.Elements.{All-push, All-nil, filter-append}
 use Rattle.std.proofs.lemmas.List.Folds.{list_any-append}
 use Rattle.std.proofs.lemmas.Option.{none-some, same_Some, slice_get-get_or, slice_get_within}
 use Rattle.map_nums.specs.Grids.{Size, Grid}
@@ -28,7 +28,7 @@ use Rattle.map_edits.proofs.Listed.{IsListed, listed_at}
 use Rattle.statement_graph.specs.declared.node.Node.{Node as Given}
 use Rattle.statement_graph.specs.Puts.{flat_node}
 use Rattle.live_engine.specs.Held.{grid_of}
-use Rattle.live_engine.specs.Values.{IsOfStamp, kept, at_hand, AreValues, IsValued, IsEvaluation}
+use Rattle.live_engine.specs.Values.{IsOfStamp, kept, at_hand, AreValues, IsValued, IsEvaluation, defined_names}
 use Rattle.live_engine.specs.Scenes.{after_scene}
 use Rattle.live_engine.specs.declared.scene.Scene.{Scene}
 use Rattle.live_engine.specs.declared.values.Halt.{Halt}
@@ -78,12 +78,22 @@ first_then (Some g ∷ os) more f e = absurd (none-some g (sym e))
 
 -- ---- the first statements
 
--- no fault so far; what is kept is a value, and each value of a statement so far is kept
+abbrev defined_in : EngineState → List Node → List Node
+defined_in s nodes = filter (λ (node : Node). is_some (value_of s node.name)) nodes
+
+abbrev names_of : List Node → List Name
+names_of nodes = map (λ (node : Node). node.name) nodes
+
+abbrev names_kept : List Valued → List Name
+names_kept values = map (λ (v : Valued). v.name) values
+
+-- no fault so far; what is kept is a value, and each value of a statement so far is kept, in order
 pub record IsUpTo (s : EngineState) (stamp : ℕ) (before : List Node) (values : List Valued) : Type 0 where
   pub faultless : first_fault (faults_in s before) ≡ None
   pub sound : (n : Name) (grid : Grid) → kept values n ≡ Some grid → value_of s n ≡ Some grid
   pub whole : (n : Name) → is_named_in n before ≡ true → is_some (value_of s n) ≡ true → is_some (kept values n) ≡ true
   pub stamped : All (IsOfStamp s.size stamp) values
+  pub names : map (λ (v : Valued). v.name) values ≡ map (λ (node : Node). node.name) (filter (λ (node : Node). is_some (value_of s node.name)) before)
 
 pub none_so_far : (s : EngineState) (stamp : ℕ) (values : List Valued) → values ≡ [] → IsUpTo s stamp [] values
 none_so_far s stamp values is = rw is (record {
@@ -91,6 +101,7 @@ none_so_far s stamp values is = rw is (record {
   sound = λ n grid e. absurd (none-some grid e);
   whole = λ n e there. absurd (false≢true e);
   stamped = All-nil (IsOfStamp s.size stamp);
+  names = refl;
 })
 
 -- ---- a statement's fault
@@ -138,6 +149,12 @@ module _ (s : EngineState) (stamp : ℕ) (before : List Node) (values : List Val
       ∙ first_push (faults_in s before) (fault_of_layer s node.name) up.faultless
       ∙ ap (λ o. first_fault (o ∷ [])) e
 
+  names_more : (b : Bool) → is_some (value_of s node.name) ≡ b → names_of (defined_in s (before ++ node ∷ [])) ≡ names_of (defined_in s before) ++ names_of (cond b (node ∷ []) [])
+  names_more b e =
+      ap names_of (filter-append (λ (x : Node). is_some (value_of s x.name)) before (node ∷ []))
+      ∙ map-append (λ (x : Node). x.name) (defined_in s before) (defined_in s (node ∷ []))
+      ∙ ap (λ c. names_of (defined_in s before) ++ names_of (cond c (node ∷ []) [])) e
+
   -- an undefined one
   skipped : value_of s node.name ≡ None → IsUpTo s stamp (before ++ node ∷ []) values
   skipped e = record {
@@ -145,6 +162,7 @@ module _ (s : EngineState) (stamp : ℕ) (before : List Node) (values : List Val
     sound = up.sound;
     whole = λ m named there. go m (named_push before node m named) there;
     stamped = up.stamped;
+    names = up.names ∙ sym (append-nil (names_of (defined_in s before))) ∙ sym (names_more false (ap is_some e));
   }
     where
       go : (m : Name) → (is_named_in m before ≡ true) ⊎ (bytes_eq node.name m ≡ true) → is_some (value_of s m) ≡ true → is_some (kept values m) ≡ true
@@ -158,6 +176,11 @@ module _ (s : EngineState) (stamp : ℕ) (before : List Node) (values : List Val
     sound = λ n grid e. sound_at n grid (kept values n) refl (sym (kept_push values v n) ∙ e);
     whole = λ m h there. ap is_some (kept_push values v m) ∙ whole_at m (kept values m) refl (named_push before node m h) there;
     stamped = All-push (IsOfStamp s.size stamp) values v up.stamped fresh;
+    names =
+        map-append (λ (x : Valued). x.name) values (v ∷ [])
+        ∙ ap (λ ns. ns ++ v.name ∷ []) up.names
+        ∙ ap (λ n. names_of (defined_in s before) ++ n ∷ []) named
+        ∙ sym (names_more true (ap is_some value));
   }
     where
       new_at : (n : Name) (grid : Grid) (b : Bool) → bytes_eq v.name n ≡ b → (if b then Some (grid_of v.layer) else None) ≡ Some grid → value_of s n ≡ Some grid
@@ -307,6 +330,9 @@ module _ (s : EngineState) (stamp : ℕ) (settled : IsSettled s.entries) (k : �
       where
         listed : is_named_in n (by_depth nodes) ≡ true
         listed = all_flats_listed nodes settled.none_looped n (made_node n (by_op op)) (needs_of op) (find_node-making (layers s.entries) n ∙ ap (option_map (made_node n)) e) refl
+
+    pub all_named : names_kept values ≡ defined_names s
+    all_named = up.names ∙ ap (λ ns. names_of (defined_in s ns)) (take_all k (by_depth nodes) long)
 
     pub all_done : AreValues s values × (fault_of s ≡ None)
     unfolding fault_of

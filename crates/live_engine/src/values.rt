@@ -16,7 +16,7 @@ ghost use Rattle.map_edits.specs.Laws.{HasNoCycle};
 ghost use Rattle.live_engine.specs.Held.{grid_of};
 ghost use Rattle.live_engine.specs.Parts.{KeepsParts};
 ghost use Rattle.live_engine.specs.Scenes.{IsScene, after_scene, state_of};
-ghost use Rattle.live_engine.specs.Values.{IsEvaluation, IsOfStamp, IsValued, IsHalt, at_hand, kept};
+ghost use Rattle.live_engine.specs.Values.{IsEvaluation, IsOfStamp, IsValued, IsHalt, at_hand, defined_names, kept};
 
 use crate::scene::{Found, Scene};
 use layer_tiles::{Cell, Change, Extent, KernelRefusal, Layer, Operands, Tally};
@@ -54,6 +54,7 @@ pub(crate) fn evaluate_all<M: Tally>(
     requires few { length (nodes_in graph.now) < 2 ^ 32 }
     requires acyclic { HasNoCycle (nodes_of (after_scene scene.now)) }
     ensures values { IsEvaluation (state_of scene.now) result }
+    ensures names { IfOk result (λ values. map (λ v. v.name) values.items ≡ defined_names (state_of scene.now)) }
     ensures layers { IfOk result (λ values. All (IsOfStamp scene.now.extent stamp) values.items) }
     ensures parts { KeepsParts (M.counts tally.old) (M.counts tally.new) }
 {
@@ -154,12 +155,7 @@ fn overflow(alloc: Global, extent: Extent, name: &Name, at: u32) -> Halt
 }
 
 /// The operands of an operation.
-fn operands_of<'a>(
-    scene: &Scene<'a>,
-    values: &'a [Valued],
-    stamp: u64,
-    op: &Op,
-) -> Operands<'a>
+fn operands_of<'a>(scene: &Scene<'a>, values: &'a [Valued], stamp: u64, op: &Op) -> Operands<'a>
     requires scene { IsScene scene.now }
     requires stamped { All (IsOfStamp scene.now.extent stamp) values.now }
     requires formed { IsOp (op_view op.now) }
@@ -178,12 +174,7 @@ fn operands_of<'a>(
 }
 
 /// A layer that is there, or a number everywhere.
-fn operand_of<'a>(
-    scene: &Scene<'a>,
-    values: &'a [Valued],
-    stamp: u64,
-    term: &Term,
-) -> Change<'a>
+fn operand_of<'a>(scene: &Scene<'a>, values: &'a [Valued], stamp: u64, term: &Term) -> Change<'a>
     requires scene { IsScene scene.now }
     requires stamped { All (IsOfStamp scene.now.extent stamp) values.now }
     requires formed { IsTerm (term_view term.now) }

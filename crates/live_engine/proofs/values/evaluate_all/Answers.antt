@@ -10,7 +10,7 @@ use Rattle.live_engine.specs.Scenes.{after_scene, state_of}
 use Rattle.live_engine.specs.Values.{at_hand, IsValued}
 use Rattle.live_engine.specs.declared.values.Valued.{Valued}
 use Rattle.live_engine.proofs.Valuing.{parts_twice}
-use Rattle.live_engine.proofs.Steps.{settled_scene, given_at, none_past, counts_on, lacks_as_told, statement_at, there_at, step_skipped, step_pushed, step_halted, all_done}
+use Rattle.live_engine.proofs.Steps.{settled_scene, given_at, none_past, counts_on, lacks_as_told, statement_at, there_at, step_skipped, step_pushed, step_halted, all_done, all_named}
 use Rattle.live_engine.proofs.values.evaluate_all.Goals as goal
 
 pub overflow_add-k : goal.overflow_add-k
@@ -112,3 +112,12 @@ returns-clause-values g c =
     let k = c.loop-node.k in
     let long = none_past ns nodes k c.node.result c.node.ensures c.requires.graph c.in_default.not-Some in
     all_done (state_of scene) c.args.stamp (settled_scene scene c.requires.acyclic c.len-count.ensures.unique) k c.loop-node.values.items c.loop-node.invariant.up long
+
+pub returns-clause-names : goal.returns-clause-names
+returns-clause-names g c =
+    let ns = nodes_in c.args.graph.now in
+    let scene = c.args.scene.now in
+    let nodes = nodes_of (after_scene scene) in
+    let k = c.loop-node.k in
+    let long = none_past ns nodes k c.node.result c.node.ensures c.requires.graph c.in_default.not-Some in
+    all_named (state_of scene) c.args.stamp (settled_scene scene c.requires.acyclic c.len-count.ensures.unique) k c.loop-node.values.items c.loop-node.invariant.up long
