@@ -1,5 +1,5 @@
 -- The loop over the statements by depth: what is kept after the first of them.
-use Rattle.std.proofs.Common.{◌≡◌, ℕ, suc, ◌+◌, ◌≤◌, Bool, true, false, cond, not, ◌&&◌, ◌||◌, nat_lt, List, [], ◌∷◌, ◌++◌, map, filter, find, take, drop, length, slice_get, Option, Some, None, Ok, Err, option_map, is_some, bytes_eq, ◌⊎◌, refl, sym, ap, subst, ◌∙◌, arith, inl, inr, Bor, get_or, option_copied, ◌<◌, ◌^◌, if◌then◌else◌}
+use Rattle.std.proofs.Common.{◌≡◌, ℕ, suc, ◌+◌, ◌≤◌, Bool, true, false, cond, not, ◌&&◌, ◌||◌, nat_lt, List, [], ◌∷◌, ◌++◌, map, filter, find, take, drop, length, slice_get, Option, Some, None, Ok, Err, option_map, is_some, is_none, bytes_eq, ◌⊎◌, refl, sym, ap, subst, ◌∙◌, arith, inl, inr, Bor, get_or, option_copied, ◌<◌, ◌^◌, if◌then◌else◌}
 use Rattle.std.specs.List.{All, IsDistinct}
 use Rattle.std.specs.Map.{keys_of}
 use Rattle.std.proofs.lemmas.Bool.{false≢true, or_cases, cases_lt}
@@ -338,13 +338,13 @@ module _ (s : EngineState) (stamp : ℕ) (settled : IsSettled s.entries) (k : �
     unfolding fault_of
     all_done = (all_kept, ap (λ ns. first_fault (faults_in s ns)) (sym (take_all k (by_depth nodes) long)) ∙ up.faultless)
 
--- what the graph tells that a name lacks
-pub lacks_as_told : (ns nodes : List Node) (n : Name) (r : Option (Bor Name)) → option_copied r ≡ missing ns n → ns ≡ nodes → is_some (missing nodes n) ≡ is_some r
-lacks_as_told ns nodes n r got same = ap (λ q. is_some (missing q n)) (sym same) ∙ ap is_some (sym got) ∙ copied r
+-- a name lacks another where the graph tells so
+pub lacks_as_told : (ns nodes : List Node) (n : Name) (b c : Bool) → b ≡ is_none (missing ns n) → ns ≡ nodes → b ≡ c → is_some (missing nodes n) ≡ not c
+lacks_as_told ns nodes n b c told same is = go (missing nodes n) (sym is ∙ told ∙ ap (λ q. is_none (missing q n)) same)
   where
-    copied : (r : Option (Bor Name)) → is_some (option_copied r) ≡ is_some r
-    copied None = refl
-    copied (Some b) = refl
+    go : (o : Option Name) → c ≡ is_none o → is_some o ≡ not c
+    go None e = sym (ap not e)
+    go (Some m) e = sym (ap not e)
 
 -- there are fewer than a number of 32 bits counts
 pub counts_on : (ns nodes : List Node) (k : ℕ) (node : Node) → slice_get (by_depth nodes) k ≡ Some node → ns ≡ nodes → length ns < 2 ^ 32 → k + 1 < 2 ^ 32

@@ -1,9 +1,10 @@
 //! The layers of statements.
 
-ghost use Rattle.std.specs.Prelude.{◌≡◌, ◌^◌, ◌<◌, ◌≤◌, length, option_map, Some, IfOk, IsSome, IsTrue, is_some, map};
+ghost use Rattle.std.specs.Prelude.{◌≡◌, ◌^◌, ◌<◌, ◌≤◌, length, option_map, Some, IfOk, IsSome, IsTrue, is_none, map};
 ghost use Rattle.std.specs.List.{All};
 ghost use Rattle.map_nums.specs.Grids.{cells_in};
 ghost use Rattle.map_defs.specs.Ops as ops;
+ghost use Rattle.map_defs.specs.Nodes.{missing};
 ghost use Rattle.statement_graph.specs.Groups.{nodes_in};
 ghost use Rattle.statement_parser.specs.Formed.{IsOp, IsTerm};
 ghost use Rattle.statement_parser.specs.Lines.{plain, terms_of};
@@ -63,7 +64,7 @@ pub(crate) fn evaluate_all<M: Tally>(
     let mut k = 0;
     while let Some(node) = graph.node(k) {
         k += 1;
-        if graph.missing(&node.name).is_some() {
+        if !is_defined(graph, &node.name) {
             continue;
         }
         let valued = evaluate_one(alloc, scene, &values, &node.name, stamp, tally)?;
@@ -72,6 +73,13 @@ pub(crate) fn evaluate_all<M: Tally>(
         };
     }
     Ok(values)
+}
+
+/// Whether a statement lacks no name.
+fn is_defined(graph: &Graph, name: &Name) -> bool
+    ensures { result ≡ is_none (missing (nodes_in graph.now) name.now) }
+{
+    graph.missing(name).is_none()
 }
 
 /// Evaluates a statement whose operands are there.

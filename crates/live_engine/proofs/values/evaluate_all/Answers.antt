@@ -1,4 +1,4 @@
-use Rattle.std.proofs.Common.{◌≡◌, Ok, Err, is_some, true, List, sym, subst, ◌∙◌, arith}
+use Rattle.std.proofs.Common.{◌≡◌, Ok, Err, is_some, true, false, List, sym, subst, ◌∙◌, arith}
 use Rattle.std.proofs.lemmas.Option.{slice_get_within}
 use Rattle.std.proofs.lemmas.Result.{err_from_is_err_and}
 use Rattle.map_defs.specs.Depths.{by_depth}
@@ -22,8 +22,8 @@ overflow_add-k g c =
     let more = counts_on ns nodes k (flat_node c.in-Some.node.now) here c.requires.graph c.requires.few in
     omega arith
 
-pub loop-node-smaller-then-is_some : goal.loop-node-smaller-then-is_some
-loop-node-smaller-then-is_some g c =
+pub loop-node-smaller-then-not-is_defined : goal.loop-node-smaller-then-not-is_defined
+loop-node-smaller-then-not-is_defined g c =
     let ns = nodes_in c.args.graph.now in
     let nodes = nodes_of (after_scene c.args.scene.now) in
     let k = c.loop-node.k in
@@ -31,14 +31,14 @@ loop-node-smaller-then-is_some g c =
     let within = slice_get_within (by_depth nodes) k (flat_node c.in-Some.node.now) here in
     omega arith
 
-pub loop-node-preserved-then-is_some : goal.loop-node-preserved-then-is_some
-loop-node-preserved-then-is_some g c =
+pub loop-node-preserved-then-not-is_defined : goal.loop-node-preserved-then-not-is_defined
+loop-node-preserved-then-not-is_defined g c =
     let ns = nodes_in c.args.graph.now in
     let scene = c.args.scene.now in
     let nodes = nodes_of (after_scene scene) in
     let k = c.loop-node.k in
     let here = given_at ns nodes k c.node.result c.in-Some.node c.node.ensures c.requires.graph c.in-Some.is in
-    let lacking = lacks_as_told ns nodes c.in-Some.node.now.name c.missing.result c.missing.ensures c.requires.graph ∙ sym c.is_some.ensures ∙ c.if-is_some.true in
+    let lacking = lacks_as_told ns nodes c.in-Some.node.now.name c.is_defined.result false c.is_defined.ensures c.requires.graph c.if-not-is_defined.true in
     record {
       up = step_skipped (state_of scene) c.args.stamp (settled_scene scene c.requires.acyclic c.len-count.ensures.unique) k c.loop-node.values.items c.loop-node.invariant.up (flat_node c.in-Some.node.now) here lacking;
       parts = c.loop-node.invariant.parts;
@@ -61,7 +61,7 @@ evaluate_one-requires-clause-there g c =
     let k = c.loop-node.k in
     let here = given_at ns nodes k c.node.result c.in-Some.node c.node.ensures c.requires.graph c.in-Some.is in
     let n = c.in-Some.node.now.name in
-    let lacking = lacks_as_told ns nodes n c.missing.result c.missing.ensures c.requires.graph ∙ sym c.is_some.ensures ∙ c.if-is_some.false in
+    let lacking = lacks_as_told ns nodes n c.is_defined.result true c.is_defined.ensures c.requires.graph c.if-not-is_defined.false in
     subst (λ (vs : List Valued). is_some (made scene.extent (at_hand (state_of scene) vs) (find_making (layers (after_scene scene)) n)) ≡ true) (sym c.deref.ensures.value)
     (there_at (state_of scene) c.args.stamp (settled_scene scene c.requires.acyclic c.len-count.ensures.unique) k c.loop-node.values.items c.loop-node.invariant.up (flat_node c.in-Some.node.now) here lacking)
 
