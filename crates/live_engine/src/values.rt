@@ -1,8 +1,7 @@
 //! The layers of statements.
 
-ghost use Rattle.std.specs.Prelude.{◌≡◌, ◌^◌, ◌<◌, ◌≤◌, length, option_map, Some, IfOk, IsSome, IsTrue, is_none, map};
+ghost use Rattle.std.specs.Prelude.{◌≡◌, ◌^◌, ◌<◌, length, map, option_map, is_none, IfOk, IsSome};
 ghost use Rattle.std.specs.List.{All};
-ghost use Rattle.map_nums.specs.Grids.{cells_in};
 ghost use Rattle.map_defs.specs.Ops as ops;
 ghost use Rattle.map_defs.specs.Nodes.{missing};
 ghost use Rattle.statement_graph.specs.Groups.{nodes_in};
