@@ -58,6 +58,7 @@ pub(crate) fn evaluate_all<M: Tally>(
     ensures layers { IfOk result (λ values. All (IsOfStamp scene.now.extent stamp) values.items) }
     ensures parts { KeepsParts (M.counts tally.old) (M.counts tally.new) }
 {
+    // Tells the proof that no name stands twice.
     let _count = scene.names.len();
     let mut values = Vec::new(alloc);
     let mut k = 0;
