@@ -3,6 +3,7 @@ pub mod Making
 pub mod Hand
 pub mod Valuing
 pub mod Depths
+pub mod Kept
 pub mod Steps
 mod Items
 mod Groupings

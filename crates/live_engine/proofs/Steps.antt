@@ -1,25 +1,19 @@
--- The loop over the statements by depth: what is kept after the first of them.
-use Rattle.std.proofs.Common.{◌≡◌, ℕ, suc, ◌+◌, ◌≤◌, Bool, true, false, cond, not, ◌&&◌, ◌||◌, nat_lt, List, [], ◌∷◌, ◌++◌, map, find, take, drop, length, slice_get, Option, Some, None, Ok, Err, option_map, is_some, bytes_eq, ◌⊎◌, refl, sym, ap, subst, ◌∙◌, arith, inl, inr, Bor, get_or, option_copied, ◌<◌, ◌^◌, if◌then◌else◌}
-use Rattle.std.specs.List.{All, IsDistinct}
+-- The loop over the statements by depth.
+use Rattle.std.proofs.Common.{◌≡◌, ℕ, suc, ◌+◌, ◌≤◌, Bool, true, false, not, List, [], ◌∷◌, ◌++◌, take, drop, length, slice_get, Option, Some, None, Ok, Err, option_map, is_some, is_none, bytes_eq, ◌⊎◌, refl, sym, ap, subst, ◌∙◌, arith, inl, inr, Bor, get_or, option_copied, ◌<◌, ◌^◌, if◌then◌else◌}
+use Rattle.std.specs.List.{IsDistinct}
 use Rattle.std.specs.Map.{keys_of}
-use Rattle.std.proofs.lemmas.Bool.{false≢true, or_cases, cases_lt}
+use Rattle.std.proofs.lemmas.Bool.{false≢true, cases_lt}
 use Rattle.std.proofs.lemmas.List.{take_all, map-append}
-use Rattle.std.proofs.lemmas.List.Elements.{All-push, All-nil}
-use Rattle.std.proofs.lemmas.List.Folds.{list_any-append}
 use Rattle.std.proofs.lemmas.Option.{none-some, same_Some, slice_get-get_or, slice_get_within}
-use Rattle.map_nums.specs.Grids.{Size, Grid}
+use Rattle.map_nums.specs.Grids.{Grid}
 use Rattle.map_defs.specs.Ops as ops
 use Rattle.map_defs.specs.Ops.{Name, needs_of}
 use Rattle.map_defs.specs.Nodes.{Node, lacks, missing}
 use Rattle.map_defs.specs.Depths.{by_depth}
-use Rattle.map_defs.specs.Sight.{most_viewers}
-use Rattle.statement_parser.specs.Lines.{Op, local, difference, ratio, rating}
-use Rattle.statement_parser.specs.ToOps.{to_op}
 use Rattle.map_edits.specs.Entries.{Entry, Making, given_grid, by_op, layers, find_making, nodes_of}
 use Rattle.map_edits.specs.EngineStates.{EngineState, made, value_of}
-use Rattle.map_edits.specs.Faults.{Fault, too_many_viewers, overflow, viewers_of, wide_place, overflow_at, fault_of_layer, first_fault, fault_of}
+use Rattle.map_edits.specs.Faults.{overflow, wide_place, overflow_at, fault_of_layer, first_fault, fault_of}
 use Rattle.map_edits.specs.Laws.{is_among, is_named_in, HasNoCycle, IsApart}
-use Rattle.map_edits.proofs.Among.{same_name}
 use Rattle.map_edits.proofs.Looks.{making_needs, needs_in-layers, made_node, find_node-making}
 use Rattle.map_edits.proofs.Unfolds.{made_agree, value_unfolds}
 use Rattle.map_edits.proofs.Defined.{value_is_defined}
@@ -27,8 +21,7 @@ use Rattle.map_edits.proofs.Order.{all_flats_listed, needs_come_before}
 use Rattle.map_edits.proofs.Listed.{IsListed, listed_at}
 use Rattle.statement_graph.specs.declared.node.Node.{Node as Given}
 use Rattle.statement_graph.specs.Puts.{flat_node}
-use Rattle.live_engine.specs.Held.{grid_of}
-use Rattle.live_engine.specs.Values.{IsOfStamp, kept, at_hand, AreValues, IsValued, IsEvaluation}
+use Rattle.live_engine.specs.Values.{IsOfStamp, kept, at_hand, AreValues, IsValued, IsEvaluation, defined_names}
 use Rattle.live_engine.specs.Scenes.{after_scene}
 use Rattle.live_engine.specs.declared.scene.Scene.{Scene}
 use Rattle.live_engine.specs.declared.values.Halt.{Halt}
@@ -37,142 +30,7 @@ use Rattle.live_engine.specs.declared.values.Valued.{Valued}
 use Rattle.live_engine.proofs.Hand.{hand_none, hand_source, hand_kept}
 use Rattle.live_engine.proofs.Depths.{cut_at, taken_to, few_by_depth}
 use Rattle.live_engine.proofs.Making.{AreLined, lined_scene, own_lined, apart_scene, line_op}
-
--- ---- what is kept, after one layer more
-
-abbrev kept_in : List Valued → Name → Option Valued
-kept_in values n = find (λ (v : Valued). bytes_eq v.name n) values
-
-abbrev its_grid : Option Valued → Option Grid
-its_grid o = option_map (λ (v : Valued). grid_of v.layer) o
-
--- the first that is kept, else the new one
-kept_push : (values : List Valued) (v : Valued) (n : Name) → kept (values ++ v ∷ []) n ≡ (if is_some (kept values n) then kept values n else (if bytes_eq v.name n then Some (grid_of v.layer) else None))
-kept_push [] v n = go (bytes_eq v.name n)
-  where
-    go : (b : Bool) → its_grid (cond b (Some v) None) ≡ cond b (Some (grid_of v.layer)) None
-    go true = refl
-    go false = refl
-kept_push (x ∷ xs) v n = go (bytes_eq x.name n) (kept_push xs v n)
-  where
-    go : (b : Bool) → kept (xs ++ v ∷ []) n ≡ (if is_some (kept xs n) then kept xs n else (if bytes_eq v.name n then Some (grid_of v.layer) else None))
-        → its_grid (cond b (Some x) (kept_in (xs ++ v ∷ []) n))
-        ≡ (if is_some (its_grid (cond b (Some x) (kept_in xs n))) then its_grid (cond b (Some x) (kept_in xs n)) else (if bytes_eq v.name n then Some (grid_of v.layer) else None))
-    go true rest = refl
-    go false rest = rest
-
--- ---- faults in order
-
-abbrev faults_in : EngineState → List Node → List (Option Fault)
-faults_in s nodes = map (λ (node : Node). fault_of_layer s node.name) nodes
-
-first_push : (os : List (Option Fault)) (o : Option Fault) → first_fault os ≡ None → first_fault (os ++ o ∷ []) ≡ first_fault (o ∷ [])
-first_push [] o e = refl
-first_push (None ∷ os) o e = first_push os o e
-first_push (Some f ∷ os) o e = absurd (none-some f (sym e))
-
-first_then : (os more : List (Option Fault)) (f : Fault) → first_fault os ≡ None → first_fault (os ++ Some f ∷ more) ≡ Some f
-first_then [] more f e = refl
-first_then (None ∷ os) more f e = first_then os more f e
-first_then (Some g ∷ os) more f e = absurd (none-some g (sym e))
-
--- ---- the first statements
-
--- no fault so far; what is kept is a value, and each value of a statement so far is kept
-pub record IsUpTo (s : EngineState) (stamp : ℕ) (before : List Node) (values : List Valued) : Type 0 where
-  pub faultless : first_fault (faults_in s before) ≡ None
-  pub sound : (n : Name) (grid : Grid) → kept values n ≡ Some grid → value_of s n ≡ Some grid
-  pub whole : (n : Name) → is_named_in n before ≡ true → is_some (value_of s n) ≡ true → is_some (kept values n) ≡ true
-  pub stamped : All (IsOfStamp s.size stamp) values
-
-pub none_so_far : (s : EngineState) (stamp : ℕ) (values : List Valued) → values ≡ [] → IsUpTo s stamp [] values
-none_so_far s stamp values is = rw is (record {
-  faultless = refl;
-  sound = λ n grid e. absurd (none-some grid e);
-  whole = λ n e there. absurd (false≢true e);
-  stamped = All-nil (IsOfStamp s.size stamp);
-})
-
--- ---- a statement's fault
-
--- the viewers of a line's operation are none
-no_viewers : (s : EngineState) (o : Op) → viewers_of s (Some (by_op (to_op o))) ≡ 0
-no_viewers s (local stat ts) = refl
-no_viewers s (difference l r) = refl
-no_viewers s (ratio l r) = refl
-no_viewers s (rating t rs) = refl
-
-abbrev faulty : ℕ → Size → Name → Option Grid → Option Fault
-faulty v size n o = if nat_lt most_viewers v && is_some o then Some (too_many_viewers n v) else overflow_at size n (wide_place o)
-
-undefined_faultless : (s : EngineState) (n : Name) → value_of s n ≡ None → fault_of_layer s n ≡ None
-undefined_faultless s n e = ap (faulty v s.size n) e ∙ go (nat_lt most_viewers v)
-  where
-    v : ℕ
-    v = viewers_of s (find_making (layers s.entries) n)
-
-    go : (b : Bool) → ◌≡◌ {A = Option Fault} (if b && false then Some (too_many_viewers n v) else None) None
-    go true = refl
-    go false = refl
-
-line_fault : (s : EngineState) (n : Name) (o : Op) → find_making (layers s.entries) n ≡ Some (by_op (to_op o)) → fault_of_layer s n ≡ overflow_at s.size n (wide_place (value_of s n))
-line_fault s n o e = ap (λ v. faulty v s.size n (value_of s n)) (ap (viewers_of s) e ∙ no_viewers s o)
-
--- ---- one statement more
-
-named_push : (before : List Node) (node : Node) (m : Name) → is_named_in m (before ++ node ∷ []) ≡ true → (is_named_in m before ≡ true) ⊎ (bytes_eq node.name m ≡ true)
-named_push before node m e = go (or_cases (is_named_in m before) (bytes_eq node.name m || false) (sym (list_any-append (λ (x : Node). bytes_eq x.name m) before (node ∷ [])) ∙ e))
-  where
-    last : (bytes_eq node.name m ≡ true) ⊎ (false ≡ true) → bytes_eq node.name m ≡ true
-    last (inl h) = h
-    last (inr h) = absurd (false≢true h)
-
-    go : (is_named_in m before ≡ true) ⊎ ((bytes_eq node.name m || false) ≡ true) → (is_named_in m before ≡ true) ⊎ (bytes_eq node.name m ≡ true)
-    go (inl h) = inl h
-    go (inr h) = inr (last (or_cases (bytes_eq node.name m) false h))
-
-module _ (s : EngineState) (stamp : ℕ) (before : List Node) (values : List Valued) (up : IsUpTo s stamp before values) (node : Node) where
-  faultless_more : fault_of_layer s node.name ≡ None → first_fault (faults_in s (before ++ node ∷ [])) ≡ None
-  faultless_more e =
-      ap first_fault (map-append (λ (x : Node). fault_of_layer s x.name) before (node ∷ []))
-      ∙ first_push (faults_in s before) (fault_of_layer s node.name) up.faultless
-      ∙ ap (λ o. first_fault (o ∷ [])) e
-
-  -- an undefined one
-  skipped : value_of s node.name ≡ None → IsUpTo s stamp (before ++ node ∷ []) values
-  skipped e = record {
-    faultless = faultless_more (undefined_faultless s node.name e);
-    sound = up.sound;
-    whole = λ m named there. go m (named_push before node m named) there;
-    stamped = up.stamped;
-  }
-    where
-      go : (m : Name) → (is_named_in m before ≡ true) ⊎ (bytes_eq node.name m ≡ true) → is_some (value_of s m) ≡ true → is_some (kept values m) ≡ true
-      go m (inl h) there = up.whole m h there
-      go m (inr h) there = absurd (false≢true (sym (ap is_some (ap (value_of s) (sym (same_name node.name m h)) ∙ e)) ∙ there))
-
-  -- one with a value
-  pushed : (v : Valued) → v.name ≡ node.name → value_of s node.name ≡ Some (grid_of v.layer) → fault_of_layer s node.name ≡ None → IsOfStamp s.size stamp v → IsUpTo s stamp (before ++ node ∷ []) (values ++ v ∷ [])
-  pushed v named value faultless_too fresh = record {
-    faultless = faultless_more faultless_too;
-    sound = λ n grid e. sound_at n grid (kept values n) refl (sym (kept_push values v n) ∙ e);
-    whole = λ m h there. ap is_some (kept_push values v m) ∙ whole_at m (kept values m) refl (named_push before node m h) there;
-    stamped = All-push (IsOfStamp s.size stamp) values v up.stamped fresh;
-  }
-    where
-      new_at : (n : Name) (grid : Grid) (b : Bool) → bytes_eq v.name n ≡ b → (if b then Some (grid_of v.layer) else None) ≡ Some grid → value_of s n ≡ Some grid
-      new_at n grid true h e = ap (value_of s) (sym (sym named ∙ same_name v.name n h)) ∙ value ∙ e
-      new_at n grid false h e = absurd (none-some grid e)
-
-      sound_at : (n : Name) (grid : Grid) (o : Option Grid) → kept values n ≡ o → (if is_some o then o else (if bytes_eq v.name n then Some (grid_of v.layer) else None)) ≡ Some grid → value_of s n ≡ Some grid
-      sound_at n grid None is e = new_at n grid (bytes_eq v.name n) refl e
-      sound_at n grid (Some g) is e = up.sound n grid (is ∙ e)
-
-      whole_at : (m : Name) (o : Option Grid) → kept values m ≡ o → (is_named_in m before ≡ true) ⊎ (bytes_eq node.name m ≡ true) → is_some (value_of s m) ≡ true
-          → is_some (if is_some o then o else (if bytes_eq v.name m then Some (grid_of v.layer) else None)) ≡ true
-      whole_at m (Some g) is h there = refl
-      whole_at m None is (inl h) there = absurd (false≢true (sym (ap is_some is) ∙ up.whole m h there))
-      whole_at m None is (inr h) there = let same : bytes_eq v.name m ≡ true = ap (λ q. bytes_eq q m) named ∙ h in rw same refl
+use Rattle.live_engine.proofs.Kept.{IsUpTo, faults_in, defined_in, names_of, names_kept, first_then, line_fault, skipped, pushed}
 
 -- ---- the scene's statements
 
@@ -308,17 +166,20 @@ module _ (s : EngineState) (stamp : ℕ) (settled : IsSettled s.entries) (k : �
         listed : is_named_in n (by_depth nodes) ≡ true
         listed = all_flats_listed nodes settled.none_looped n (made_node n (by_op op)) (needs_of op) (find_node-making (layers s.entries) n ∙ ap (option_map (made_node n)) e) refl
 
+    pub all_named : names_kept values ≡ defined_names s
+    all_named = up.names ∙ ap (λ ns. names_of (defined_in s ns)) (take_all k (by_depth nodes) long)
+
     pub all_done : AreValues s values × (fault_of s ≡ None)
     unfolding fault_of
     all_done = (all_kept, ap (λ ns. first_fault (faults_in s ns)) (sym (take_all k (by_depth nodes) long)) ∙ up.faultless)
 
--- what the graph tells that a name lacks
-pub lacks_as_told : (ns nodes : List Node) (n : Name) (r : Option (Bor Name)) → option_copied r ≡ missing ns n → ns ≡ nodes → is_some (missing nodes n) ≡ is_some r
-lacks_as_told ns nodes n r got same = ap (λ q. is_some (missing q n)) (sym same) ∙ ap is_some (sym got) ∙ copied r
+-- a name lacks another where the graph tells so
+pub lacks_as_told : (ns nodes : List Node) (n : Name) (b c : Bool) → b ≡ is_none (missing ns n) → ns ≡ nodes → b ≡ c → is_some (missing nodes n) ≡ not c
+lacks_as_told ns nodes n b c told same is = go (missing nodes n) (sym is ∙ told ∙ ap (λ q. is_none (missing q n)) same)
   where
-    copied : (r : Option (Bor Name)) → is_some (option_copied r) ≡ is_some r
-    copied None = refl
-    copied (Some b) = refl
+    go : (o : Option Name) → c ≡ is_none o → is_some o ≡ not c
+    go None e = sym (ap not e)
+    go (Some m) e = sym (ap not e)
 
 -- there are fewer than a number of 32 bits counts
 pub counts_on : (ns nodes : List Node) (k : ℕ) (node : Node) → slice_get (by_depth nodes) k ≡ Some node → ns ≡ nodes → length ns < 2 ^ 32 → k + 1 < 2 ^ 32

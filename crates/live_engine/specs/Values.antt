@@ -1,10 +1,12 @@
 -- The layers of a state's statements.
-use Rattle.std.specs.Prelude.{◌≡◌, ℕ, List, find, Option, Some, None, option_map, bytes_eq, Result, Ok, Err, Vec, ⊤}
+use Rattle.std.specs.Prelude.{◌≡◌, ℕ, List, map, filter, find, Option, Some, None, is_some, option_map, bytes_eq, Result, Ok, Err, Vec, ⊤}
 use Rattle.std.specs.declared.alloc.Global.{Global}
 use Rattle.map_nums.specs.Grids.{Size, Grid}
 use Rattle.layer_tiles.specs.Layers.{layer_of}
 use Rattle.map_defs.specs.Ops.{Name, Op}
-use Rattle.map_edits.specs.Entries.{Making, given_grid, by_op, layers, find_making}
+use Rattle.map_defs.specs.Nodes.{Node}
+use Rattle.map_defs.specs.Depths.{by_depth}
+use Rattle.map_edits.specs.Entries.{Making, given_grid, by_op, layers, find_making, nodes_of}
 use Rattle.map_edits.specs.EngineStates.{EngineState, value_of}
 use Rattle.map_edits.specs.Faults.{overflow, wide_place, overflow_at, fault_of}
 use Rattle.live_engine.specs.Held.{grid_of}
@@ -23,6 +25,10 @@ kept values n = option_map (λ (v : Valued). grid_of v.layer) (find (λ (v : Val
 -- what is kept for each flat statement is its grid, and nothing where it is undefined
 abbrev pub AreValues : EngineState → List Valued → Type 0
 AreValues s values = (n : Name) (op : Op) → find_making (layers s.entries) n ≡ Some (by_op op) → kept values n ≡ value_of s n
+
+-- the statements that have a grid, by depth, then in order of place
+abbrev pub defined_names : EngineState → List Name
+defined_names s = map (λ (node : Node). node.name) (filter (λ (node : Node). is_some (value_of s node.name)) (by_depth (nodes_of s.entries)))
 
 -- the statements' layers where none has a fault, and exactly there; else the first fault
 abbrev pub IsEvaluation : EngineState → Result (Vec Valued Global) Halt → Type 0

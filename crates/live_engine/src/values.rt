@@ -1,9 +1,9 @@
 //! The layers of statements.
 
-ghost use Rattle.std.specs.Prelude.{◌≡◌, ◌^◌, ◌<◌, ◌≤◌, length, option_map, Some, IfOk, IsSome, IsTrue, is_some, map};
+ghost use Rattle.std.specs.Prelude.{◌≡◌, ◌^◌, ◌<◌, length, map, option_map, is_none, IfOk, IsSome};
 ghost use Rattle.std.specs.List.{All};
-ghost use Rattle.map_nums.specs.Grids.{cells_in};
 ghost use Rattle.map_defs.specs.Ops as ops;
+ghost use Rattle.map_defs.specs.Nodes.{missing};
 ghost use Rattle.statement_graph.specs.Groups.{nodes_in};
 ghost use Rattle.statement_parser.specs.Formed.{IsOp, IsTerm};
 ghost use Rattle.statement_parser.specs.Lines.{plain, terms_of};
@@ -16,7 +16,7 @@ ghost use Rattle.map_edits.specs.Laws.{HasNoCycle};
 ghost use Rattle.live_engine.specs.Held.{grid_of};
 ghost use Rattle.live_engine.specs.Parts.{KeepsParts};
 ghost use Rattle.live_engine.specs.Scenes.{IsScene, after_scene, state_of};
-ghost use Rattle.live_engine.specs.Values.{IsEvaluation, IsOfStamp, IsValued, IsHalt, at_hand, kept};
+ghost use Rattle.live_engine.specs.Values.{IsEvaluation, IsOfStamp, IsValued, IsHalt, at_hand, defined_names, kept};
 
 use crate::scene::{Found, Scene};
 use layer_tiles::{Cell, Change, Extent, KernelRefusal, Layer, Operands, Tally};
@@ -54,15 +54,17 @@ pub(crate) fn evaluate_all<M: Tally>(
     requires few { length (nodes_in graph.now) < 2 ^ 32 }
     requires acyclic { HasNoCycle (nodes_of (after_scene scene.now)) }
     ensures values { IsEvaluation (state_of scene.now) result }
+    ensures names { IfOk result (λ values. map (λ v. v.name) values.items ≡ defined_names (state_of scene.now)) }
     ensures layers { IfOk result (λ values. All (IsOfStamp scene.now.extent stamp) values.items) }
     ensures parts { KeepsParts (M.counts tally.old) (M.counts tally.new) }
 {
+    // Tells the proof that no name stands twice.
     let _count = scene.names.len();
     let mut values = Vec::new(alloc);
     let mut k = 0;
     while let Some(node) = graph.node(k) {
         k += 1;
-        if graph.missing(&node.name).is_some() {
+        if !is_defined(graph, &node.name) {
             continue;
         }
         let valued = evaluate_one(alloc, scene, &values, &node.name, stamp, tally)?;
@@ -71,6 +73,13 @@ pub(crate) fn evaluate_all<M: Tally>(
         };
     }
     Ok(values)
+}
+
+/// Whether a statement lacks no name.
+fn is_defined(graph: &Graph, name: &Name) -> bool
+    ensures { result ≡ is_none (missing (nodes_in graph.now) name.now) }
+{
+    graph.missing(name).is_none()
 }
 
 /// Evaluates a statement whose operands are there.
@@ -154,12 +163,7 @@ fn overflow(alloc: Global, extent: Extent, name: &Name, at: u32) -> Halt
 }
 
 /// The operands of an operation.
-fn operands_of<'a>(
-    scene: &Scene<'a>,
-    values: &'a [Valued],
-    stamp: u64,
-    op: &Op,
-) -> Operands<'a>
+fn operands_of<'a>(scene: &Scene<'a>, values: &'a [Valued], stamp: u64, op: &Op) -> Operands<'a>
     requires scene { IsScene scene.now }
     requires stamped { All (IsOfStamp scene.now.extent stamp) values.now }
     requires formed { IsOp (op_view op.now) }
@@ -178,12 +182,7 @@ fn operands_of<'a>(
 }
 
 /// A layer that is there, or a number everywhere.
-fn operand_of<'a>(
-    scene: &Scene<'a>,
-    values: &'a [Valued],
-    stamp: u64,
-    term: &Term,
-) -> Change<'a>
+fn operand_of<'a>(scene: &Scene<'a>, values: &'a [Valued], stamp: u64, term: &Term) -> Change<'a>
     requires scene { IsScene scene.now }
     requires stamped { All (IsOfStamp scene.now.extent stamp) values.now }
     requires formed { IsTerm (term_view term.now) }

@@ -1,4 +1,4 @@
-use Rattle.std.proofs.Common.{◌≡◌, Ok, Err, is_some, true, List, sym, subst, ◌∙◌, arith}
+use Rattle.std.proofs.Common.{◌≡◌, Ok, Err, is_some, true, false, List, sym, subst, arith}
 use Rattle.std.proofs.lemmas.Option.{slice_get_within}
 use Rattle.std.proofs.lemmas.Result.{err_from_is_err_and}
 use Rattle.map_defs.specs.Depths.{by_depth}
@@ -10,7 +10,7 @@ use Rattle.live_engine.specs.Scenes.{after_scene, state_of}
 use Rattle.live_engine.specs.Values.{at_hand, IsValued}
 use Rattle.live_engine.specs.declared.values.Valued.{Valued}
 use Rattle.live_engine.proofs.Valuing.{parts_twice}
-use Rattle.live_engine.proofs.Steps.{settled_scene, given_at, none_past, counts_on, lacks_as_told, statement_at, there_at, step_skipped, step_pushed, step_halted, all_done}
+use Rattle.live_engine.proofs.Steps.{settled_scene, given_at, none_past, counts_on, lacks_as_told, statement_at, there_at, step_skipped, step_pushed, step_halted, all_done, all_named}
 use Rattle.live_engine.proofs.values.evaluate_all.Goals as goal
 
 pub overflow_add-k : goal.overflow_add-k
@@ -22,8 +22,8 @@ overflow_add-k g c =
     let more = counts_on ns nodes k (flat_node c.in-Some.node.now) here c.requires.graph c.requires.few in
     omega arith
 
-pub loop-node-smaller-then-is_some : goal.loop-node-smaller-then-is_some
-loop-node-smaller-then-is_some g c =
+pub loop-node-smaller-then-not-is_defined : goal.loop-node-smaller-then-not-is_defined
+loop-node-smaller-then-not-is_defined g c =
     let ns = nodes_in c.args.graph.now in
     let nodes = nodes_of (after_scene c.args.scene.now) in
     let k = c.loop-node.k in
@@ -31,14 +31,14 @@ loop-node-smaller-then-is_some g c =
     let within = slice_get_within (by_depth nodes) k (flat_node c.in-Some.node.now) here in
     omega arith
 
-pub loop-node-preserved-then-is_some : goal.loop-node-preserved-then-is_some
-loop-node-preserved-then-is_some g c =
+pub loop-node-preserved-then-not-is_defined : goal.loop-node-preserved-then-not-is_defined
+loop-node-preserved-then-not-is_defined g c =
     let ns = nodes_in c.args.graph.now in
     let scene = c.args.scene.now in
     let nodes = nodes_of (after_scene scene) in
     let k = c.loop-node.k in
     let here = given_at ns nodes k c.node.result c.in-Some.node c.node.ensures c.requires.graph c.in-Some.is in
-    let lacking = lacks_as_told ns nodes c.in-Some.node.now.name c.missing.result c.missing.ensures c.requires.graph ∙ sym c.is_some.ensures ∙ c.if-is_some.true in
+    let lacking = lacks_as_told ns nodes c.in-Some.node.now.name c.is_defined.result false c.is_defined.ensures c.requires.graph c.if-not-is_defined.true in
     record {
       up = step_skipped (state_of scene) c.args.stamp (settled_scene scene c.requires.acyclic c.len-count.ensures.unique) k c.loop-node.values.items c.loop-node.invariant.up (flat_node c.in-Some.node.now) here lacking;
       parts = c.loop-node.invariant.parts;
@@ -61,7 +61,7 @@ evaluate_one-requires-clause-there g c =
     let k = c.loop-node.k in
     let here = given_at ns nodes k c.node.result c.in-Some.node c.node.ensures c.requires.graph c.in-Some.is in
     let n = c.in-Some.node.now.name in
-    let lacking = lacks_as_told ns nodes n c.missing.result c.missing.ensures c.requires.graph ∙ sym c.is_some.ensures ∙ c.if-is_some.false in
+    let lacking = lacks_as_told ns nodes n c.is_defined.result true c.is_defined.ensures c.requires.graph c.if-not-is_defined.false in
     subst (λ (vs : List Valued). is_some (made scene.extent (at_hand (state_of scene) vs) (find_making (layers (after_scene scene)) n)) ≡ true) (sym c.deref.ensures.value)
     (there_at (state_of scene) c.args.stamp (settled_scene scene c.requires.acyclic c.len-count.ensures.unique) k c.loop-node.values.items c.loop-node.invariant.up (flat_node c.in-Some.node.now) here lacking)
 
@@ -112,3 +112,12 @@ returns-clause-values g c =
     let k = c.loop-node.k in
     let long = none_past ns nodes k c.node.result c.node.ensures c.requires.graph c.in_default.not-Some in
     all_done (state_of scene) c.args.stamp (settled_scene scene c.requires.acyclic c.len-count.ensures.unique) k c.loop-node.values.items c.loop-node.invariant.up long
+
+pub returns-clause-names : goal.returns-clause-names
+returns-clause-names g c =
+    let ns = nodes_in c.args.graph.now in
+    let scene = c.args.scene.now in
+    let nodes = nodes_of (after_scene scene) in
+    let k = c.loop-node.k in
+    let long = none_past ns nodes k c.node.result c.node.ensures c.requires.graph c.in_default.not-Some in
+    all_named (state_of scene) c.args.stamp (settled_scene scene c.requires.acyclic c.len-count.ensures.unique) k c.loop-node.values.items c.loop-node.invariant.up long

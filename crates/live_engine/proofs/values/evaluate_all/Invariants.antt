@@ -3,7 +3,7 @@ use Rattle.map_defs.specs.Depths.{by_depth}
 use Rattle.map_edits.specs.Entries.{nodes_of}
 use Rattle.live_engine.specs.Parts.{KeepsParts}
 use Rattle.live_engine.specs.Scenes.{after_scene, state_of}
-use Rattle.live_engine.proofs.Steps.{IsUpTo}
+use Rattle.live_engine.proofs.Kept.{IsUpTo}
 use Rattle.live_engine.proofs.values.evaluate_all.Given as goal
 
 abbrev pub invariant-loop-node : goal.invariant-loop-node

@@ -28,6 +28,6 @@ returns-in-Err-Overflow-clause-value g c =
     let cells = cells_after c.operands_of-operands.result in
     let at_is : a.field-0 ≡ Overflow a.at = a.field-0-is in
     let done : IsEvaluated scene.extent (operate scene.extent (to_op o) cells) c.args.stamp (Err (Overflow a.at)) =
-        subst (λ (r : KernelRefusal). IsEvaluated scene.extent (operate scene.extent (to_op o) cells) c.args.stamp (Err r)) at_is a.ensures.layer in
+    subst (λ (r : KernelRefusal). IsEvaluated scene.extent (operate scene.extent (to_op o) cells) c.args.stamp (Err r)) at_is a.ensures.layer in
     valued_halt scene.extent (at_hand (state_of scene) c.args.values.now) o (find_making (layers (after_scene scene)) c.args.name.now) cells c.requires.statement c.operands_of-operands.ensures.cells
     c.args.stamp c.args.name.now a.at c.overflow.result done c.overflow.ensures

@@ -4,8 +4,13 @@ use Rattle.statement_parser.specs.Lines.{terms_of}
 use Rattle.statement_parser.specs.Views.{op_view, term_view}
 use Rattle.live_engine.specs.Scenes.{state_of}
 use Rattle.live_engine.specs.Values.{at_hand}
-use Rattle.live_engine.proofs.Hand.{operand_there, operands_more, operands_all, past_terms}
+use Rattle.live_engine.proofs.Hand.{term_formed, operand_there, operands_more, operands_all, past_terms}
 use Rattle.live_engine.proofs.values.operands_of.Goals as goal
+
+pub operand_of-requires-clause-formed : goal.operand_of-requires-clause-formed
+operand_of-requires-clause-formed c =
+    let here : slice_get (terms_of (op_view c.args.op.now)) c.loop-term.k ≡ Some (term_view c.in-Some.term.now) = sym c.term.ensures ∙ ap (option_map (λ t. term_view t.now)) c.in-Some.is in
+    term_formed (op_view c.args.op.now) c.loop-term.k (term_view c.in-Some.term.now) c.requires.formed here
 
 pub operand_of-requires-clause-there : goal.operand_of-requires-clause-there
 operand_of-requires-clause-there c =
