@@ -5,6 +5,9 @@ pub mod Valuing
 pub mod Depths
 pub mod Kept
 pub mod Steps
+pub mod Meeting
+pub mod Painted
+pub mod Patching
 mod Items
 mod Groupings
 mod Counts

@@ -1,6 +1,6 @@
 //! Sources that are painted.
 
-ghost use Rattle.std.specs.Prelude.{◌≡◌, ◌≤◌};
+ghost use Rattle.std.specs.Prelude.{◌≡◌};
 ghost use Rattle.map_edits.specs.Edits as edits;
 ghost use Rattle.live_engine.specs.Accepts.{Accepts};
 ghost use Rattle.live_engine.specs.Holdings.{seen_in, IsKeptIn};
@@ -36,9 +36,7 @@ pub(crate) fn paint<M: Tally>(
     cell: Cell,
     tally: &mut M,
 ) -> Result<Accepted, Refusal>
-    requires kept { IsKeptIn held.old }
-    requires top { 1 ≤ rectangle.top }
-    requires left { 1 ≤ rectangle.left }
+    requires { IsKeptIn held.old }
     ensures accepts { Accepts (seen_in held.old) (seen_in held.new) (edits.paint name (rectangle_of rectangle) cell) result }
     ensures kept { IsKeptIn held.new }
     ensures parts { KeepsParts (M.counts tally.old) (M.counts tally.new) }
