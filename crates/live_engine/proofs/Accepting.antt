@@ -84,7 +84,6 @@ kept_at size size' items items' graph graph' values values' k k' p q g v r kept 
 
 module _ (old new : Held) (edit : Edit) (items : List (List ℕ × Item)) (graph : List Group) (values : List Valued) (accepted : Accepted) (placed : IsPlaced old new items graph values accepted)
     (is : AreValues (state_with old.extent (entries_of items)) values × (fault_of (state_with old.extent (entries_of items)) ≡ None)) where
-
   pub placed_accepts : entries_after (seen_in old) edit ≡ Ok (entries_of items) → Accepts (seen_in old) (seen_in new) edit (Ok accepted)
   placed_accepts after =
       (accept_ok (seen_in old) edit (entries_of items) after is.1 ∙ ap (λ s. Ok s) (same_state old.extent new.extent items new.names.entries (raised old.number 1) new.number placed.extent_stays placed.items_are placed.number_rises), placed.told)

@@ -215,8 +215,8 @@ module _ (held : Held) (n : Name) (written : writtens.Written) (kept : IsKeptIn 
   groups_few =
       let few : length (nodes_in (put_group (groups_of (entries_in held)) n (statement_nodes (flats_of n (written_view written))))) ≤ 97 = nodes_put_few (entries_in held) n (written_view written) (flats_of n (written_view written)) kept.lawful (own_defined n (written_view written)) in
       let same : length (nodes_in (put_group held.graph n (written_node n (written_view written) ∷ []))) ≡ length (nodes_in (put_group (groups_of (entries_in held)) n (statement_nodes (flats_of n (written_view written))))) =
-          ap (λ (g : List Group). length (nodes_in (put_group g n (written_node n (written_view written) ∷ [])))) kept.graph_is
-          ∙ ap (λ ns. length (nodes_in (put_group (groups_of (entries_in held)) n ns))) (statement_nodes_is n (written_view written)) in
+      ap (λ (g : List Group). length (nodes_in (put_group g n (written_node n (written_view written) ∷ [])))) kept.graph_is
+      ∙ ap (λ ns. length (nodes_in (put_group (groups_of (entries_in held)) n ns))) (statement_nodes_is n (written_view written)) in
       omega (arith, few, same)
 
   pub looped_with : (b : Bool) → is_looped (nodes_in (put_group held.graph n (written_node n (written_view written) ∷ []))) n ≡ b → is_looped (nodes_of with_it) n ≡ b

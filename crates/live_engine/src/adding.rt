@@ -43,13 +43,7 @@ fn add_source<M: Tally>(
         return Err(Refusal::Limit(Which::Sources));
     }
     let graph = with_source(&held.graph, alloc, &name)?;
-    match evaluated(
-        alloc,
-        held,
-        Shift::Loaded(&name, &layer),
-        &graph,
-        tally,
-    ) {
+    match evaluated(alloc, held, Shift::Loaded(&name, &layer), &graph, tally) {
         Ok(values) => Ok(place(held, name, Item::Source(layer), graph, values)),
         Err(halt) => Err(refused(halt)),
     }

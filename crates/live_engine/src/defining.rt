@@ -50,13 +50,7 @@ pub(crate) fn define<M: Tally>(
         Err(GraphRefusal::Cycle) => return Err(Refusal::Cycle(name)),
         Err(GraphRefusal::NoMemory) => return Err(Refusal::NoMemory),
     };
-    match evaluated(
-        alloc,
-        held,
-        Shift::Defined(&name, &written),
-        &graph,
-        tally,
-    ) {
+    match evaluated(alloc, held, Shift::Defined(&name, &written), &graph, tally) {
         Ok(values) => Ok(place(held, name, Item::Statement(written), graph, values)),
         Err(halt) => Err(refused(halt)),
     }

@@ -3,9 +3,9 @@
 ghost use Rattle.std.specs.Prelude.{◌≡◌};
 
 use layer_tiles::Layer;
+use map_nums::NoMemory;
 use map_words::Name;
 use statement_parser::LineEdit;
-use map_nums::NoMemory;
 use std::alloc::AllocError;
 
 /// What changes the names of a map.

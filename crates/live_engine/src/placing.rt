@@ -54,12 +54,7 @@ pub(crate) fn place(
 }
 
 /// Takes a name out.
-pub(crate) fn take_out(
-    held: &mut Held,
-    name: &Name,
-    graph: Graph,
-    values: Vec<Valued>,
-) -> Accepted
+pub(crate) fn take_out(held: &mut Held, name: &Name, graph: Graph, values: Vec<Valued>) -> Accepted
     ensures { IsPlaced held.old held.new (shift_remove_entry (bytes_eq name.now) held.old.names.entries) graph values.items result }
 {
     let _item = held.names.shift_remove(name);

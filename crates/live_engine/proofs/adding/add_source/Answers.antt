@@ -13,9 +13,11 @@ use Rattle.live_engine.proofs.Editing.{accepts_after, kept_after, add_full, add_
 use Rattle.live_engine.proofs.adding.add_source.Goals as goal
 
 pub returns-then-sources-ge-MOST_SOURCES-clause-accepts : goal.returns-then-sources-ge-MOST_SOURCES-clause-accepts
-returns-then-sources-ge-MOST_SOURCES-clause-accepts g c = λ edit after may.
-    (accept_err (seen_in c.args.held.now) edit (edits.beyond edits.sources)
-    (after ∙ add_full (entries_in c.args.held.now) c.args.name (grid_of c.args.layer) c.sources.result c.sources.ensures c.if-sources-ge-MOST_SOURCES.true), refl)
+returns-then-sources-ge-MOST_SOURCES-clause-accepts g c = λ edit after may. (
+  accept_err (seen_in c.args.held.now) edit (edits.beyond edits.sources)
+      (after ∙ add_full (entries_in c.args.held.now) c.args.name (grid_of c.args.layer) c.sources.result c.sources.ensures c.if-sources-ge-MOST_SOURCES.true),
+  refl,
+)
 
 pub with_source-requires-clause-new : goal.with_source-requires-clause-new
 with_source-requires-clause-new g c = group_is_new c.args.held.now c.args.name c.requires.kept c.requires.new

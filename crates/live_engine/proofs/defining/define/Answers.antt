@@ -26,8 +26,11 @@ returns-then-statements_with-gt-MOST_STATEMENTS g c =
     let w = written_view c.args.written in
     let other : OtherThanSource (find_def (entries_in old) n) = other_from (find_def (entries_in old) n) c.kind_of.result c.kind_of.ensures c.in_default.not-Source in
     record {
-      accepts = (accept_err (seen_in old) (edits.define n w) (edits.beyond edits.statements)
-          (define_many old n c.args.written c.requires.kept other c.statements_with.result (count_defined c.statements_with.result (entries_in old) n w c.statements_with.ensures) c.if-statements_with-gt-MOST_STATEMENTS.true), refl);
+      accepts = (
+        accept_err (seen_in old) (edits.define n w) (edits.beyond edits.statements)
+            (define_many old n c.args.written c.requires.kept other c.statements_with.result (count_defined c.statements_with.result (entries_in old) n w c.statements_with.ensures) c.if-statements_with-gt-MOST_STATEMENTS.true),
+        refl,
+      );
       kept = c.requires.kept;
       parts = (refl, refl);
     }
@@ -45,9 +48,12 @@ returns-in-Err-Cycle g c =
     let other : OtherThanSource (find_def (entries_in old) n) = other_from (find_def (entries_in old) n) c.kind_of.result c.kind_of.ensures c.in_default.not-Source in
     let looped = subst (IsGraphWith old.graph n (written_node n w ∷ [])) (c.in-Err-Cycle.is ∙ ap (λ e. Err e) c.in-Err-Cycle.field-0-is) c.with_statement.ensures in
     record {
-      accepts = (accept_err (seen_in old) (edits.define n w) (edits.cycle n)
-          (define_cycle old n c.args.written c.requires.kept other c.statements_with.result (count_defined c.statements_with.result (entries_in old) n w c.statements_with.ensures) c.if-statements_with-gt-MOST_STATEMENTS.false
-          (looped_with old n c.args.written c.requires.kept other true looped)), refl);
+      accepts = (
+        accept_err (seen_in old) (edits.define n w) (edits.cycle n)
+            (define_cycle old n c.args.written c.requires.kept other c.statements_with.result (count_defined c.statements_with.result (entries_in old) n w c.statements_with.ensures) c.if-statements_with-gt-MOST_STATEMENTS.false
+            (looped_with old n c.args.written c.requires.kept other true looped)),
+        refl,
+      );
       kept = c.requires.kept;
       parts = (refl, refl);
     }

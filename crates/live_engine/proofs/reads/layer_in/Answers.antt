@@ -39,7 +39,7 @@ returns-in-Some-clause-tells c =
     let n = c.args.name.now in
     let there : lookup (bytes_eq n) held.names.entries ≡ Some (Statement c.in-Some-Statement.field-0-0) = sym c.get.ensures.value ∙ ap option_copied c.in-Some-Statement.is ∙ ap Some c.in-Some-Statement.field-0-is in
     let value : value_of (seen_in held) n ≡ Some (grid_of c.in-Some.layer.now) =
-        sym (statement_kept held n c.requires c.in-Some-Statement.field-0-0 there) ∙ ap (λ (vs : List Valued). kept vs n) (sym c.as_slice.ensures.value) ∙ sym c.layer_of.ensures ∙ ap (option_map (λ (l : Bor LayerState). grid_of l.now)) c.in-Some.is in
+    sym (statement_kept held n c.requires c.in-Some-Statement.field-0-0 there) ∙ ap (λ (vs : List Valued). kept vs n) (sym c.as_slice.ensures.value) ∙ sym c.layer_of.ensures ∙ ap (option_map (λ (l : Bor LayerState). grid_of l.now)) c.in-Some.is in
     value
 
 pub returns-in-Some-clause-size : goal.returns-in-Some-clause-size
@@ -48,13 +48,14 @@ returns-in-Some-clause-size c =
     let n = c.args.name.now in
     let there : lookup (bytes_eq n) held.names.entries ≡ Some (Statement c.in-Some-Statement.field-0-0) = sym c.get.ensures.value ∙ ap option_copied c.in-Some-Statement.is ∙ ap Some c.in-Some-Statement.field-0-is in
     let value : value_of (seen_in held) n ≡ Some (grid_of c.in-Some.layer.now) =
-        sym (statement_kept held n c.requires c.in-Some-Statement.field-0-0 there) ∙ ap (λ (vs : List Valued). kept vs n) (sym c.as_slice.ensures.value) ∙ sym c.layer_of.ensures ∙ ap (option_map (λ (l : Bor LayerState). grid_of l.now)) c.in-Some.is in
+    sym (statement_kept held n c.requires c.in-Some-Statement.field-0-0 there) ∙ ap (λ (vs : List Valued). kept vs n) (sym c.as_slice.ensures.value) ∙ sym c.layer_of.ensures ∙ ap (option_map (λ (l : Bor LayerState). grid_of l.now)) c.in-Some.is in
     statement_size held n c.requires c.in-Some-Statement.field-0-0 there (grid_of c.in-Some.layer.now) value
 
 pub returns-in-None-layer_of-clause-tells : goal.returns-in-None-layer_of-clause-tells
 returns-in-None-layer_of-clause-tells c =
     let held = c.args.held.now in
     let n = c.args.name.now in
-    let there : lookup (bytes_eq n) held.names.entries ≡ Some (Statement c.in-Some-Statement.field-0-0) = sym c.get.ensures.value ∙ ap option_copied c.in-Some-Statement.is ∙ ap Some c.in-Some-Statement.field-0-is in
-    (sym (statement_kept held n c.requires c.in-Some-Statement.field-0-0 there) ∙ ap (λ (vs : List Valued). kept vs n) (sym c.as_slice.ensures.value) ∙ sym c.layer_of.ensures ∙ ap (option_map (λ (l : Bor LayerState). grid_of l.now)) c.in-None-layer_of.is,
-    ap (λ nodes. missing nodes n) (sym (graph_nodes held n c.requires)) ∙ sym c.missing.ensures ∙ copied_now c.missing.result)
+    let there : lookup (bytes_eq n) held.names.entries ≡ Some (Statement c.in-Some-Statement.field-0-0) = sym c.get.ensures.value ∙ ap option_copied c.in-Some-Statement.is ∙ ap Some c.in-Some-Statement.field-0-is in (
+      sym (statement_kept held n c.requires c.in-Some-Statement.field-0-0 there) ∙ ap (λ (vs : List Valued). kept vs n) (sym c.as_slice.ensures.value) ∙ sym c.layer_of.ensures ∙ ap (option_map (λ (l : Bor LayerState). grid_of l.now)) c.in-None-layer_of.is,
+      ap (λ nodes. missing nodes n) (sym (graph_nodes held n c.requires)) ∙ sym c.missing.ensures ∙ copied_now c.missing.result,
+    )

@@ -24,18 +24,22 @@ use Rattle.live_engine.proofs.repainting.paint.Goals as goal
 pub returns-in-None-clause-accepts : goal.returns-in-None-clause-accepts
 returns-in-None-clause-accepts g c =
     let s = seen_in c.args.held.now in
-    let r = rectangle_of c.args.rectangle in
-    (accept_err s (edits.paint c.args.name r c.args.cell) (edits.unknown c.args.name)
-    (paint_unknown s c.args.name r c.args.cell (item_def c.args.held.now.names.entries c.args.name None (sym c.get.ensures.value ∙ ap option_copied c.in-None.is))), refl)
+    let r = rectangle_of c.args.rectangle in (
+      accept_err s (edits.paint c.args.name r c.args.cell) (edits.unknown c.args.name)
+          (paint_unknown s c.args.name r c.args.cell (item_def c.args.held.now.names.entries c.args.name None (sym c.get.ensures.value ∙ ap option_copied c.in-None.is))),
+      refl,
+    )
 
 pub returns-in-Some-Statement-clause-accepts : goal.returns-in-Some-Statement-clause-accepts
 returns-in-Some-Statement-clause-accepts g c =
     let s = seen_in c.args.held.now in
     let r = rectangle_of c.args.rectangle in
     let written = c.in-Some-Statement.field-0-0 in
-    let there : lookup (bytes_eq c.args.name) c.args.held.now.names.entries ≡ Some (Statement written) = sym c.get.ensures.value ∙ ap option_copied c.in-Some-Statement.is ∙ ap Some c.in-Some-Statement.field-0-is in
-    (accept_err s (edits.paint c.args.name r c.args.cell) (edits.is_derived c.args.name)
-    (paint_derived s c.args.name r c.args.cell (written_view written) (flats_of c.args.name (written_view written)) (item_def c.args.held.now.names.entries c.args.name (Some (Statement written)) there)), refl)
+    let there : lookup (bytes_eq c.args.name) c.args.held.now.names.entries ≡ Some (Statement written) = sym c.get.ensures.value ∙ ap option_copied c.in-Some-Statement.is ∙ ap Some c.in-Some-Statement.field-0-is in (
+      accept_err s (edits.paint c.args.name r c.args.cell) (edits.is_derived c.args.name)
+          (paint_derived s c.args.name r c.args.cell (written_view written) (flats_of c.args.name (written_view written)) (item_def c.args.held.now.names.entries c.args.name (Some (Statement written)) there)),
+      refl,
+    )
 
 pub returns-then-not-is_within-clause-accepts : goal.returns-then-not-is_within-clause-accepts
 returns-then-not-is_within-clause-accepts g c =
@@ -44,9 +48,11 @@ returns-then-not-is_within-clause-accepts g c =
     let r = rectangle_of c.args.rectangle in
     let layer = c.in-Some-Source.layer in
     let there : lookup (bytes_eq n) old.names.entries ≡ Some (Source layer) = sym c.get.ensures.value ∙ ap option_copied c.in-Some-Source.is ∙ ap Some c.in-Some-Source.field-0-is in
-    let size : layer.size ≡ old.extent = held_item old.extent old.names.entries n c.requires.held (Source layer) there in
-    (size_refused (seen_in old) (edits.paint n r c.args.cell) c.rows.result c.columns.result
-    (paint_size (seen_in old) n r c.args.cell (grid_of layer) (def_there old.names.entries n layer there) (sym c.is_within.ensures ∙ c.if-not-is_within.true)) c.rows.ensures.rows c.columns.ensures.columns, refl)
+    let size : layer.size ≡ old.extent = held_item old.extent old.names.entries n c.requires.held (Source layer) there in (
+      size_refused (seen_in old) (edits.paint n r c.args.cell) c.rows.result c.columns.result
+          (paint_size (seen_in old) n r c.args.cell (grid_of layer) (def_there old.names.entries n layer there) (sym c.is_within.ensures ∙ c.if-not-is_within.true)) c.rows.ensures.rows c.columns.ensures.columns,
+      refl,
+    )
 
 pub painted_tiles-requires : goal.painted_tiles-requires
 painted_tiles-requires g c =
