@@ -6,3 +6,4 @@ pub mod WordsLemmas
 pub mod PairsLemmas
 pub mod WorkersLemmas
 mod LinesRows
+mod WordsRows
