@@ -7,7 +7,10 @@ use Rattle.std.proofs.lemmas.List.{append_assoc, take-append-drop, take_more}
 use Rattle.std.proofs.lemmas.List.Folds.{list_any-append}
 use Rattle.map_nums.specs.Counts.{Rose}
 use Rattle.map_machine.specs.States.{MapState}
-use Rattle.map_machine.specs.Steps.{is_quit}
+use Rattle.std.proofs.lemmas.Bool.{false_from_ne_true}
+use Rattle.map_machine.specs.declared.Kind.TheVariants.{Quit as QuitKind}
+use Rattle.map_machine.specs.Steps.{step_of, is_quit}
+use Rattle.map_machine.proofs.StepLemmas.{quit_kind}
 use Rattle.map_machine.specs.Text.{reply_to, state_to, replies_to, state_after}
 use Rattle.map_machine.specs.Lines.{further_lines}
 use Rattle.map_machine.proofs.LinesLemmas.{further_lines-append}
@@ -16,6 +19,10 @@ use Rattle.map_cli.specs.Front.{WritesFront}
 use Rattle.map_cli.specs.Answered.{StoppedAt, first_of, AnswersAll, AnswersToQuit, LacksMemory, Answered}
 use Rattle.map_cli.specs.declared.lines.Fed.{Fed}
 use Rattle.map_cli.specs.declared.lines.Fed.TheVariants.{More, Quit, SinkFault, NoMemory}
+
+-- a line that isn't told as the end goes on
+pub not_quit : (s : MapState) (line : List ℕ) → ((step_of s line).kind ≡ QuitKind → ⊥) → is_quit line ≡ false
+not_quit s line apart = false_from_ne_true (is_quit line) (λ e. apart ((quit_kind s line).1 e))
 
 pub one_answered : (s : MapState) (line reply : List ℕ) (h h' : Option (List ℕ)) (f f' : ℕ) → is_quit line ≡ false → reply ≡ reply_to s line
     → Grows h h' reply → f' ≡ f → AnswersAll s (state_to s line) (line ∷ []) h h' f f'

@@ -1,9 +1,17 @@
--- Where a word is cut.
-use Rattle.std.proofs.Common.{◌≡◌, ℕ, List, ap, ◌∙◌, Option, Some, None, lit<}
-use Rattle.std.specs.Prelude.{MatchOption}
+-- Where a word is cut, and the pairs that were read so far.
+use Rattle.std.proofs.Common.{◌≡◌, ◌<◌, ◌≤◌, ◌+◌, ◌-◌, ◌||◌, take, drop, get_or, ◌&&◌, cond, codes, ℕ, Bool, true, false, List, [], ◌∷◌, ◌++◌, length, refl, sym, ap, ◌∙◌, Option, Some, None, arith, bytes_eq, lit<}
+use Rattle.std.specs.Prelude.{MatchOption, IfSome, IsTrue, String, string_bytes}
+use Rattle.std.specs.List.{list_any, All}
+use Rattle.std.specs.declared.alloc.Global.{Global}
+use Rattle.std.proofs.lemmas.List.{length-append, map-append, length-map, take-append-drop, drop_more, take_more, take_all, length-drop}
+use Rattle.std.proofs.lemmas.List.Elements.{All-nil, All-push, All-cons, All-head, All-tail}
 use Rattle.std.proofs.lemmas.Str.Pattern.{IsSplitOnceResult, split_parts}
-use Rattle.map_machine.specs.Words.{cut}
+use Rattle.map_words.specs.Names.{is_plain}
+use Rattle.map_machine.specs.Words.{Pair, cut, pair_of, all_pairs, are_apart, pairs_of, is_workers, run_pairs}
 use Rattle.map_machine.proofs.WordsLemmas.{cut-none, cut-at}
+use Rattle.map_machine.proofs.PairsLemmas.{is_named, all_pairs-more, apart_more, pairs_good, pairs_too_many, pairs_twice}
+use Rattle.map_cli.specs.Pairs.{pair_read, pairs_read}
+use Rattle.map_cli.specs.declared.words.Pair.{Pair as Read}
 use denote.Ref.{Bor}
 
 pub cut_once : (bytes : List ℕ) (parts : Option (Bor (List ℕ) × Bor (List ℕ))) → IsSplitOnceResult 61 bytes parts
@@ -12,3 +20,110 @@ cut_once bytes None is = cut-none bytes (split_parts 61 bytes None is (lit< tt))
 cut_once bytes (Some x) is =
     let parts = split_parts 61 bytes (Some x) is (lit< tt) in
     ap cut parts.0 ∙ cut-at x.0.now x.1.now parts.1
+
+-- one of the pairs that were read has this name
+abbrev pub is_read : List Read → List ℕ → Bool
+is_read ps n = list_any (λ (p : Read). bytes_eq p.name.now n) ps
+
+named_read : (ps : List Read) (n : List ℕ) → is_named (pairs_read ps) n ≡ is_read ps n
+named_read [] n = refl
+named_read (p ∷ ps) n = ap (λ t. bytes_eq p.name.now n || t) (named_read ps n)
+
+-- these are the pairs of the words so far
+pub record ReadSoFar (taken : List (String Global)) (ps : List Read) : Type 0 where
+  pub read : all_pairs taken ≡ Some (pairs_read ps)
+  pub apart : are_apart (pairs_read ps) ≡ true
+  pub few : length ps ≤ 32
+  pub plain : All (λ (p : Read). IsTrue (is_plain p.name.now)) ps
+
+pub read_none : ReadSoFar [] []
+read_none = record { read = refl; apart = refl; few = omega arith; plain = All-nil (λ (p : Read). IsTrue (is_plain p.name.now)) }
+
+pub read_more : (taken : List (String Global)) (w : String Global) (ps : List Read) (p : Read) → ReadSoFar taken ps → pair_of (string_bytes w) ≡ Some (pair_read p)
+    → IsTrue (is_plain p.name.now) → length ps < 32 → is_read ps p.name.now ≡ false → ReadSoFar (taken ++ w ∷ []) (ps ++ p ∷ [])
+read_more taken w ps p so is plain room new' =
+    let all : pairs_read (ps ++ p ∷ []) ≡ pairs_read ps ++ pair_read p ∷ [] = map-append pair_read ps (p ∷ []) in
+    record {
+      read = all_pairs-more taken w (pairs_read ps) (pair_read p) so.read is ∙ ap Some (sym all);
+      apart = ap are_apart all ∙ apart_more (pairs_read ps) (pair_read p) so.apart (named_read ps p.name.now ∙ new');
+      few = omega (arith, length-append ps (p ∷ []));
+      plain = All-push (λ (q : Read). IsTrue (is_plain q.name.now)) ps p so.plain plain;
+    }
+
+-- the words, about one of them
+pub words_at : (ws : List (String Global)) (i : ℕ) (w : String Global) → i < length ws → w ≡ get_or ws i w → take i ws ++ w ∷ drop (i + 1) ws ≡ ws
+words_at ws i w within is = ap (λ x. take i ws ++ x ∷ drop (i + 1) ws) is ∙ ap (λ l. take i ws ++ l) (sym (drop_more ws i w within)) ∙ take-append-drop i ws
+
+pub words_to : (ws : List (String Global)) (i : ℕ) (w : String Global) → i < length ws → w ≡ get_or ws i w → take i ws ++ w ∷ [] ≡ take (i + 1) ws
+words_to ws i w within is = ap (λ x. take i ws ++ x ∷ []) is ∙ sym (take_more ws i w within)
+
+pub read_full : (taken more : List (String Global)) (w : String Global) (ps : List Read) (p : Read) → ReadSoFar taken ps → pair_of (string_bytes w) ≡ Some (pair_read p)
+    → 32 ≤ length ps → pairs_of (all_pairs (taken ++ w ∷ more)) ≡ None
+read_full taken more w ps p so is full = pairs_too_many taken more w (pairs_read ps) (pair_read p) so.read is (omega (arith, length-map ps pair_read))
+
+pub read_twice : (taken more : List (String Global)) (w : String Global) (ps : List Read) (p : Read) → ReadSoFar taken ps → pair_of (string_bytes w) ≡ Some (pair_read p)
+    → is_read ps p.name.now ≡ true → pairs_of (all_pairs (taken ++ w ∷ more)) ≡ None
+read_twice taken more w ps p so is named = pairs_twice taken more w (pairs_read ps) (pair_read p) so.read is (named_read ps p.name.now ∙ named)
+
+pub read_all : (words : List (String Global)) (ps : List Read) → ReadSoFar words ps → 0 < length ps → pairs_of (all_pairs words) ≡ Some (pairs_read ps)
+read_all words ps so some = ap pairs_of so.read ∙ pairs_good (pairs_read ps) (omega (arith, length-map ps pair_read)) (omega (arith, length-map ps pair_read, so.few)) so.apart
+
+pub read_empty : (words : List (String Global)) (ps : List Read) → ReadSoFar words ps → length ps ≡ 0 → pairs_of (all_pairs words) ≡ None
+read_empty words [] so none = ap pairs_of so.read
+read_empty words (p ∷ ps) so none = absurd (omega (arith, none))
+
+-- ---- the form of a run
+
+-- three words, and those after them
+pub three_words : (ws : List (String Global)) (r w m : String Global) → 3 ≤ length ws → r ≡ get_or ws 0 r → w ≡ get_or ws 1 w → m ≡ get_or ws 2 m → ws ≡ r ∷ w ∷ m ∷ drop 3 ws
+three_words [] r w m long er ew em = absurd (omega (arith, long))
+three_words (a ∷ []) r w m long er ew em = absurd (omega (arith, long))
+three_words (a ∷ b ∷ []) r w m long er ew em = absurd (omega (arith, long))
+three_words (a ∷ b ∷ c ∷ ws) r w m long er ew em = ap (λ x. x ∷ b ∷ c ∷ ws) (sym er) ∙ ap (λ x. r ∷ x ∷ c ∷ ws) (sym ew) ∙ ap (λ x. r ∷ w ∷ x ∷ ws) (sym em)
+
+pub rest_whole : (ws : List (String Global)) → take (length ws - 3) (drop 3 ws) ≡ drop 3 ws
+rest_whole ws = take_all (length ws - 3) (drop 3 ws) (omega (arith, length-drop 3 ws))
+
+none_by_frame : (a b c : Bool) (o : Option (List Pair)) → (a && c) ≡ false → cond (a && b && c) o None ≡ None
+none_by_frame true true true o e = absurd (cc)
+none_by_frame true true false o e = refl
+none_by_frame true false c o e = refl
+none_by_frame false b c o e = refl
+
+none_by_workers : (a b c : Bool) (o : Option (List Pair)) → b ≡ false → cond (a && b && c) o None ≡ None
+none_by_workers true true c o e = absurd (cc)
+none_by_workers true false c o e = refl
+none_by_workers false b c o e = refl
+
+all_by_form : (a b c : Bool) (o : Option (List Pair)) → (a && c) ≡ true → b ≡ true → cond (a && b && c) o None ≡ o
+all_by_form true true true o e f = refl
+all_by_form true true false o e f = absurd (cc)
+all_by_form true false c o e f = absurd (cc)
+all_by_form false b c o e f = absurd (cc)
+
+abbrev pub is_frame : String Global → String Global → Bool
+is_frame r m = bytes_eq (string_bytes r) (codes "run") && bytes_eq (string_bytes m) (codes "-")
+
+pub run_of_another : (r w m : String Global) (ws : List (String Global)) → is_frame r m ≡ false → run_pairs (r ∷ w ∷ m ∷ ws) ≡ None
+run_of_another r w m ws e = none_by_frame (bytes_eq (string_bytes r) (codes "run")) (is_workers (string_bytes w)) (bytes_eq (string_bytes m) (codes "-")) (pairs_of (all_pairs ws)) e
+
+pub run_of_no_workers : (r w m : String Global) (ws : List (String Global)) → is_workers (string_bytes w) ≡ false → run_pairs (r ∷ w ∷ m ∷ ws) ≡ None
+run_of_no_workers r w m ws e = none_by_workers (bytes_eq (string_bytes r) (codes "run")) (is_workers (string_bytes w)) (bytes_eq (string_bytes m) (codes "-")) (pairs_of (all_pairs ws)) e
+
+pub run_of_pairs : (r w m : String Global) (ws : List (String Global)) → is_frame r m ≡ true → is_workers (string_bytes w) ≡ true → run_pairs (r ∷ w ∷ m ∷ ws) ≡ pairs_of (all_pairs ws)
+run_of_pairs r w m ws e f = all_by_form (bytes_eq (string_bytes r) (codes "run")) (is_workers (string_bytes w)) (bytes_eq (string_bytes m) (codes "-")) (pairs_of (all_pairs ws)) e f
+
+pub frame_is : (r m : String Global) (a b : List ℕ) (found : Bool) → a ≡ string_bytes r → b ≡ string_bytes m → found ≡ (bytes_eq a (codes "run") && bytes_eq b (codes "-"))
+    → is_frame r m ≡ found
+frame_is r m a b found ea eb e =
+    ap (λ t. bytes_eq t (codes "run") && bytes_eq (string_bytes m) (codes "-")) (sym ea) ∙ ap (λ t. bytes_eq a (codes "run") && bytes_eq t (codes "-")) (sym eb) ∙ sym e
+
+-- what holds of all pairs holds of all that were read
+pub all_read : (P : Pair → Type 0) (ps : List Read) → All P (pairs_read ps) → All (λ (q : Read). P (pair_read q)) ps
+all_read P [] all = All-nil (λ (q : Read). P (pair_read q))
+all_read P (p ∷ ps) all = All-cons (λ (q : Read). P (pair_read q)) p ps (All-head P (pair_read p) (pairs_read ps) all) (all_read P ps (All-tail P (pair_read p) (pairs_read ps) all))
+
+-- where every file is served
+pub all_served : (o : Option (List Pair)) → IfSome o (λ ps. All (λ (p : Pair). IsTrue true) ps)
+all_served None = tt
+all_served (Some ps) = λ k d within. refl

@@ -1,6 +1,6 @@
 pub mod Kept
 pub mod Front
-pub mod Parts
+pub mod Pairs
 pub mod Answered
 pub mod Played
 pub mod Loads

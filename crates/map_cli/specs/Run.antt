@@ -7,7 +7,7 @@ use Rattle.map_machine.specs.Lines.{ended_lines}
 use Rattle.map_machine.specs.Steps.{is_quit}
 use Rattle.map_machine.specs.Text.{replies_to}
 use Rattle.map_machine.specs.Words.{Pair}
-use Rattle.map_machine.specs.Play.{pair_text, Opening, goes_on, turned_back, not_held}
+use Rattle.map_machine.specs.Play.{loads_text, Opening, goes_on, turned_back, not_held}
 use Rattle.map_outside.specs.Contents.{Files, Grows}
 use Rattle.map_cli.specs.declared.status.Status.{Status}
 use Rattle.map_cli.specs.declared.status.Status.TheVariants.{Done, Usage, Load, ShelfFault, SourceFault, SinkFault, NoMemory, TooLong}
@@ -53,9 +53,9 @@ IsWhole SourceFault = false
 IsWhole SinkFault = false
 IsWhole NoMemory = false
 
--- the reply to the load, and those to the lines that ended among these bytes
-abbrev pub taken_text : ℕ → Files → Option Pair → List ℕ → List ℕ
-taken_text most files pair taken = pair_text most files pair (λ s. replies_to s (ended_lines taken))
+-- the replies to the loads, and those to the lines that ended among these bytes
+abbrev pub taken_text : ℕ → Files → Option (List Pair) → List ℕ → List ℕ
+taken_text most files pairs taken = loads_text most files pairs (λ s. replies_to s (ended_lines taken))
 
 -- some bytes were taken, and just the text that goes with them was written
 pub record FailsAfter (text : List ℕ → List ℕ) (left left' held held' : Option (List ℕ)) : Type 0 where
@@ -63,7 +63,7 @@ pub record FailsAfter (text : List ℕ → List ℕ) (left left' held held' : Op
   pub moved : Consumes left left' taken
   pub wrote : Grows held held' (text taken)
 
--- ---- how the load and the answer go together
+-- ---- how the loads and the answer go together
 
 abbrev pub OpensSo : Status → Opening → Type 0
 OpensSo Done goes_on = ⊤
@@ -132,6 +132,10 @@ NoneRose f f' s s' k k' = (Rose f f' → ⊥) × (Rose s s' → ⊥) × (Rose k 
 abbrev pub ComesToEnd : ℕ → List ℕ → Type 0
 ComesToEnd limit session = (length session < limit) ⊎ (list_any is_quit (ended_lines (take limit session)) ≡ true)
 
+-- the session has the limit or more, and none of the lines that end before the limit ends it
+abbrev pub ComesToLimit : ℕ → List ℕ → Type 0
+ComesToLimit limit session = (limit ≤ length session) × (list_any is_quit (ended_lines (take limit session)) ≡ false)
+
 -- it is done, or memory was wanted
 abbrev pub IsComplete : Status → Type 0
 IsComplete Done = ⊤
@@ -142,3 +146,14 @@ IsComplete ShelfFault = ⊥
 IsComplete SourceFault = ⊥
 IsComplete SinkFault = ⊥
 IsComplete TooLong = ⊥
+
+-- it is too long, or memory was wanted
+abbrev pub IsTooLong : Status → Type 0
+IsTooLong TooLong = ⊤
+IsTooLong NoMemory = ⊤
+IsTooLong Done = ⊥
+IsTooLong Usage = ⊥
+IsTooLong Load = ⊥
+IsTooLong ShelfFault = ⊥
+IsTooLong SourceFault = ⊥
+IsTooLong SinkFault = ⊥

@@ -6,16 +6,18 @@ ghost use Rattle.map_machine.specs.Text.{reply_to, state_to};
 ghost use Rattle.map_machine.specs.Lines.{open_piece, without_return, further_lines, last_line};
 ghost use Rattle.map_outside.specs.Causes.{PutCounts};
 ghost use Rattle.map_outside.specs.Contents.{PutGrows};
+ghost use Rattle.live_engine.specs.Parts.{KeepsParts};
 ghost use Rattle.map_cli.specs.Answered.{Answered};
 ghost use Rattle.map_cli.specs.Kept.{IsKept};
-ghost use Rattle.map_cli.specs.Parts.{KeepsParts};
 
 use crate::piece::{LONGEST, Piece};
+use crate::workers::Workers;
+use itoa::Buffer;
 use layer_tiles::Tally;
-use live_engine::First;
 use map_machine::Kind;
 use map_nums::NoMemory;
 use map_outside::{PutFault, Sink};
+use map_session::Session;
 use std::alloc::Global;
 
 /// How far some lines were answered.
@@ -56,22 +58,23 @@ fn put_answer<K: Sink>(sink: &mut K, reply: &[u8]) -> Fed
 
 // Answers a line that is not too long.
 fn answer_short<K: Sink, M: Tally + Send>(
-    first: &mut First,
+    alloc: Global,
+    session: &mut Session,
+    workers: Workers,
     sink: &mut K,
     tally: &mut M,
     line: &[u8],
 ) -> Fed
+    requires { length line.now ≤ 4096 }
     ensures parts { KeepsParts (M.counts tally.old) (M.counts tally.new) }
-    ensures answered { Answered first.old first.new (line.now ∷ []) (K.held sink.old) (K.held sink.new) (K.faults sink.old) (K.faults sink.new) result }
+    ensures answered { Answered session.old session.new (line.now ∷ []) (K.held sink.old) (K.held sink.new) (K.faults sink.old) (K.faults sink.new) result }
 {
-    match first.line(line, tally) {
+    match session.step(alloc, line, workers.count, tally) {
         Err(NoMemory) => Fed::NoMemory,
-        Ok(reply) => {
-            if reply.kind == Kind::Quit {
-                return Fed::Quit;
-            }
-            put_answer(sink, &reply.bytes)
-        }
+        Ok(reply) => match reply.kind {
+            Kind::Quit => Fed::Quit,
+            _ => put_answer(sink, &reply.bytes),
+        },
     }
 }
 
@@ -79,8 +82,10 @@ fn answer_short<K: Sink, M: Tally + Send>(
 fn long_text(alloc: Global, count: u64) -> Result<Vec<u8>, NoMemory>
     ensures { IfOk result (λ text. text.items ≡ long_reply count) }
 {
-    let _length = count;
-    Ok(Vec::from_slice(alloc, b"refused later\n")?)
+    let mut text = Vec::from_slice(alloc, b"refused long ")?;
+    text.extend_from_slice(Buffer::new().format(count).as_bytes())?;
+    text.push(b'\n')?;
+    Ok(text)
 }
 
 // Refuses a line that is too long.
@@ -98,7 +103,8 @@ fn answer_long<K: Sink>(alloc: Global, sink: &mut K, count: u64) -> Fed
 // Answers the line of this length that begins with the bytes that were kept.
 fn answer<K: Sink, M: Tally + Send>(
     alloc: Global,
-    first: &mut First,
+    session: &mut Session,
+    workers: Workers,
     sink: &mut K,
     tally: &mut M,
     kept: &[u8],
@@ -107,18 +113,19 @@ fn answer<K: Sink, M: Tally + Send>(
     requires { count ≤ 4096 → count ≤ length kept.now }
     ensures parts { KeepsParts (M.counts tally.old) (M.counts tally.new) }
     ensures answered { (line : List ℕ) → length line ≡ count → (count ≤ 4096 → line ≡ take count kept.now)
-        → Answered first.old first.new (line ∷ []) (K.held sink.old) (K.held sink.new) (K.faults sink.old) (K.faults sink.new) result }
+        → Answered session.old session.new (line ∷ []) (K.held sink.old) (K.held sink.new) (K.faults sink.old) (K.faults sink.new) result }
 {
     if count > LONGEST {
         return answer_long(alloc, sink, count);
     }
-    answer_short(first, sink, tally, &kept[..count as usize])
+    answer_short(alloc, session, workers, sink, tally, &kept[..count as usize])
 }
 
 // Answers the piece that a line feed ends, and begins the next one.
 fn end_line<K: Sink, M: Tally + Send>(
     alloc: Global,
-    first: &mut First,
+    session: &mut Session,
+    workers: Workers,
     sink: &mut K,
     tally: &mut M,
     piece: &mut Piece,
@@ -127,13 +134,13 @@ fn end_line<K: Sink, M: Tally + Send>(
     ensures parts { KeepsParts (M.counts tally.old) (M.counts tally.new) }
     ensures kept { IsKept [] piece.new.kept.items piece.new.count piece.new.returns }
     ensures answered { (bytes : List ℕ) → IsKept bytes piece.old.kept.items piece.old.count piece.old.returns
-        → Answered first.old first.new (without_return bytes ∷ []) (K.held sink.old) (K.held sink.new) (K.faults sink.old) (K.faults sink.new) result }
+        → Answered session.old session.new (without_return bytes ∷ []) (K.held sink.old) (K.held sink.new) (K.faults sink.old) (K.faults sink.new) result }
 {
     let mut count = piece.count;
     if piece.returns {
         count -= 1;
     }
-    let fed = answer(alloc, first, sink, tally, &piece.kept, count);
+    let fed = answer(alloc, session, workers, sink, tally, &piece.kept, count);
     piece.clear();
     fed
 }
@@ -141,7 +148,8 @@ fn end_line<K: Sink, M: Tally + Send>(
 // Takes in a byte.
 fn feed_byte<K: Sink, M: Tally + Send>(
     alloc: Global,
-    first: &mut First,
+    session: &mut Session,
+    workers: Workers,
     sink: &mut K,
     tally: &mut M,
     piece: &mut Piece,
@@ -151,12 +159,12 @@ fn feed_byte<K: Sink, M: Tally + Send>(
     ensures count { piece.new.count ≤ piece.old.count + 1 }
     ensures parts { KeepsParts (M.counts tally.old) (M.counts tally.new) }
     ensures answered { (taken : List ℕ) → IsKept (open_piece taken) piece.old.kept.items piece.old.count piece.old.returns
-        → Answered first.old first.new (further_lines taken (byte ∷ [])) (K.held sink.old) (K.held sink.new) (K.faults sink.old) (K.faults sink.new) result }
+        → Answered session.old session.new (further_lines taken (byte ∷ [])) (K.held sink.old) (K.held sink.new) (K.faults sink.old) (K.faults sink.new) result }
     ensures kept { result ≡ Fed.More → (taken : List ℕ) → IsKept (open_piece taken) piece.old.kept.items piece.old.count piece.old.returns
         → IsKept (open_piece (taken ++ byte ∷ [])) piece.new.kept.items piece.new.count piece.new.returns }
 {
     if byte == b'\n' {
-        return end_line(alloc, first, sink, tally, piece);
+        return end_line(alloc, session, workers, sink, tally, piece);
     }
     match piece.push(byte) {
         Ok(()) => Fed::More,
@@ -167,7 +175,8 @@ fn feed_byte<K: Sink, M: Tally + Send>(
 /// Takes in some bytes, and answers the lines that they end.
 pub fn feed<K: Sink, M: Tally + Send>(
     alloc: Global,
-    first: &mut First,
+    session: &mut Session,
+    workers: Workers,
     sink: &mut K,
     tally: &mut M,
     piece: &mut Piece,
@@ -177,12 +186,12 @@ pub fn feed<K: Sink, M: Tally + Send>(
     ensures count { piece.new.count ≤ piece.old.count + length bytes.now }
     ensures parts { KeepsParts (M.counts tally.old) (M.counts tally.new) }
     ensures answered { (taken : List ℕ) → IsKept (open_piece taken) piece.old.kept.items piece.old.count piece.old.returns
-        → Answered first.old first.new (further_lines taken bytes.now) (K.held sink.old) (K.held sink.new) (K.faults sink.old) (K.faults sink.new) result }
+        → Answered session.old session.new (further_lines taken bytes.now) (K.held sink.old) (K.held sink.new) (K.faults sink.old) (K.faults sink.new) result }
     ensures kept { result ≡ Fed.More → (taken : List ℕ) → IsKept (open_piece taken) piece.old.kept.items piece.old.count piece.old.returns
         → IsKept (open_piece (taken ++ bytes.now)) piece.new.kept.items piece.new.count piece.new.returns }
 {
     for byte in bytes {
-        match feed_byte(alloc, first, sink, tally, piece, *byte) {
+        match feed_byte(alloc, session, workers, sink, tally, piece, *byte) {
             Fed::More => {}
             Fed::Quit => return Fed::Quit,
             Fed::SinkFault => return Fed::SinkFault,
@@ -195,17 +204,18 @@ pub fn feed<K: Sink, M: Tally + Send>(
 /// Answers what stands after the last line feed, once the end was seen.
 pub fn finish<K: Sink, M: Tally + Send>(
     alloc: Global,
-    first: &mut First,
+    session: &mut Session,
+    workers: Workers,
     sink: &mut K,
     tally: &mut M,
     piece: &Piece,
 ) -> Fed
     ensures parts { KeepsParts (M.counts tally.old) (M.counts tally.new) }
     ensures answered { (bytes : List ℕ) → IsKept bytes piece.now.kept.items piece.now.count piece.now.returns
-        → Answered first.old first.new (last_line bytes) (K.held sink.old) (K.held sink.new) (K.faults sink.old) (K.faults sink.new) result }
+        → Answered session.old session.new (last_line bytes) (K.held sink.old) (K.held sink.new) (K.faults sink.old) (K.faults sink.new) result }
 {
     if piece.count == 0 {
         return Fed::More;
     }
-    answer(alloc, first, sink, tally, &piece.kept, piece.count)
+    answer(alloc, session, workers, sink, tally, &piece.kept, piece.count)
 }

@@ -2,12 +2,12 @@
 //!
 //! [`run`] does all that the program does, over any shelf, source, sink and tally. `main` hands it the arguments, the
 //! system's files, the standard streams and a tally, and ends with the code of the [`Status`] that it answers. A run
-//! loads the file that its words name (`opening`), and then answers the session's lines (`session`, `lines`), of which
+//! loads the files that its words name (`words`, `workers`, `opening`), and then answers the session's lines (`session`, `lines`), of which
 //! `piece` keeps the one that no line feed has ended yet. What is written is proved to be the text of the map machine.
 #![tactic(auto)]
 
 ghost use Rattle.std.specs.Prelude.{◌≡◌, ◌↔◌, IsNone};
-ghost use Rattle.map_machine.specs.Words.{pair_of};
+ghost use Rattle.map_machine.specs.Words.{run_pairs};
 
 mod lines;
 mod opening;
@@ -18,6 +18,7 @@ mod status;
 mod tests;
 mod top;
 mod words;
+mod workers;
 
 use map_outside::{Counts, FileShelf, ReadSource, WriteSink};
 pub use status::Status;
@@ -36,7 +37,7 @@ fn arguments(rt: &HostRuntime) -> io::Result<Vec<String>> {
 
 // A run of these words over the system's files and the standard streams.
 fn run_here(rt: &HostRuntime, words: &[String]) -> Status
-    ensures { (result ≡ Status.Usage) ↔ IsNone (pair_of words.now) }
+    ensures { (result ≡ Status.Usage) ↔ IsNone (run_pairs words.now) }
 {
     let mut shelf = FileShelf::new(rt);
     let mut source = ReadSource::new(rt.stdin());

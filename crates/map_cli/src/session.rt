@@ -1,14 +1,15 @@
 //! The session, from a source to a sink.
 ghost use Rattle.std.specs.Prelude.{◌≡◌, ◌≤◌, ◌<◌, length, vec_len, IfOk};
-ghost use Rattle.map_cli.specs.Parts.{KeepsParts};
+ghost use Rattle.live_engine.specs.Parts.{KeepsParts};
 ghost use Rattle.map_cli.specs.Played.{Plays, EndingCounts, ending_for};
 
 use crate::lines::{Fed, feed, finish};
 use crate::piece::Piece;
+use crate::workers::Workers;
 use layer_tiles::Tally;
-use live_engine::First;
 use map_nums::NoMemory;
 use map_outside::{Failed, Sink, Source};
+use map_session::Session;
 use std::alloc::Global;
 
 /// How a session ended.
@@ -50,7 +51,8 @@ fn zeroed(alloc: Global, size: usize) -> Result<Vec<u8>, NoMemory>
 // Plays a session through a buffer.
 fn play_chunks<S: Source, K: Sink, M: Tally + Send>(
     alloc: Global,
-    first: &mut First,
+    session: &mut Session,
+    workers: Workers,
     source: &mut S,
     sink: &mut K,
     tally: &mut M,
@@ -61,7 +63,7 @@ fn play_chunks<S: Source, K: Sink, M: Tally + Send>(
     requires some { 0 < length chunk.old }
     ensures counts { EndingCounts (S.faults source.old) (S.faults source.new) (K.faults sink.old) (K.faults sink.new) result }
     ensures parts { KeepsParts (M.counts tally.old) (M.counts tally.new) }
-    ensures plays { Plays limit first.old (S.left source.old) (S.left source.new) (K.held sink.old) (K.held sink.new) result }
+    ensures plays { Plays limit session.old (S.left source.old) (S.left source.new) (K.held sink.old) (K.held sink.new) result }
 {
     let mut piece = Piece::new(alloc);
     let mut taken = 0;
@@ -70,12 +72,12 @@ fn play_chunks<S: Source, K: Sink, M: Tally + Send>(
         match source.take(&mut chunk[..room]) {
             Err(Failed) => return Ending::SourceFault,
             Ok(0) => {
-                let fed = finish(alloc, first, sink, tally, &piece);
+                let fed = finish(alloc, session, workers, sink, tally, &piece);
                 return ending_of(fed);
             }
             Ok(count) => {
                 taken += count as u64;
-                let fed = feed(alloc, first, sink, tally, &mut piece, &chunk[..count]);
+                let fed = feed(alloc, session, workers, sink, tally, &mut piece, &chunk[..count]);
                 match fed {
                     Fed::More => {}
                     _ => return ending_of(fed),
@@ -89,7 +91,8 @@ fn play_chunks<S: Source, K: Sink, M: Tally + Send>(
 /// Answers the lines of a source, up to its end, to a line that ends the session, or to so many bytes.
 pub fn play_session<S: Source, K: Sink, M: Tally + Send>(
     alloc: Global,
-    first: &mut First,
+    session: &mut Session,
+    workers: Workers,
     source: &mut S,
     sink: &mut K,
     tally: &mut M,
@@ -98,10 +101,10 @@ pub fn play_session<S: Source, K: Sink, M: Tally + Send>(
     requires { limit ≤ 1073741824 }
     ensures counts { EndingCounts (S.faults source.old) (S.faults source.new) (K.faults sink.old) (K.faults sink.new) result }
     ensures parts { KeepsParts (M.counts tally.old) (M.counts tally.new) }
-    ensures plays { Plays limit first.old (S.left source.old) (S.left source.new) (K.held sink.old) (K.held sink.new) result }
+    ensures plays { Plays limit session.old (S.left source.old) (S.left source.new) (K.held sink.old) (K.held sink.new) result }
 {
     match zeroed(alloc, CHUNK) {
-        Ok(mut chunk) => play_chunks(alloc, first, source, sink, tally, &mut chunk, limit),
+        Ok(mut chunk) => play_chunks(alloc, session, workers, source, sink, tally, &mut chunk, limit),
         Err(NoMemory) => Ending::NoMemory,
     }
 }

@@ -7,7 +7,7 @@ pub enum Status {
     Done,
     /// The words are not of the form of a run.
     Usage,
-    /// The load was refused.
+    /// A load was refused.
     Load,
     /// The shelf failed.
     ShelfFault,

@@ -14,6 +14,11 @@ const WORDS: [&str; 4] = ["run", "1", "-", "A=a"];
 const FILE: &[u8] =
     b"ncols 3\nnrows 3\nxllcorner 0\nyllcorner 0\ncellsize 1\n1 2 3\n4 5 6\n7 8 9\n";
 
+const SEVEN: &[u8] = b"ncols 1\nnrows 1\nxllcorner 0\nyllcorner 0\ncellsize 1\n7\n";
+
+const SPACED: &[u8] =
+    b"NCOLS        2\r\nNROWS        2\r\nXLLCORNER    100.5\r\nYLLCORNER    -20.000000000000\r\nCELLSIZE     60.000000000000\r\n 1 2\r\n -9999 4\r\n";
+
 const SESSION: &[u8] = b"B = LocalSum of A and 3\ngrid B\n";
 
 // The replies to the load, then to the first line too, then to both lines.
@@ -46,21 +51,28 @@ fn owned(alloc: Global, texts: &[&str]) -> Result<Vec<String>, AllocError> {
     Ok(words)
 }
 
-fn shelf_of(alloc: Global, file: &[u8], fails: Fails) -> Result<MemoryShelf, AllocError> {
-    let files = vec![in alloc; (String::from_str(alloc, "a")?, file.to_vec(alloc)?)]?;
-    Ok(MemoryShelf::new(files, vec![in alloc; fails.shelf]?))
+fn shelf_of(
+    alloc: Global,
+    files: &[(&str, &[u8])],
+    fails: Fails,
+) -> Result<MemoryShelf, AllocError> {
+    let mut held = Vec::new(alloc);
+    for (name, bytes) in files {
+        held.push((String::from_str(alloc, name)?, bytes.to_vec(alloc)?))?;
+    }
+    Ok(MemoryShelf::new(held, vec![in alloc; fails.shelf]?))
 }
 
 // A run of these words: its code, and what it wrote.
-fn play(
+fn play_with(
     alloc: Global,
     texts: &[&str],
-    file: &[u8],
+    files: &[(&str, &[u8])],
     session: &[u8],
     fails: Fails,
 ) -> Result<(u8, Vec<u8>), AllocError> {
     let words = owned(alloc, texts)?;
-    let mut shelf = shelf_of(alloc, file, fails)?;
+    let mut shelf = shelf_of(alloc, files, fails)?;
     let mut source = MemorySource::new(session.to_vec(alloc)?, 12, vec![in alloc; fails.source]?);
     let mut sink = MemorySink::new(alloc, vec![in alloc; fails.sink]?);
     let mut tally = Counts::new();
@@ -75,6 +87,17 @@ fn play(
     Ok((status.code(), sink.bytes().to_vec(alloc)?))
 }
 
+// A run over one file.
+fn play(
+    alloc: Global,
+    texts: &[&str],
+    file: &[u8],
+    session: &[u8],
+    fails: Fails,
+) -> Result<(u8, Vec<u8>), AllocError> {
+    play_with(alloc, texts, &[("a", file)], session, fails)
+}
+
 // A run with these limits.
 fn play_within(
     alloc: Global,
@@ -85,7 +108,7 @@ fn play_within(
     requires { limit ≤ 1073741824 }
 {
     let words = owned(alloc, &WORDS)?;
-    let mut shelf = shelf_of(alloc, FILE, NONE)?;
+    let mut shelf = shelf_of(alloc, &[("a", FILE)], NONE)?;
     let mut source = MemorySource::new(session.to_vec(alloc)?, 5, vec![in alloc]?);
     let mut sink = MemorySink::new(alloc, vec![in alloc]?);
     let mut tally = Counts::new();
@@ -111,23 +134,103 @@ fn shows_a_sum(rt: HostRuntime) -> Result<(), Fail> {
 }
 
 #[test]
-fn refuses_lines(rt: HostRuntime) -> Result<(), Fail> {
-    let (code, wrote) = play(rt.alloc(), &WORDS, FILE, b"hello\r\ngrid Z", NONE)?;
-    assert_eq!(rt; code, 0);
-    assert_eq!(rt;
-        wrote.as_slice(),
-        b"ok 1\nrefused later\nundefined Z: Z\n".as_slice()
-    );
+fn answers_lines(rt: HostRuntime) -> Result<(), Fail> {
+    for (pair, file, session, replies) in [
+        (
+            "S=a",
+            SEVEN,
+            b"A = LocalSum of B and 1\nB = LocalSum of A and 1\nB = LocalSum of B and 1\nlist\n"
+                .as_slice(),
+            b"ok 1\nok 2\nrefused cycle B\nrefused cycle B\nlist 2\nsource S\nA = LocalSum of B and 1\n"
+                .as_slice(),
+        ),
+        (
+            "A=a",
+            FILE,
+            b"C = LocalSum of A and Q\nvalue C 1 1\nA = LocalSum of A and 1\ndrop Q\n".as_slice(),
+            b"ok 1\nok 2\nundefined C: Q\nrefused exists A\nrefused unknown Q\n".as_slice(),
+        ),
+        (
+            "A=a",
+            SEVEN,
+            b"B = LocalSum of C and 1\ngrid B\nnew C 1\nvalue B 1 1\ndrop C\nvalue B 1 1\nvalue C 1 1\nnew C 1\nvalue B 2 1\n"
+                .as_slice(),
+            b"ok 1\nok 2\nundefined B: C\nok 3\nvalue B 1 1 2\nok 4\nundefined B: C\nundefined C: C\nok 5\nvalue B 2 1 outside\n"
+                .as_slice(),
+        ),
+        (
+            "A=a",
+            SPACED,
+            b"grid A\n".as_slice(),
+            b"ok 1\nncols 2\nnrows 2\nxllcorner 100.5\nyllcorner -20.000000000000\ncellsize 60.000000000000\nNODATA_value -2000000001\n1 2\n-2000000001 4\n"
+                .as_slice(),
+        ),
+    ] {
+        let (code, wrote) = play(rt.alloc(), &["run", "1", "-", pair], file, session, NONE)?;
+        assert_eq!(rt; code, 0);
+        assert_eq!(rt; wrote.as_slice(), replies);
+    }
     Ok(())
 }
 
 #[test]
 fn refuses_a_load(rt: HostRuntime) -> Result<(), Fail> {
-    let file =
-        b"NCOLS        2\r\nNROWS        2\r\nXLLCORNER    100.5\r\nYLLCORNER    -20.000000000000\r\nCELLSIZE     60.000000000000\r\n 1 2\r\n -9999 4\r\n";
-    let (code, wrote) = play(rt.alloc(), &WORDS, file, SESSION, NONE)?;
+    for (file, reply) in [
+        (
+            b"ncols x\n".as_slice(),
+            b"refused load A number 7\n".as_slice(),
+        ),
+        (
+            b"ncols 1\nnrows 1\nxllcorner 0\nyllcorner 0\ndx 1\n".as_slice(),
+            b"refused load A key 41\n".as_slice(),
+        ),
+        (
+            b"ncols 0\nnrows 1\nxllcorner 0\nyllcorner 0\ncellsize 1\n7\n".as_slice(),
+            b"refused load A limits 1 0\n".as_slice(),
+        ),
+        (
+            b"ncols 1\nnrows 1\nxllcorner 0\nyllcorner 0\ncellsize 1\n7.5\n".as_slice(),
+            b"refused load A cell 1\n".as_slice(),
+        ),
+        (
+            b"ncols 1\nnrows 1\nxllcorner 0\nyllcorner 0\ncellsize 1\n2000000001\n".as_slice(),
+            b"refused load A range 1\n".as_slice(),
+        ),
+    ] {
+        let (code, wrote) = play(rt.alloc(), &WORDS, file, SESSION, NONE)?;
+        assert_eq!(rt; code, 3);
+        assert_eq!(rt; wrote.as_slice(), reply);
+    }
+    Ok(())
+}
+
+#[test]
+fn refuses_a_second_load(rt: HostRuntime) -> Result<(), Fail> {
+    let words = ["run", "64", "-", "A=a", "B=b"];
+    let (code, wrote) = play_with(
+        rt.alloc(),
+        &words,
+        &[("a", FILE), ("b", SEVEN)],
+        b"list\n",
+        NONE,
+    )?;
     assert_eq!(rt; code, 3);
-    assert_eq!(rt; wrote.as_slice(), b"refused load A later\n".as_slice());
+    assert_eq!(rt;
+        wrote.as_slice(),
+        b"ok 1\nrefused load B size 3 3\n".as_slice()
+    );
+    let (code, wrote) = play_with(
+        rt.alloc(),
+        &words,
+        &[("a", FILE), ("b", FILE)],
+        b"list\n",
+        NONE,
+    )?;
+    assert_eq!(rt; code, 0);
+    assert_eq!(rt;
+        wrote.as_slice(),
+        b"ok 1\nok 2\nlist 2\nsource A\nsource B\n".as_slice()
+    );
     Ok(())
 }
 
@@ -137,10 +240,25 @@ fn refuses_words(rt: HostRuntime) -> Result<(), Fail> {
         let (code, wrote) = play(rt.alloc(), &["run", "1", "-", pair], FILE, SESSION, NONE)?;
         assert_eq!(rt; (code, wrote.len()), (2, 0), "{pair}");
     }
-    let (code, wrote) = play(rt.alloc(), &["run", "2", "-", "A=a"], FILE, SESSION, NONE)?;
-    assert_eq!(rt; (code, wrote.len()), (2, 0));
-    let (code, wrote) = play(rt.alloc(), &[], FILE, SESSION, NONE)?;
-    assert_eq!(rt; (code, wrote.len()), (2, 0));
+    for workers in ["0", "65", "01", "+1", "", "1 "] {
+        let (code, wrote) = play(
+            rt.alloc(),
+            &["run", workers, "-", "A=a"],
+            FILE,
+            SESSION,
+            NONE,
+        )?;
+        assert_eq!(rt; (code, wrote.len()), (2, 0), "{workers}");
+    }
+    for words in [
+        [].as_slice(),
+        ["run", "1", "-"].as_slice(),
+        ["run", "1", "A=a"].as_slice(),
+        ["run", "1", "-", "A=a", "B=b", "A=b"].as_slice(),
+    ] {
+        let (code, wrote) = play(rt.alloc(), words, FILE, SESSION, NONE)?;
+        assert_eq!(rt; (code, wrote.len()), (2, 0));
+    }
     Ok(())
 }
 
@@ -216,7 +334,13 @@ fn keeps_to_the_limits(rt: HostRuntime) -> Result<(), Fail> {
             b"ok 1\nundefined B: B\n".as_slice(),
         ),
         (69, 6, Status::TooLong, LOADED),
-        (68, 14, Status::Load, b"refused load A later\n".as_slice()),
+        (69, 0, Status::TooLong, LOADED),
+        (
+            68,
+            14,
+            Status::Load,
+            b"refused load A long 68\n".as_slice(),
+        ),
     ] {
         let came = play_within(rt.alloc(), most, limit, session)?;
         assert_eq!(rt; came.0, status, "{most} {limit}");
@@ -234,7 +358,7 @@ fn refuses_a_long_line(rt: HostRuntime) -> Result<(), Fail> {
     assert_eq!(rt; came.0, Status::Done);
     assert_eq!(rt;
         came.1.as_slice(),
-        b"ok 1\nrefused later\nundefined B: B\n".as_slice()
+        b"ok 1\nrefused long 4097\nundefined B: B\n".as_slice()
     );
     Ok(())
 }
@@ -243,7 +367,7 @@ fn refuses_a_long_line(rt: HostRuntime) -> Result<(), Fail> {
 fn runs_over_the_adapters(rt: HostRuntime) -> Result<(), Fail> {
     let alloc = rt.alloc();
     let words = owned(alloc, &WORDS)?;
-    let mut shelf = shelf_of(alloc, FILE, NONE)?;
+    let mut shelf = shelf_of(alloc, &[("a", FILE)], NONE)?;
     let mut source = ReadSource::new(SESSION);
     let mut tally = Counts::new();
     let mut wrote = Vec::new(alloc);

@@ -1,6 +1,9 @@
 pub mod LinesLemmas
 pub mod TextLemmas
+pub mod StepLemmas
 pub mod OpeningLemmas
 pub mod WordsLemmas
-pub mod StepLemmas
+pub mod PairsLemmas
+pub mod WorkersLemmas
 mod LinesRows
+mod WordsRows

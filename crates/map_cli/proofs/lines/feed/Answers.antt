@@ -10,7 +10,7 @@ pub loop-byte-init : goal.loop-byte-init
 loop-byte-init g c = record {
   count = omega arith;
   parts = (refl, refl);
-  answered = λ taken was. rw (further_lines-nil taken) (nothing_answered c.args.first.now (g.K.Sink.held c.args.sink.now) (g.K.Sink.faults c.args.sink.now));
+  answered = λ taken was. rw (further_lines-nil taken) (nothing_answered c.args.session.now (g.K.Sink.held c.args.sink.now) (g.K.Sink.faults c.args.sink.now));
   kept = λ taken was. rw (append-nil taken) was;
 }
 
@@ -18,21 +18,21 @@ pub returns-in-Quit-clause-answered : goal.returns-in-Quit-clause-answered
 returns-in-Quit-clause-answered g c taken was =
     let i = c.loop-byte.byte-index in
     let xs : List ℕ = c.args.bytes.now in
-    byte_stops taken xs i _ _ c.feed_byte.new.first _ _ _ _ _ _ Quit c.loop-byte-test.true (λ e. cc)
+    byte_stops taken xs i _ _ c.feed_byte.new.session _ _ _ _ _ _ Quit c.loop-byte-test.true (λ e. cc)
     (c.loop-byte.invariant.answered taken was) (c.in-Quit.ensures.answered (taken ++ take i xs) (c.loop-byte.invariant.kept taken was))
 
 pub returns-in-SinkFault-clause-answered : goal.returns-in-SinkFault-clause-answered
 returns-in-SinkFault-clause-answered g c taken was =
     let i = c.loop-byte.byte-index in
     let xs : List ℕ = c.args.bytes.now in
-    byte_stops taken xs i _ _ c.feed_byte.new.first _ _ _ _ _ _ SinkFault c.loop-byte-test.true (λ e. cc)
+    byte_stops taken xs i _ _ c.feed_byte.new.session _ _ _ _ _ _ SinkFault c.loop-byte-test.true (λ e. cc)
     (c.loop-byte.invariant.answered taken was) (c.in-SinkFault.ensures.answered (taken ++ take i xs) (c.loop-byte.invariant.kept taken was))
 
 pub returns-in-NoMemory-clause-answered : goal.returns-in-NoMemory-clause-answered
 returns-in-NoMemory-clause-answered g c taken was =
     let i = c.loop-byte.byte-index in
     let xs : List ℕ = c.args.bytes.now in
-    byte_stops taken xs i _ _ c.feed_byte.new.first _ _ _ _ _ _ NoMemory c.loop-byte-test.true (λ e. cc)
+    byte_stops taken xs i _ _ c.feed_byte.new.session _ _ _ _ _ _ NoMemory c.loop-byte-test.true (λ e. cc)
     (c.loop-byte.invariant.answered taken was) (c.in-NoMemory.ensures.answered (taken ++ take i xs) (c.loop-byte.invariant.kept taken was))
 
 pub loop-byte-preserved : goal.loop-byte-preserved
@@ -43,7 +43,7 @@ loop-byte-preserved g c =
     record {
       count = omega (arith, c.in-More.ensures.count, c.loop-byte.invariant.count);
       parts = keeps_then (M.counts c.args.tally.now) (M.counts c.loop-byte.tally) (M.counts c.feed_byte.new.tally) c.loop-byte.invariant.parts c.in-More.ensures.parts;
-      answered = λ taken was. byte_then taken xs i _ _ c.feed_byte.new.first _ _ _ _ _ _ More c.loop-byte-test.true
+      answered = λ taken was. byte_then taken xs i _ _ c.feed_byte.new.session _ _ _ _ _ _ More c.loop-byte-test.true
           (c.loop-byte.invariant.answered taken was) (c.in-More.ensures.answered (taken ++ take i xs) (c.loop-byte.invariant.kept taken was));
       kept = λ taken was. rw (take_more xs i 0 c.loop-byte-test.true, ← append_assoc taken (take i xs) (get_or xs i 0 ∷ []))
           (c.in-More.ensures.kept (cc) (taken ++ take i xs) (c.loop-byte.invariant.kept taken was));

@@ -18,7 +18,7 @@ returns-then-byte-eq10-clause-kept g c more taken was =
 pub returns-in-Ok-clause-answered : goal.returns-in-Ok-clause-answered
 returns-in-Ok-clause-answered g c taken was =
     let apart : (c.args.byte == 10) ≡ false = ne_eqb c.args.byte 10 c.if-byte-eq10.false in
-    rw (further_lines-byte taken c.args.byte apart) (nothing_answered c.args.first.now (g.K.Sink.held c.args.sink.now) (g.K.Sink.faults c.args.sink.now))
+    rw (further_lines-byte taken c.args.byte apart) (nothing_answered c.args.session.now (g.K.Sink.held c.args.sink.now) (g.K.Sink.faults c.args.sink.now))
 
 pub returns-in-Ok-clause-kept : goal.returns-in-Ok-clause-kept
 returns-in-Ok-clause-kept g c more taken was =
@@ -27,4 +27,4 @@ returns-in-Ok-clause-kept g c more taken was =
 
 pub returns-in-Err-clause-answered : goal.returns-in-Err-clause-answered
 returns-in-Err-clause-answered g c taken was =
-    lacks_before c.args.first.now (further_lines taken (c.args.byte ∷ [])) (g.K.Sink.held c.args.sink.now) (g.K.Sink.faults c.args.sink.now)
+    lacks_before c.args.session.now (further_lines taken (c.args.byte ∷ [])) (g.K.Sink.held c.args.sink.now) (g.K.Sink.faults c.args.sink.now)

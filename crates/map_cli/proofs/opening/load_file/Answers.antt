@@ -1,7 +1,6 @@
 use Rattle.std.proofs.Common.{List, ℕ, subst, arith}
-use Rattle.map_machine.specs.Loads.{first_load}
-use Rattle.map_machine.specs.Play.{opened_text, opened_opening}
-use Rattle.map_cli.specs.Loads.{LoadedCounts, LoadsBytes}
+use Rattle.map_cli.specs.Loads.{LoadedCounts, LoadsAs, load_on}
+use Rattle.map_cli.specs.Pairs.{pair_read}
 use Rattle.map_cli.proofs.LoadLemmas.{fetched, fetched_long}
 use Rattle.map_cli.proofs.opening.load_file.Goals as goal
 
@@ -15,18 +14,18 @@ returns-in-Err-Long-clause-counts g c =
 pub returns-in-Err-Long-clause-loads : goal.returns-in-Err-Long-clause-loads
 returns-in-Err-Long-clause-loads g c =
     let is = rw c.in-Err-Long.field-0-is at c.in-Err-Long.ensures.bytes in
-    fetched_long (g.F.Shelf.files c.args.shelf.now) c.args.name.now c.args.file.now c.args.most (g.K.Sink.held c.args.sink.now) (g.K.Sink.held c.refuse_long.new.sink)
+    fetched_long (g.F.Shelf.files c.args.shelf.now) c.args.most (load_on c.args.session) (pair_read c.args.pair.now) (g.K.Sink.held c.args.sink.now) (g.K.Sink.held c.refuse_long.new.sink)
     c.refuse_long.result is c.refuse_long.ensures.loads
 
-pub returns-in-Ok-clause-counts : goal.returns-in-Ok-clause-counts
-returns-in-Ok-clause-counts g c =
+pub returns-clause-counts : goal.returns-clause-counts
+returns-clause-counts g c =
     let K = g.K.Sink in
     let P : ℕ → Type 0 = λ n. LoadedCounts n (g.F.Shelf.faults c.fetch.new.self) (K.faults c.args.sink.now) (K.faults c.load_bytes.new.sink) c.load_bytes.result in
     subst P c.in-Ok.ensures.cause (c.load_bytes.ensures.counts (g.F.Shelf.faults c.fetch.new.self))
 
-pub returns-in-Ok-clause-loads : goal.returns-in-Ok-clause-loads
-returns-in-Ok-clause-loads g c =
+pub returns-clause-loads : goal.returns-clause-loads
+returns-clause-loads g c =
     let K = g.K.Sink in
-    let P : List ℕ → Type 0 = λ b. LoadsBytes (opened_text (first_load c.args.name.now b)) (opened_opening (first_load c.args.name.now b)) (K.held c.args.sink.now) (K.held c.load_bytes.new.sink) c.load_bytes.result in
-    fetched (g.F.Shelf.files c.args.shelf.now) c.args.name.now c.args.file.now c.args.most c.in-Ok.bytes (K.held c.args.sink.now) (K.held c.load_bytes.new.sink) c.load_bytes.result
+    let P : List ℕ → Type 0 = λ b. LoadsAs (load_on c.args.session c.args.pair.now.name.now b) (K.held c.args.sink.now) (K.held c.load_bytes.new.sink) c.load_bytes.result in
+    fetched (g.F.Shelf.files c.args.shelf.now) c.args.most (load_on c.args.session) (pair_read c.args.pair.now) c.in-Ok.bytes (K.held c.args.sink.now) (K.held c.load_bytes.new.sink) c.load_bytes.result
     c.in-Ok.ensures.bytes (omega (arith, c.in-Ok.ensures.bound, c.in-Ok.bytes.ok.0)) (subst P c.deref.ensures.value c.load_bytes.ensures.loads)

@@ -1,5 +1,5 @@
 use Rattle.std.proofs.Common.{◌≡◌, ◌≤◌, ◌-◌}
-use Rattle.map_cli.specs.Parts.{KeepsParts}
+use Rattle.live_engine.specs.Parts.{KeepsParts}
 use Rattle.map_cli.proofs.Playing.{Playing}
 use Rattle.map_cli.proofs.session.play_chunks.Given as goal
 
@@ -9,7 +9,7 @@ invariant-loop-taken g l = record {
   short : l.piece.count ≤ l.taken;
   parts : KeepsParts (g.M.Tally.counts l.initial.tally) (g.M.Tally.counts l.tally);
   source : g.S.Source.faults l.source ≡ g.S.Source.faults l.initial.source;
-  playing : Playing l.initial.first l.first (g.S.Source.left l.initial.source) (g.S.Source.left l.source) (g.K.Sink.held l.initial.sink) (g.K.Sink.held l.sink)
+  playing : Playing l.initial.session l.session (g.S.Source.left l.initial.source) (g.S.Source.left l.source) (g.K.Sink.held l.initial.sink) (g.K.Sink.held l.sink)
       (g.K.Sink.faults l.initial.sink) (g.K.Sink.faults l.sink) l.piece.kept.items l.piece.count l.piece.returns l.taken;
 }
 
