@@ -1,34 +1,39 @@
--- What a text is read as.
-use Rattle.std.specs.Prelude.{◌≡◌, ℕ, ◌==◌, ℤ, List, length, replicate, Option, Some, None, Result, Ok, Err, Vec, if◌then◌else◌, ⊤}
-use Rattle.std.specs.declared.alloc.Global.{Global}
-use Rattle.map_nums.specs.Grids.{Cells}
+-- What reading a text answers.
+use Rattle.std.specs.Prelude.{◌≡◌, ℕ, List, replicate, Result, Ok, Err}
 use Rattle.layer_tiles.specs.Tiles.{tiles_in}
-use Rattle.grid_text.specs.Plain.{Headed, plain_grid, are_digits, digits_number, cells_of}
+use Rattle.grid_text.specs.Heads as texts
+use Rattle.grid_text.specs.Contents.{grid_in}
+use Rattle.grid_text.specs.Faults.{Fault, key, number, limits, few, more, cell, range}
+use Rattle.grid_text.specs.Headed.{Headed}
 use Rattle.grid_text.specs.declared.Grid.{Grid}
 use Rattle.grid_text.specs.declared.GridRefusal.{GridRefusal}
-use Rattle.grid_text.specs.declared.GridRefusal.TheVariants.{Later, NoMemory}
+use Rattle.grid_text.specs.declared.headers.Head.{Head}
+use Rattle.grid_text.specs.declared.GridRefusal.TheVariants.{Key, Number, Size, Few, More, Cell, Range, NoMemory}
+
+-- a refusal is the fault that reading finds; want of memory may come at any time
+abbrev pub Refuses : {A : Type 0} → GridRefusal → Result A Fault → Type 0
+Refuses (Key at) read = read ≡ Err (key at)
+Refuses (Number at) read = read ≡ Err (number at)
+Refuses (Size rows columns) read = read ≡ Err (limits rows columns)
+Refuses (Few have need) read = read ≡ Err (few have need)
+Refuses (More at) read = read ≡ Err (more at)
+Refuses (Cell index) read = read ≡ Err (cell index)
+Refuses (Range index) read = read ≡ Err (range index)
+Refuses NoMemory read = Unit {0}
+
+-- the answer is what reading finds
+abbrev pub Gives : {A B : Type 0} → (A → B) → Result A GridRefusal → Result B Fault → Type 0
+Gives view (Ok a) read = read ≡ Ok (view a)
+Gives view (Err refusal) read = Refuses refusal read
+
+abbrev pub head_of : Head → texts.Head
+head_of h = record { header = h.header; size = record { rows = h.rows; columns = h.columns }; null = h.null }
 
 -- what a grid holds
 abbrev pub held : Grid → Headed
 held g = record { header = g.header; grid = record { size = g.layer.size; cells = g.layer.cells } }
 
--- the grid that the bytes are in the plain form, with one stamp for all tiles; refused exactly where they are none
+-- the grid that the bytes hold, with one stamp for all tiles, or their first fault
 abbrev pub Reads : List ℕ → ℕ → Result Grid GridRefusal → Type 0
-Reads bytes stamp (Ok g) = (plain_grid bytes ≡ Some (held g)) × (g.layer.stamps ≡ replicate (tiles_in g.layer.size) stamp)
-Reads bytes stamp (Err Later) = plain_grid bytes ≡ None
-Reads bytes stamp (Err NoMemory) = ⊤
-
--- the number of one to `most` digits
-abbrev pub number_of : ℕ → List ℕ → Option ℕ
-number_of most text = if are_digits most text then Some (digits_number text) else None
-
--- as many cells as these
-abbrev pub counted : ℕ → Option Cells → Option Cells
-counted count None = None
-counted count (Some cells) = if length cells == count then Some cells else None
-
--- the cells that the tokens are, where there are as many
-abbrev pub ReadsCells : List (List ℕ) → ℕ → Result (Vec (Option ℤ) Global) GridRefusal → Type 0
-ReadsCells tokens count (Ok v) = counted count (cells_of tokens) ≡ Some v.items
-ReadsCells tokens count (Err Later) = counted count (cells_of tokens) ≡ None
-ReadsCells tokens count (Err NoMemory) = ⊤
+Reads bytes stamp (Ok g) = (grid_in bytes ≡ Ok (held g)) × (g.layer.stamps ≡ replicate (tiles_in g.layer.size) stamp)
+Reads bytes stamp (Err refusal) = Refuses refusal (grid_in bytes)

@@ -4,7 +4,12 @@
 //! `print_grid` writes the canonical text of a layer under a header.
 #![tactic(auto)]
 
-mod heads;
+mod cells;
+mod decimals;
+mod found;
+mod headers;
+mod keys;
+mod laws;
 mod numbers;
 mod print;
 mod read;
@@ -14,9 +19,11 @@ mod tokens;
 
 ghost use Rattle.std.specs.Prelude.{◌≡◌};
 
+pub use laws::{
+    printed_reads_back, refusals_are_first, texts_are_read, texts_are_settled, worked_texts,
+};
 use layer_tiles::{Layer, Text};
 use map_nums::NoMemory;
-pub use numbers::cell_number;
 pub use print::print_grid;
 pub use read::read_grid;
 use std::alloc::{AllocError, AllocFailed};
@@ -43,11 +50,23 @@ pub struct Grid {
     pub layer: Layer,
 }
 
-/// Why a text is no grid.
+/// Why a text is no grid: its first fault in reading order. Bytes and indexes count from 1.
 #[derive(Clone, Copy, Debug, PartialEq, Eq)]
 pub enum GridRefusal {
-    /// The text isn't of the plain form, or has another number of cells than its header says.
-    Later,
+    /// The token at this byte is no key, or a key again, or stands where a key is needed.
+    Key(u64),
+    /// The value at this byte is not of its key's form, or is missing there.
+    Number(u64),
+    /// No map has these rows and columns.
+    Size(u64, u64),
+    /// The text ends after so many cells, fewer than needed.
+    Few(u64, u64),
+    /// A further token, at this byte, follows the last cell.
+    More(u64),
+    /// The cell of this index is no whole number.
+    Cell(u64),
+    /// The cell of this index is out of range.
+    Range(u64),
     NoMemory,
 }
 

@@ -3,7 +3,9 @@ ghost use Rattle.std.specs.Prelude.{◌≡◌, ◌*◌, ◌<◌, ◌++◌, codes
 ghost use Rattle.std.specs.Fmt.{signed_decimal};
 ghost use Rattle.layer_tiles.specs.Tiles.{tiles_in, tiles_across};
 ghost use Rattle.layer_tiles.specs.Tallies.{RisesBy};
+ghost use Rattle.grid_text.specs.Headers.{IsHeader};
 ghost use Rattle.grid_text.specs.Printed.{null_number, cell_text, spaced, x_key, y_key, header_text, rows_text, grid_text};
+ghost use Rattle.grid_text.specs.ReadBack.{AreInRange, ReadsAs};
 
 use crate::{Corner, Header};
 use itoa::Buffer;
@@ -141,7 +143,8 @@ fn put_rows<M: Tally>(
     Ok(())
 }
 
-/// The canonical text of a layer under a header: the header's lines, and a line for each row. At most 64 looks for each tile.
+/// The canonical text of a layer under a header: the header's lines, and a line for each row. It reads back as the same header
+/// and cells. At most 64 looks for each tile.
 pub fn print_grid<M: Tally>(
     alloc: Global,
     header: &Header,
@@ -149,6 +152,7 @@ pub fn print_grid<M: Tally>(
     tally: &mut M,
 ) -> Result<Vec<u8>, NoMemory>
     ensures text { IfOk result (λ v. v.items ≡ grid_text header.now layer.now.size layer.now.cells) }
+    ensures reads { IsHeader header.now → AreInRange layer.now.cells → IfOk result (λ v. ReadsAs v.items header.now layer.now.size layer.now.cells) }
     ensures looks { RisesBy (64 * tiles_in layer.now.size) 0 (M.counts tally.old) (M.counts tally.new) }
 {
     let mut text = Vec::new(alloc);

@@ -1,62 +1,50 @@
 //! Reading a grid.
-ghost use Rattle.std.specs.Prelude.{◌≡◌, IfOk};
-ghost use Rattle.grid_text.specs.Tokens.{tokens_of};
-ghost use Rattle.grid_text.specs.Plain.{corner};
-ghost use Rattle.grid_text.specs.Reads.{Reads, ReadsCells};
+ghost use Rattle.std.specs.Prelude.{◌≡◌, IsSome, IfSome, IfOk, ◌↔◌};
+ghost use Rattle.map_nums.specs.Grids.{IsSize};
+ghost use Rattle.grid_text.specs.Headers.{IsHeader};
+ghost use Rattle.grid_text.specs.Reads.{Reads};
 
-use crate::heads::read_head;
-use crate::numbers::cell;
-use crate::tokens::next_token;
-use crate::{Corner, Grid, GridRefusal, Header};
-use layer_tiles::{Cell, Layer, Text};
-use map_nums::NoMemory;
+use crate::cells::read_cells;
+use crate::headers::{read_head, read_pairs};
+use crate::tokens::next_byte;
+use crate::{Grid, GridRefusal};
+use layer_tiles::{Extent, Layer};
 use std::alloc::Global;
 
-// The cells that a text is, where it has `count` of them.
-fn read_cells(alloc: Global, bytes: &[u8], count: usize) -> Result<Vec<Cell>, GridRefusal>
-    ensures { ReadsCells (tokens_of bytes.now) count result }
+/// The most rows, and the most columns.
+const LONGEST_SIDE: u64 = 4096;
+
+// The extent of these rows and columns, where it is within the limits.
+fn extent_of(rows: u64, columns: u64) -> Option<Extent>
+    ensures fits { IsSome result ↔ IsSize (record { rows = rows; columns = columns }) }
+    ensures size { IfSome result (λ e. e ≡ record { rows = rows; columns = columns }) }
 {
-    let mut cells = Vec::with_capacity(alloc, count)?;
-    let mut rest = bytes;
-    while let Some((token, after)) = next_token(rest) {
-        if cells.len() == count {
-            return Err(GridRefusal::Later);
-        }
-        let Some(next) = cell(token) else {
-            return Err(GridRefusal::Later);
-        };
-        cells.push(next)?;
-        rest = after;
+    if rows > LONGEST_SIDE || columns > LONGEST_SIDE {
+        return None;
     }
-    if cells.len() < count {
-        return Err(GridRefusal::Later);
-    }
-    Ok(cells)
+    Extent::new(rows as u32, columns as u32)
 }
 
-fn corner(alloc: Global, text: &[u8]) -> Result<Corner, NoMemory>
-    ensures { IfOk result (λ c. c ≡ corner text.now) }
-{
-    Ok(Corner {
-        center: false,
-        text: Text::of(alloc, text)?,
-    })
-}
-
-/// Reads a grid in the plain form: the keys `ncols`, `nrows`, `xllcorner`, `yllcorner` and `cellsize` in lower case and in this
-/// order, each with its value, and then `nrows * ncols` cells row by row from the top; -9999 is null. Every tile gets the stamp.
+/// Reads a grid's text: pairs of a key and its value, in any letter case and order, and then `nrows * ncols` cells row by row
+/// from the top. A cell that equals the value of `NODATA_value`, or -9999 without that key, is null. Every tile gets the stamp.
+///
+/// # Errors
+///
+/// The first fault in reading order, or `NoMemory`.
 pub fn read_grid(alloc: Global, bytes: &[u8], stamp: u64) -> Result<Grid, GridRefusal>
-    ensures { Reads bytes.now stamp result }
+    ensures reads { Reads bytes.now stamp result }
+    ensures header { IfOk result (λ g. IsHeader g.header) }
 {
-    let Some(head) = read_head(bytes) else {
-        return Err(GridRefusal::Later);
+    let pairs = read_pairs(alloc, bytes)?;
+    let end = next_byte(bytes, pairs.next);
+    let head = read_head(end, pairs.found)?;
+    let Some(extent) = extent_of(head.rows, head.columns) else {
+        return Err(GridRefusal::Size(head.rows, head.columns));
     };
-    let cells = read_cells(alloc, head.cells, head.extent.cells() as usize)?;
-    let header = Header {
-        x: corner(alloc, head.x)?,
-        y: corner(alloc, head.y)?,
-        size: Text::of(alloc, head.size)?,
-    };
-    let layer = Layer::from_cells(alloc, head.extent, &cells, stamp)?;
-    Ok(Grid { header, layer })
+    let cells = read_cells(alloc, bytes, pairs.next, head.null, extent.cells() as usize)?;
+    let layer = Layer::of_cells(alloc, extent, cells, stamp)?;
+    Ok(Grid {
+        header: head.header,
+        layer,
+    })
 }

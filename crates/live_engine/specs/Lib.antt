@@ -4,5 +4,10 @@ pub mod Groups
 pub mod Scenes
 pub mod Values
 pub mod Engines
+pub mod Holdings
+pub mod Standing
+pub mod Painting
+pub mod Commits
+pub mod Refusals
 pub mod Accepts
 pub mod Asked

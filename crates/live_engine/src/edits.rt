@@ -1,10 +1,12 @@
 //! Edits, and why they are refused.
 
+ghost use Rattle.std.specs.Prelude.{◌≡◌};
+
 use layer_tiles::Layer;
+use map_nums::NoMemory;
 use map_words::Name;
 use statement_parser::LineEdit;
-use std::alloc::{AllocError, AllocFailed};
-use map_nums::NoMemory;
+use std::alloc::AllocError;
 
 /// What changes the names of a map.
 #[derive(Drop)]
@@ -47,4 +49,24 @@ pub enum Refusal {
     /// The first statement with a value that no cell may hold, and the row and column of its first such cell.
     Overflow(Name, u64, u64),
     NoMemory,
+}
+
+impl From<NoMemory> for Refusal {
+    ghost use Rattle.live_engine.specs.declared.edits.Refusal.TheVariants.{NoMemory as no_memory};
+
+    ghost from_gives = { λ _ e. e ≡ no_memory };
+
+    fn from(_: NoMemory) -> Refusal {
+        Refusal::NoMemory
+    }
+}
+
+impl From<AllocError> for Refusal {
+    ghost use Rattle.live_engine.specs.declared.edits.Refusal.TheVariants.{NoMemory as no_memory};
+
+    ghost from_gives = { λ _ e. e ≡ no_memory };
+
+    fn from(_: AllocError) -> Refusal {
+        Refusal::NoMemory
+    }
 }

@@ -4,13 +4,27 @@
 //! The engine keeps each layer, where the machine that it is proved against evaluates every statement anew.
 #![tactic(auto)]
 
+mod adding;
+mod defining;
+mod dropping;
 mod edits;
 mod engine;
+mod evaluating;
+mod graphs;
 mod held;
+mod limits;
+mod painting;
+mod placing;
 mod reads;
+mod repainting;
 mod scene;
 mod values;
 
 pub use edits::{Accepted, Edit, Refusal, Which};
 pub use engine::Engine;
 pub use reads::{Entry, Missing};
+
+#[cfg(test)]
+mod painting_tests;
+#[cfg(test)]
+mod tests;

@@ -1,0 +1,14 @@
+pub mod Among
+pub mod Chains
+pub mod Looks
+pub mod Unfolds
+pub mod Defined
+pub mod Order
+pub mod Puts
+pub mod Kept
+pub mod Accepted
+pub mod Agreeing
+pub mod Listed
+pub mod Dropped
+pub mod Evaluating
+pub mod Once

@@ -1,11 +1,11 @@
 -- What a line does, by its kind.
-use Rattle.std.proofs.Common.{◌≡◌, ◌≢◌, ◌↔◌, ℕ, true, List, Result, Ok, Err, refl}
+use Rattle.std.proofs.Common.{◌≡◌, ◌↔◌, ℕ, true, List, Result, Ok, Err, refl}
 use Rattle.statement_parser.specs.Lines.{first_language, Line, blank, edit, ask, quit}
 use Rattle.statement_parser.specs.Texts.{Refusal as LineRefusal}
 use Rattle.statement_parser.specs.LineOf.{line_of}
 use Rattle.map_edits.specs.EngineStates.{EngineState}
 use Rattle.map_edits.specs.Edits.{Refusal, accept}
-use Rattle.map_machine.specs.declared.Kind.TheVariants.{Accepted, Quit}
+use Rattle.map_machine.specs.declared.Kind.TheVariants.{Quit}
 use Rattle.map_machine.specs.States.{MapState}
 use Rattle.map_machine.specs.Steps.{edit_of, edited, step_by, step_of, ends, is_quit}
 
@@ -24,19 +24,3 @@ ends_kind s (Err r) = (λ e. absurd (cc), λ e. absurd (cc))
 pub quit_kind : (s : MapState) (line : List ℕ) → ((step_of s line).kind ≡ Quit) ↔ (is_quit line ≡ true)
 unfolding step_of is_quit
 quit_kind s line = ends_kind s (line_of first_language line)
-
-edited_keeps : (s : MapState) (r : Result EngineState Refusal) → (edited s r).kind ≢ Accepted → (edited s r).state ≡ s
-edited_keeps s (Ok t) other = absurd (other refl)
-edited_keeps s (Err r) other = refl
-
-step_keeps : (s : MapState) (r : Result Line LineRefusal) → (step_by s r).kind ≢ Accepted → (step_by s r).state ≡ s
-step_keeps s (Ok blank) other = refl
-step_keeps s (Ok (edit e)) other = edited_keeps s (accept s.engine (edit_of e)) other
-step_keeps s (Ok (ask r)) other = refl
-step_keeps s (Ok quit) other = refl
-step_keeps s (Err r) other = refl
-
--- a line changes the state only where it is an accepted edit
-pub kept_kind : (s : MapState) (line : List ℕ) → (step_of s line).kind ≢ Accepted → (step_of s line).state ≡ s
-unfolding step_of
-kept_kind s line other = step_keeps s (line_of first_language line) other

@@ -1,1 +1,3 @@
+pub mod Said
+pub mod Causes
 pub mod Answered

@@ -1,5 +1,5 @@
 use Rattle.std.proofs.Common.{◌≡◌, ◌<◌, ◌^◌, take}
-use Rattle.grid_text.specs.Plain.{digits_number}
+use Rattle.grid_text.specs.Numbers.{digits_number}
 use Rattle.grid_text.proofs.numbers.digits_number.Given as goal
 
 abbrev pub invariant-loop-byte : goal.invariant-loop-byte

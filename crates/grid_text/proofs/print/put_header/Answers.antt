@@ -1,5 +1,5 @@
 use Rattle.std.proofs.Common.{◌++◌, ap, ◌∙◌, codes, decimal}
-use Rattle.grid_text.proofs.Headers.{header_lines}
+use Rattle.grid_text.proofs.HeaderLines.{header_lines}
 use Rattle.grid_text.proofs.print.put_header.Goals as goal
 
 pub returns : goal.returns

@@ -1,0 +1,152 @@
+-- Each statement of a scene is one flat statement of its own name, and no name stands twice.
+use Rattle.std.proofs.Common.{◌≡◌, ℕ, Bool, true, false, cond, not, List, [], ◌∷◌, Option, Some, None, option_map, bytes_eq, refl, sym, ap, subst, ◌∙◌, Bor}
+use Rattle.std.specs.Bool.{⊤}
+use Rattle.std.specs.Map.{keys_of}
+use Rattle.std.specs.List.{IsDistinct}
+use Rattle.std.proofs.lemmas.Option.{none-some, same_Some}
+use Rattle.map_defs.specs.Ops as ops
+use Rattle.map_defs.specs.Ops.{Name}
+use Rattle.map_defs.specs.Expansion.{expansion_of}
+use Rattle.statement_parser.specs.Lines.{Op, Written, plain}
+use Rattle.statement_parser.specs.ToOps.{to_op}
+use Rattle.statement_parser.specs.Views.{written_view}
+use Rattle.statement_parser.specs.declared.line.Written as writtens
+use Rattle.layer_tiles.specs.Changes.{ChangeState}
+use Rattle.map_edits.specs.Entries.{Def, source, statement, Entry, find_def, put_entry, drop_entry, given_grid, by_op, layers, find_making}
+use Rattle.map_edits.specs.Laws.{IsOwnDef, IsOwn, IsApart}
+use Rattle.map_edits.proofs.Among.{same_name}
+use Rattle.map_edits.proofs.Puts.{apart_put, apart_drop, def_making, making_by_entry}
+use Rattle.live_engine.specs.Held.{flats_of, def_of, entries_of}
+use Rattle.live_engine.specs.Scenes.{shifted, after_scene, found_def}
+use Rattle.live_engine.specs.declared.held.Item.{Item}
+use Rattle.live_engine.specs.declared.held.Item.TheVariants as an_item
+use Rattle.live_engine.specs.declared.scene.Scene.{Scene}
+use Rattle.live_engine.specs.declared.scene.Shift.{Shift}
+use Rattle.live_engine.specs.declared.scene.Shift.TheVariants.{Loaded, Painted, Defined, Dropped}
+use Rattle.live_engine.specs.declared.scene.Found.{Found}
+use Rattle.live_engine.specs.declared.scene.Found.TheVariants.{Source, Statement}
+use Rattle.live_engine.proofs.Lookups.{find_entry, its_def, apart_items}
+
+pub flats_plain : (n : Name) (o : Op) → flats_of n (plain o) ≡ record { name = n; op = to_op o } ∷ []
+unfolding expansion_of
+flats_plain n o = refl
+
+-- ---- statements as they were written
+
+-- a statement has the flat statements of what was written
+abbrev pub IsLinedDef : Name → Def → Type 0
+IsLinedDef n (source grid) = ⊤
+IsLinedDef n (statement w flats) = flats ≡ flats_of n w
+
+abbrev pub AreLined : List Entry → Type 0
+AreLined [] = ⊤
+AreLined (e ∷ es) = IsLinedDef e.name e.def × AreLined es
+
+lined_item : (n : Name) (item : Item) → IsLinedDef n (def_of n item)
+lined_item n (an_item.Source layer) = tt
+lined_item n (an_item.Statement written) = refl
+
+lined_items : (items : List (List ℕ × Item)) → AreLined (entries_of items)
+lined_items [] = tt
+lined_items (e ∷ es) = (lined_item e.0 e.1, lined_items es)
+
+lined_put : (es : List Entry) (n : Name) (d : Def) → AreLined es → IsLinedDef n d → AreLined (put_entry es n d)
+lined_put [] n d lined it = (it, tt)
+lined_put (e ∷ es) n d lined it = go (bytes_eq e.name n) refl (lined_put es n d lined.1 it)
+  where
+    go : (b : Bool) → bytes_eq e.name n ≡ b → AreLined (put_entry es n d) → AreLined (cond b (record e { def = d } ∷ es) (e ∷ put_entry es n d))
+    go true h rest = (subst (λ m. IsLinedDef m d) (sym (same_name e.name n h)) it, lined.1)
+    go false h rest = (lined.0, rest)
+
+lined_drop : (es : List Entry) (n : Name) → AreLined es → AreLined (drop_entry es n)
+lined_drop [] n lined = tt
+lined_drop (e ∷ es) n lined = go (bytes_eq e.name n) (lined_drop es n lined.1)
+  where
+    go : (b : Bool) → AreLined (drop_entry es n) → AreLined (cond (not b) (e ∷ drop_entry es n) (drop_entry es n))
+    go true rest = rest
+    go false rest = (lined.0, rest)
+
+lined_shifted : (es : List Entry) (shift : Shift) → AreLined es → AreLined (shifted es shift)
+lined_shifted es (Loaded n layer) lined = lined_put es n.now _ lined tt
+lined_shifted es (Painted n layer patch) lined = lined_put es n.now _ lined tt
+lined_shifted es (Defined n written) lined = lined_put es n.now _ lined refl
+lined_shifted es (Dropped n) lined = lined_drop es n.now lined
+
+pub lined_scene : (scene : Scene) → AreLined (after_scene scene)
+lined_scene scene = lined_shifted (entries_of scene.names.now.entries) scene.shift (lined_items scene.names.now.entries)
+
+lined_found : (es : List Entry) (n : Name) (d : Def) → AreLined es → find_def es n ≡ Some d → IsLinedDef n d
+lined_found [] n d lined e = absurd (none-some d e)
+lined_found (x ∷ xs) n d lined e = go (bytes_eq x.name n) refl e (lined_found xs n d lined.1)
+  where
+    go : (b : Bool) → bytes_eq x.name n ≡ b → its_def (cond b (Some x) (find_entry xs n)) ≡ Some d → (find_def xs n ≡ Some d → IsLinedDef n d) → IsLinedDef n d
+    go true h e rest = subst (λ m. IsLinedDef m d) (same_name x.name n h) (subst (IsLinedDef x.name) (same_Some x.def d e) lined.0)
+    go false h e rest = rest e
+
+-- ---- one flat statement each
+
+own_written : (n : Name) (w : Written) (flats : _) → flats ≡ flats_of n w → IsOwnDef n (statement w flats)
+own_written n (plain o) flats is = (to_op o, is ∙ flats_plain n o)
+
+own_def : (n : Name) (d : Def) → IsLinedDef n d → IsOwnDef n d
+own_def n (source grid) lined = tt
+own_def n (statement w flats) lined = own_written n w flats lined
+
+pub own_lined : (es : List Entry) → AreLined es → IsOwn es
+own_lined [] lined = tt
+own_lined (e ∷ es) lined = (own_def e.name e.def lined.0, own_lined es lined.1)
+
+pub own_scene : (scene : Scene) → IsOwn (after_scene scene)
+own_scene scene = own_lined (after_scene scene) (lined_scene scene)
+
+-- ---- no name twice
+
+apart_shifted : (es : List Entry) (shift : Shift) → IsApart es → IsApart (shifted es shift)
+apart_shifted es (Loaded n layer) apart = apart_put es n.now _ apart
+apart_shifted es (Painted n layer patch) apart = apart_put es n.now _ apart
+apart_shifted es (Defined n written) apart = apart_put es n.now _ apart
+apart_shifted es (Dropped n) apart = apart_drop es n.now apart
+
+pub apart_scene : (scene : Scene) → IsDistinct bytes_eq (keys_of scene.names.now.entries) → IsApart (after_scene scene)
+apart_scene scene distinct = apart_shifted (entries_of scene.names.now.entries) scene.shift (apart_items scene.names.now.entries distinct)
+
+-- ---- how a layer is made, by what is found
+
+-- the operation of a statement is that of a line
+pub IsLineOp : ops.Op → Type 0
+IsLineOp op = (o : Op) × (op ≡ to_op o)
+
+written_op : (n : Name) (w : Written) (flats : _) (op : ops.Op) → flats ≡ flats_of n w → def_making (Some (statement w flats)) ≡ Some (by_op op) → (o : Op) × (op ≡ to_op o)
+written_op n (plain o) flats op is e =
+    let made : Some (by_op (to_op o)) ≡ Some (by_op op) = sym (ap (λ fs. def_making (Some (statement (plain o) fs))) (is ∙ flats_plain n o)) ∙ e in
+    (o, cc)
+
+def_op : (n : Name) (d : Option Def) (op : ops.Op) → ((x : Def) → d ≡ Some x → IsLinedDef n x) → def_making d ≡ Some (by_op op) → (o : Op) × (op ≡ to_op o)
+def_op n None op lined e = absurd cc
+def_op n (Some (source grid)) op lined e = absurd cc
+def_op n (Some (statement w flats)) op lined e = written_op n w flats op (lined (statement w flats) refl) e
+
+pub line_op : (es : List Entry) (n : Name) (op : ops.Op) → AreLined es → find_making (layers es) n ≡ Some (by_op op) → (o : Op) × (op ≡ to_op o)
+line_op es n op lined e = def_op n (find_def es n) op (λ x is. lined_found es n x lined is) (sym (making_by_entry es n (own_lined es lined)) ∙ e)
+
+module _ (es : List Entry) (n : Name) (o : Option Found) (own : IsOwn es) (def : option_map (found_def n) o ≡ find_def es n) where
+  making_found : (p : Option Found) → o ≡ p → find_making (layers es) n ≡ def_making (option_map (found_def n) p)
+  making_found p is = making_by_entry es n own ∙ ap def_making (sym def ∙ ap (option_map (found_def n)) is)
+
+  pub making_none : o ≡ None → find_making (layers es) n ≡ None
+  making_none is = making_found None is
+
+  pub making_source : (change : ChangeState) → o ≡ Some (Source change) → find_making (layers es) n ≡ Some (given_grid (record { size = change.size; cells = change.cells }))
+  making_source change is = making_found (Some (Source change)) is
+
+  pub making_plain : (b : Bor writtens.Written) (op : Op) → o ≡ Some (Statement b) → written_view b.now ≡ plain op → find_making (layers es) n ≡ Some (by_op (to_op op))
+  making_plain b op is plain_is =
+      making_found (Some (Statement b)) is
+      ∙ ap (λ w. def_making (Some (statement w (flats_of n w)))) plain_is
+      ∙ ap (λ fs. def_making (Some (statement (plain op) fs))) (flats_plain n op)
+
+  pub making_statement : (b : Bor writtens.Written) → o ≡ Some (Statement b) → (op : ops.Op) × (find_making (layers es) n ≡ Some (by_op op))
+  making_statement b is = go (written_view b.now) refl
+    where
+      go : (w : Written) → written_view b.now ≡ w → (op : ops.Op) × (find_making (layers es) n ≡ Some (by_op op))
+      go (plain op) e = (to_op op, making_plain b op is e)

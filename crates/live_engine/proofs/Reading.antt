@@ -1,0 +1,84 @@
+-- What is told of a name, by its item.
+use Rattle.std.proofs.Common.{◌≡◌, ℕ, List, [], ◌∷◌, map, Option, Some, None, is_some, option_map, option_copied, bytes_eq, Bor, if◌then◌else◌, refl, sym, ap, subst, ◌∙◌}
+use Rattle.std.specs.Map.{lookup}
+use Rattle.map_nums.specs.Grids.{Size, Cells, Grid}
+use Rattle.map_defs.specs.Ops.{Name, Op, terms_of}
+use Rattle.map_defs.specs.Operate.{operate}
+use Rattle.map_defs.specs.Nodes.{Node, find_node, lacks, missing}
+use Rattle.statement_parser.specs.Lines as lines
+use Rattle.statement_parser.specs.Lines.{Written}
+use Rattle.statement_parser.specs.Views.{written_view}
+use Rattle.statement_parser.specs.ToOps.{to_op}
+use Rattle.statement_parser.specs.declared.line.Written as writtens
+use Rattle.layer_tiles.specs.Layers.{LayerState}
+use Rattle.statement_graph.specs.Groups.{nodes_in}
+use Rattle.map_edits.specs.Entries.{Def, source, statement, Entry, find_def, by_op, layers, find_making, nodes_of}
+use Rattle.map_edits.specs.EngineStates.{EngineState, all_some, term_cells, value_of}
+use Rattle.map_edits.specs.Laws.{IsWellMade}
+use Rattle.map_edits.proofs.Looks.{made_node}
+use Rattle.map_edits.proofs.Puts.{def_making, making_by_entry}
+use Rattle.map_edits.proofs.Evaluating.{value_of_source, value_of_statement, value_of_none, node_by_entry}
+use Rattle.live_engine.specs.Held.{grid_of, def_of, flats_of, entries_of}
+use Rattle.live_engine.specs.Holdings.{entries_in, seen_in, IsKeptIn}
+use Rattle.live_engine.specs.Values.{kept}
+use Rattle.live_engine.specs.declared.held.Item.{Item}
+use Rattle.live_engine.specs.declared.held.Item.TheVariants.{Source, Statement}
+use Rattle.live_engine.specs.declared.held.Held.{Held}
+use Rattle.live_engine.proofs.Counts.{flats_is}
+use Rattle.live_engine.proofs.Groupings.{nodes_in_groups}
+use Rattle.live_engine.proofs.Editing.{item_def}
+use Rattle.live_engine.proofs.Valuing.{operate_size}
+
+missing_none : (nodes : List Node) (n : Name) → find_node nodes n ≡ None → missing nodes n ≡ None
+unfolding missing
+missing_none nodes n none = ap (λ o. if is_some o then lacks nodes n else None) none
+
+grid_size : (size : Size) (op : lines.Op) (o : Option (List Cells)) (grid : Grid) → option_map (operate size (to_op op)) o ≡ Some grid → grid.size ≡ size
+grid_size size op None grid e = absurd cc
+grid_size size op (Some cells) grid e =
+    let same : operate size (to_op op) cells ≡ grid = cc in
+    ap (λ (g : Grid). g.size) (sym same) ∙ operate_size size op cells
+
+module _ (held : Held) (n : Name) (keeps : IsKeptIn held) where
+  nothing_found : lookup (bytes_eq n) held.names.entries ≡ None → find_def (entries_in held) n ≡ None
+  nothing_found none = item_def held.names.entries n None none
+
+  pub no_value : lookup (bytes_eq n) held.names.entries ≡ None → value_of (seen_in held) n ≡ None
+  no_value none = value_of_none (seen_in held) keeps.lawful.well n (nothing_found none)
+
+  pub none_missing : lookup (bytes_eq n) held.names.entries ≡ None → missing (nodes_of (entries_in held)) n ≡ None
+  none_missing none =
+      missing_none (nodes_of (entries_in held)) n
+      (node_by_entry (entries_in held) keeps.lawful.well.own n ∙ ap (λ o. option_map (made_node n) (def_making o)) (nothing_found none))
+
+  pub source_value : (layer : LayerState) → lookup (bytes_eq n) held.names.entries ≡ Some (Source layer) → value_of (seen_in held) n ≡ Some (grid_of layer)
+  source_value layer there = value_of_source (seen_in held) keeps.lawful.well n (grid_of layer) (item_def held.names.entries n (Some (Source layer)) there)
+
+  found_statement : (w : Written) (op : lines.Op) → w ≡ lines.plain op → find_def (entries_in held) n ≡ Some (statement w (flats_of n w)) → find_def (entries_in held) n ≡ Some (statement w (record { name = n; op = to_op op } ∷ []))
+  found_statement w op is there = there ∙ ap (λ fs. Some (statement w fs)) (ap (flats_of n) is ∙ flats_is n op)
+
+  statement_kept_by : (w : Written) → find_def (entries_in held) n ≡ Some (statement w (flats_of n w)) → kept held.values.items n ≡ value_of (seen_in held) n
+  statement_kept_by (lines.plain op) there =
+      keeps.values_are n (to_op op) (making_by_entry (entries_in held) n keeps.lawful.well.own ∙ ap def_making (found_statement (lines.plain op) op refl there))
+
+  statement_size_by : (w : Written) (grid : Grid) → find_def (entries_in held) n ≡ Some (statement w (flats_of n w)) → value_of (seen_in held) n ≡ Some grid → grid.size ≡ held.extent
+  statement_size_by (lines.plain op) grid there e =
+      grid_size held.extent op (all_some (map (term_cells held.extent (value_of (seen_in held))) (terms_of (to_op op)))) grid
+      (sym (value_of_statement (seen_in held) keeps.lawful.well n (lines.plain op) (to_op op) (found_statement (lines.plain op) op refl there)) ∙ e)
+
+  module _ (written : writtens.Written) (there : lookup (bytes_eq n) held.names.entries ≡ Some (Statement written)) where
+    statement_def : find_def (entries_in held) n ≡ Some (statement (written_view written) (flats_of n (written_view written)))
+    statement_def = item_def held.names.entries n (Some (Statement written)) there
+
+    pub statement_kept : kept held.values.items n ≡ value_of (seen_in held) n
+    statement_kept = statement_kept_by (written_view written) statement_def
+
+    pub statement_size : (grid : Grid) → value_of (seen_in held) n ≡ Some grid → grid.size ≡ held.extent
+    statement_size grid e = statement_size_by (written_view written) grid statement_def e
+
+  pub graph_nodes : nodes_in held.graph ≡ nodes_of (entries_in held)
+  graph_nodes = ap nodes_in keeps.graph_is ∙ nodes_in_groups (entries_in held)
+
+pub copied_now : (o : Option (Bor Name)) → option_copied o ≡ option_map (λ b. b.now) o
+copied_now None = refl
+copied_now (Some b) = refl

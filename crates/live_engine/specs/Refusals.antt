@@ -1,0 +1,9 @@
+-- The refusal that an evaluation that halts is.
+use Rattle.live_engine.specs.declared.values.Halt.{Halt}
+use Rattle.live_engine.specs.declared.values.Halt.TheVariants as halts
+use Rattle.live_engine.specs.declared.edits.Refusal.{Refusal}
+use Rattle.live_engine.specs.declared.edits.Refusal.TheVariants.{Overflow, NoMemory}
+
+abbrev pub refusal_of : Halt → Refusal
+refusal_of (halts.Overflow n r c) = Overflow n r c
+refusal_of halts.NoMemory = NoMemory

@@ -1,0 +1,121 @@
+//! The tiles of a layer that a painted rectangle meets.
+ghost use Rattle.std.specs.Prelude.{◌≡◌, ◌↔◌, ◌^◌, ◌+◌, ◌*◌, ◌<◌, ◌&&◌, nat_le, ℕ, if◌then◌else◌, IfOk, IsTrue, IsSome};
+ghost use Rattle.map_edits.specs.Edits.{is_within, painted};
+ghost use Rattle.layer_tiles.specs.Tiles.{tile_height, tile_width, tiles_in, IsBlockOf};
+ghost use Rattle.layer_tiles.specs.Patches.{patch_get, patched};
+ghost use Rattle.layer_tiles.specs.Tallies.{RisesBy};
+ghost use Rattle.live_engine.specs.Held.{grid_of};
+ghost use Rattle.live_engine.specs.Painting.{rectangle_of, MeetsRectangle, IsPainted, MeetsPlace};
+
+use layer_tiles::{Cell, Extent, Layer, NoMemory, Patch, Place, Tally, Tile, TileView};
+use std::alloc::Global;
+
+/// Rows and columns count from 1.
+#[derive(Clone, Copy)]
+pub(crate) struct Rectangle {
+    pub(crate) top: u32,
+    pub(crate) left: u32,
+    pub(crate) bottom: u32,
+    pub(crate) right: u32,
+}
+
+/// The tiles of a layer that a rectangle meets, with the cell in each place of the rectangle. One look for each.
+pub(crate) fn painted_tiles<M: Tally>(
+    alloc: Global,
+    layer: &Layer,
+    rectangle: Rectangle,
+    cell: Cell,
+    tally: &mut M,
+) -> Result<Patch, NoMemory>
+    requires { IsTrue (is_within layer.now.size (rectangle_of rectangle)) }
+    ensures size { IfOk result (λ p. p.size ≡ layer.now.size) }
+    ensures cells { IfOk result (λ p. patched layer.now.size layer.now.cells p.tiles ≡ (painted layer.now.size (rectangle_of rectangle) cell (grid_of layer.now)).cells) }
+    ensures met { IfOk result (λ p. (t : ℕ) → IsSome (patch_get p.tiles t) ↔ MeetsRectangle layer.now.size (rectangle_of rectangle) t) }
+    ensures tally { RisesBy (tiles_in layer.now.size) 0 (M.counts tally.old) (M.counts tally.new) }
+{
+    let extent = layer.extent();
+    let mut patch = Patch::new(alloc, extent);
+    for tile in 0..extent.tiles() {
+        if !meets(rectangle, extent.place(tile)) {
+            continue;
+        }
+        let old = layer.view(tile, tally);
+        let made = painted_tile(alloc, extent, tile, &old, rectangle, cell)?;
+        patch.push(tile, made)?;
+    }
+    Ok(patch)
+}
+
+/// Whether a tile of this place has a cell in the rectangle.
+fn meets(rectangle: Rectangle, place: Place) -> bool
+    requires row { place.top + place.height < 2 ^ 32 }
+    requires column { place.left + place.width < 2 ^ 32 }
+    ensures { IsTrue result ↔ MeetsPlace (rectangle_of rectangle) place }
+{
+    place.top < rectangle.bottom
+        && rectangle.top <= place.top + place.height
+        && place.left < rectangle.right
+        && rectangle.left <= place.left + place.width
+}
+
+/// A tile with the cell in each place of the rectangle.
+fn painted_tile(
+    alloc: Global,
+    extent: Extent,
+    tile: u32,
+    old: &TileView<'_>,
+    rectangle: Rectangle,
+    cell: Cell,
+) -> Result<Tile, NoMemory>
+    requires within { tile < tiles_in extent }
+    requires size { IsBlockOf extent tile old.now }
+    ensures { IfOk result (λ made. IsPainted extent tile (rectangle_of rectangle) cell old.now (tile_height extent tile * tile_width extent tile) made) }
+{
+    let mut made = Tile::new(alloc, extent, tile, cell)?;
+    for r in 0..extent.place(tile).height {
+        paint_row(&mut made, extent, tile, r, old, rectangle, cell);
+    }
+    Ok(made)
+}
+
+/// A row of that tile.
+fn paint_row(
+    made: &mut Tile,
+    extent: Extent,
+    tile: u32,
+    r: u32,
+    old: &TileView<'_>,
+    rectangle: Rectangle,
+    cell: Cell,
+)
+    requires within { tile < tiles_in extent }
+    requires size { IsBlockOf extent tile old.now }
+    requires row { r < tile_height extent tile }
+    requires rows_above { IsPainted extent tile (rectangle_of rectangle) cell old.now (r * tile_width extent tile) made.old }
+    ensures { IsPainted extent tile (rectangle_of rectangle) cell old.now ((r + 1) * tile_width extent tile) made.new }
+{
+    let place = extent.place(tile);
+    let row = old.row(r);
+    for c in 0..place.width {
+        let below = place.top + r + 1;
+        let right = place.left + c + 1;
+        made.set(
+            r,
+            c,
+            painted_cell(rectangle, below, right, cell, row[c as usize]),
+        );
+    }
+}
+
+/// The cell where the rectangle holds the row and the column; else the old one.
+fn painted_cell(rectangle: Rectangle, row: u32, column: u32, cell: Cell, old: Cell) -> Cell
+    ensures { result ≡ (if nat_le rectangle.top row && nat_le row rectangle.bottom && nat_le rectangle.left column && nat_le column rectangle.right then cell else old) }
+{
+    if row < rectangle.top || rectangle.bottom < row {
+        return old;
+    }
+    if column < rectangle.left || rectangle.right < column {
+        return old;
+    }
+    cell
+}

@@ -1,0 +1,118 @@
+//! The texts of what refuses a line, an edit or a load.
+ghost use Rattle.std.specs.Prelude.{◌≡◌, ◌++◌, decimal, Some, IfOk, OnOk};
+ghost use Rattle.map_machine.specs.Causes.{counted, counted_twice, which_text};
+ghost use Rattle.live_engine.specs.Accepts.{which_of};
+ghost use Rattle.map_session.specs.Causes.{line_told, edit_told, grid_told};
+
+use grid_text::GridRefusal;
+use itoa::Buffer;
+use live_engine::{Refusal, Which};
+use map_nums::NoMemory;
+use map_words::Name;
+use statement_parser::LineRefusal;
+use std::alloc::Global;
+
+pub(crate) fn put_number(text: &mut Vec<u8>, number: u64) -> Result<(), NoMemory>
+    ensures { OnOk result (text.new.items ≡ text.old.items ++ decimal number) }
+{
+    text.extend_from_slice(Buffer::new().format(number).as_bytes())?;
+    Ok(())
+}
+
+/// A word and a number.
+pub(crate) fn counted(alloc: Global, word: &[u8], number: u64) -> Result<Vec<u8>, NoMemory>
+    ensures { IfOk result (λ text. text.items ≡ counted word.now number) }
+{
+    let mut text = Vec::from_slice(alloc, word)?;
+    text.push(b' ')?;
+    put_number(&mut text, number)?;
+    Ok(text)
+}
+
+/// A word and two numbers.
+fn counted_twice(alloc: Global, word: &[u8], first: u64, second: u64) -> Result<Vec<u8>, NoMemory>
+    ensures { IfOk result (λ text. text.items ≡ counted_twice word.now first second) }
+{
+    let mut text = counted(alloc, word, first)?;
+    text.push(b' ')?;
+    put_number(&mut text, second)?;
+    Ok(text)
+}
+
+/// A word, which ends in its blank, and a name.
+fn named(alloc: Global, word: &[u8], name: &Name) -> Result<Vec<u8>, NoMemory>
+    ensures { IfOk result (λ text. text.items ≡ word.now ++ name.now) }
+{
+    let mut text = Vec::from_slice(alloc, word)?;
+    text.extend_from_slice(name.bytes())?;
+    Ok(text)
+}
+
+fn which_text(which: Which) -> &'static [u8]
+    ensures { result.now ≡ which_text (which_of which) }
+{
+    match which {
+        Which::Sources => b"sources",
+        Which::Statements => b"statements",
+    }
+}
+
+fn limit_cause(alloc: Global, which: Which) -> Result<Vec<u8>, NoMemory>
+    ensures { IfOk result (λ text. edit_told (Refusal.Limit which) ≡ Some text.items) }
+{
+    let mut text = Vec::from_slice(alloc, b"limit ")?;
+    text.extend_from_slice(which_text(which))?;
+    Ok(text)
+}
+
+fn overflow_cause(alloc: Global, name: &Name, r: u64, c: u64) -> Result<Vec<u8>, NoMemory>
+    ensures { IfOk result (λ text. edit_told (Refusal.Overflow name.now r c) ≡ Some text.items) }
+{
+    let place = named(alloc, b"overflow ", name)?;
+    counted_twice(alloc, &place, r, c)
+}
+
+/// Why an edit is refused.
+pub(crate) fn edit_cause(alloc: Global, refusal: &Refusal) -> Result<Vec<u8>, NoMemory>
+    ensures { IfOk result (λ text. edit_told refusal.now ≡ Some text.items) }
+{
+    match refusal {
+        Refusal::Unknown(name) => named(alloc, b"unknown ", name),
+        Refusal::Derived(name) => named(alloc, b"derived ", name),
+        Refusal::Exists(name) => named(alloc, b"exists ", name),
+        Refusal::Size(rows, columns) => counted_twice(alloc, b"size", *rows, *columns),
+        Refusal::Limit(which) => limit_cause(alloc, *which),
+        Refusal::Cycle(name) => named(alloc, b"cycle ", name),
+        Refusal::Overflow(name, r, c) => overflow_cause(alloc, name, *r, *c),
+        Refusal::NoMemory => Err(NoMemory),
+    }
+}
+
+/// Why bytes are no line.
+pub(crate) fn line_cause(alloc: Global, refusal: LineRefusal) -> Result<Vec<u8>, NoMemory>
+    ensures { IfOk result (λ text. line_told refusal ≡ Some text.items) }
+{
+    match refusal {
+        LineRefusal::Long(length) => counted(alloc, b"long", length),
+        LineRefusal::Syntax(at) => counted(alloc, b"syntax", at as u64),
+        LineRefusal::Operation(at) => counted(alloc, b"operation", at as u64),
+        LineRefusal::Number(at) => counted(alloc, b"number", at as u64),
+        LineRefusal::NoMemory => Err(NoMemory),
+    }
+}
+
+/// Why bytes are no grid.
+pub(crate) fn grid_cause(alloc: Global, refusal: GridRefusal) -> Result<Vec<u8>, NoMemory>
+    ensures { IfOk result (λ text. grid_told refusal ≡ Some text.items) }
+{
+    match refusal {
+        GridRefusal::Key(at) => counted(alloc, b"key", at),
+        GridRefusal::Number(at) => counted(alloc, b"number", at),
+        GridRefusal::Size(rows, columns) => counted_twice(alloc, b"limits", rows, columns),
+        GridRefusal::Few(have, need) => counted_twice(alloc, b"few", have, need),
+        GridRefusal::More(at) => counted(alloc, b"more", at),
+        GridRefusal::Cell(index) => counted(alloc, b"cell", index),
+        GridRefusal::Range(index) => counted(alloc, b"range", index),
+        GridRefusal::NoMemory => Err(NoMemory),
+    }
+}

@@ -1,0 +1,5 @@
+pub mod Operating
+pub mod Narrow
+pub mod Tiled
+pub mod Rising
+pub mod Evaluating
