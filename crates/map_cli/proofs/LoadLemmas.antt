@@ -9,7 +9,7 @@ use Rattle.map_defs.specs.Ops.{Name}
 use Rattle.map_machine.specs.States.{MapState}
 use Rattle.map_machine.specs.Loads.{Opened, ready, turned_away, long_file_reply}
 use Rattle.map_machine.specs.Words.{Pair}
-use Rattle.map_machine.specs.Play.{Opening, turned_back, opened_text, opened_opening, file_text, file_opening, further_text, further_opening}
+use Rattle.map_machine.specs.Play.{Opening, opened_text, opened_opening, file_text, file_opening, further_text, further_opening}
 use Rattle.map_machine.proofs.OpeningLemmas.{file_text-long, file_text-fits, file_opening-long, file_opening-fits}
 use Rattle.map_machine.specs.declared.Kind.TheVariants.{Accepted}
 use Rattle.map_session.specs.Answered.{Opens}
@@ -118,9 +118,9 @@ fetched (Some f) most opens p v h h' loaded is fits a =
       wrote = l.wrote;
       told = (
         leaves_same (file_text most opens p.name (f p.file)) (opened_text (opens p.name v.items)) l.front loaded
-        (λ next. ap (λ held. file_text most opens p.name held next) is ∙ file_text-fits most opens p.name v.items next fits) l.leaves,
+            (λ next. ap (λ held. file_text most opens p.name held next) is ∙ file_text-fits most opens p.name v.items next fits) l.leaves,
         opens_same (file_opening most opens p.name (f p.file)) (opened_opening (opens p.name v.items)) loaded
-        (λ next. ap (λ held. file_opening most opens p.name held next) is ∙ file_opening-fits most opens p.name v.items next fits) l.opens,
+            (λ next. ap (λ held. file_opening most opens p.name held next) is ∙ file_opening-fits most opens p.name v.items next fits) l.opens,
       );
     }
 
@@ -138,9 +138,9 @@ fetched_long (Some f) most opens p h h' loaded is a =
       wrote = l.wrote;
       told = (
         leaves_same (file_text most opens p.name (f p.file)) (opened_text (turned_away (long_file_reply most p.name))) l.front loaded
-        (λ next. ap (λ bytes. file_text most opens p.name bytes next) held.1 ∙ file_text-long most opens p.name held.0 next held.2) l.leaves,
+            (λ next. ap (λ bytes. file_text most opens p.name bytes next) held.1 ∙ file_text-long most opens p.name held.0 next held.2) l.leaves,
         opens_same (file_opening most opens p.name (f p.file)) (opened_opening (turned_away (long_file_reply most p.name))) loaded
-        (λ next. ap (λ bytes. file_opening most opens p.name bytes next) held.1 ∙ file_opening-long most opens p.name held.0 next held.2) l.opens,
+            (λ next. ap (λ bytes. file_opening most opens p.name bytes next) held.1 ∙ file_opening-long most opens p.name held.0 next held.2) l.opens,
       );
     }
 

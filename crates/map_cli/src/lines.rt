@@ -118,7 +118,14 @@ fn answer<K: Sink, M: Tally + Send>(
     if count > LONGEST {
         return answer_long(alloc, sink, count);
     }
-    answer_short(alloc, session, workers, sink, tally, &kept[..count as usize])
+    answer_short(
+        alloc,
+        session,
+        workers,
+        sink,
+        tally,
+        &kept[..count as usize],
+    )
 }
 
 // Answers the piece that a line feed ends, and begins the next one.
@@ -217,5 +224,13 @@ pub fn finish<K: Sink, M: Tally + Send>(
     if piece.count == 0 {
         return Fed::More;
     }
-    answer(alloc, session, workers, sink, tally, &piece.kept, piece.count)
+    answer(
+        alloc,
+        session,
+        workers,
+        sink,
+        tally,
+        &piece.kept,
+        piece.count,
+    )
 }

@@ -77,7 +77,15 @@ fn play_chunks<S: Source, K: Sink, M: Tally + Send>(
             }
             Ok(count) => {
                 taken += count as u64;
-                let fed = feed(alloc, session, workers, sink, tally, &mut piece, &chunk[..count]);
+                let fed = feed(
+                    alloc,
+                    session,
+                    workers,
+                    sink,
+                    tally,
+                    &mut piece,
+                    &chunk[..count],
+                );
                 match fed {
                     Fed::More => {}
                     _ => return ending_of(fed),
@@ -104,7 +112,9 @@ pub fn play_session<S: Source, K: Sink, M: Tally + Send>(
     ensures plays { Plays limit session.old (S.left source.old) (S.left source.new) (K.held sink.old) (K.held sink.new) result }
 {
     match zeroed(alloc, CHUNK) {
-        Ok(mut chunk) => play_chunks(alloc, session, workers, source, sink, tally, &mut chunk, limit),
+        Ok(mut chunk) => play_chunks(
+            alloc, session, workers, source, sink, tally, &mut chunk, limit,
+        ),
         Err(NoMemory) => Ending::NoMemory,
     }
 }

@@ -139,10 +139,8 @@ fn answers_lines(rt: HostRuntime) -> Result<(), Fail> {
         (
             "S=a",
             SEVEN,
-            b"A = LocalSum of B and 1\nB = LocalSum of A and 1\nB = LocalSum of B and 1\nlist\n"
-                .as_slice(),
-            b"ok 1\nok 2\nrefused cycle B\nrefused cycle B\nlist 2\nsource S\nA = LocalSum of B and 1\n"
-                .as_slice(),
+            b"A = LocalSum of B and 1\nB = LocalSum of A and 1\nB = LocalSum of B and 1\nlist\n".as_slice(),
+            b"ok 1\nok 2\nrefused cycle B\nrefused cycle B\nlist 2\nsource S\nA = LocalSum of B and 1\n".as_slice(),
         ),
         (
             "A=a",
@@ -153,17 +151,14 @@ fn answers_lines(rt: HostRuntime) -> Result<(), Fail> {
         (
             "A=a",
             SEVEN,
-            b"B = LocalSum of C and 1\ngrid B\nnew C 1\nvalue B 1 1\ndrop C\nvalue B 1 1\nvalue C 1 1\nnew C 1\nvalue B 2 1\n"
-                .as_slice(),
-            b"ok 1\nok 2\nundefined B: C\nok 3\nvalue B 1 1 2\nok 4\nundefined B: C\nundefined C: C\nok 5\nvalue B 2 1 outside\n"
-                .as_slice(),
+            b"B = LocalSum of C and 1\ngrid B\nnew C 1\nvalue B 1 1\ndrop C\nvalue B 1 1\nvalue C 1 1\nnew C 1\nvalue B 2 1\n".as_slice(),
+            b"ok 1\nok 2\nundefined B: C\nok 3\nvalue B 1 1 2\nok 4\nundefined B: C\nundefined C: C\nok 5\nvalue B 2 1 outside\n".as_slice(),
         ),
         (
             "A=a",
             SPACED,
             b"grid A\n".as_slice(),
-            b"ok 1\nncols 2\nnrows 2\nxllcorner 100.5\nyllcorner -20.000000000000\ncellsize 60.000000000000\nNODATA_value -2000000001\n1 2\n-2000000001 4\n"
-                .as_slice(),
+            b"ok 1\nncols 2\nnrows 2\nxllcorner 100.5\nyllcorner -20.000000000000\ncellsize 60.000000000000\nNODATA_value -2000000001\n1 2\n-2000000001 4\n".as_slice(),
         ),
     ] {
         let (code, wrote) = play(rt.alloc(), &["run", "1", "-", pair], file, session, NONE)?;
@@ -335,12 +330,7 @@ fn keeps_to_the_limits(rt: HostRuntime) -> Result<(), Fail> {
         ),
         (69, 6, Status::TooLong, LOADED),
         (69, 0, Status::TooLong, LOADED),
-        (
-            68,
-            14,
-            Status::Load,
-            b"refused load A long 68\n".as_slice(),
-        ),
+        (68, 14, Status::Load, b"refused load A long 68\n".as_slice()),
     ] {
         let came = play_within(rt.alloc(), most, limit, session)?;
         assert_eq!(rt; came.0, status, "{most} {limit}");

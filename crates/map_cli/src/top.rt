@@ -54,15 +54,7 @@ fn run_pairs<F: Shelf, S: Source, K: Sink, M: Tally + Send>(
     ensures opens { IfSome (F.files shelf.old) (λ files. OpensSo result (loads_opening most files (Some (pairs_read pairs.now)))) }
     ensures ended { EndsSo limit (S.left source.old) (S.left source.new) result }
 {
-    match load_files(
-        alloc,
-        pairs,
-        workers,
-        most,
-        shelf,
-        sink,
-        tally,
-    ) {
+    match load_files(alloc, pairs, workers, most, shelf, sink, tally) {
         Loaded::Refused => Status::Load,
         Loaded::ShelfFault => Status::ShelfFault,
         Loaded::SinkFault => Status::SinkFault,

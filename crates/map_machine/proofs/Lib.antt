@@ -7,3 +7,4 @@ pub mod PairsLemmas
 pub mod WorkersLemmas
 mod LinesRows
 mod WordsRows
+mod RunRows

@@ -4,7 +4,7 @@ use Rattle.std.specs.Prelude.{String, string_bytes}
 use Rattle.std.specs.declared.alloc.Global.{Global}
 use Rattle.std.specs.Fmt.{digits}
 use Rattle.map_words.specs.Names.{is_among, is_reserved, is_plain}
-use Rattle.map_machine.specs.Words.{Pair, run_pairs}
+use Rattle.map_machine.specs.Words.{run_pairs}
 
 -- the words have these bytes
 abbrev Say : List (String Global) → List (List ℕ) → Type 0

@@ -1,4 +1,4 @@
-use Rattle.std.proofs.Common.{◌≡◌, ◌∷◌, [], ◌∙◌, sym, subst}
+use Rattle.std.proofs.Common.{◌∷◌, [], ◌∙◌, sym, subst}
 use Rattle.map_machine.specs.States.{MapState}
 use Rattle.map_machine.proofs.StepLemmas.{quit_kind}
 use Rattle.map_machine.proofs.TextLemmas.{reply_to-short, state_to-short}

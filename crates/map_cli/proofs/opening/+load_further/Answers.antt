@@ -1,4 +1,4 @@
-use Rattle.std.proofs.Common.{ℕ, List, sym, subst, Option, Some}
+use Rattle.std.proofs.Common.{List, sym, subst, Option, Some}
 use Rattle.std.specs.Prelude.{IsTrue}
 use Rattle.map_words.specs.Names.{is_plain}
 use Rattle.map_cli.specs.declared.opening.Loaded.TheVariants.{Ready}

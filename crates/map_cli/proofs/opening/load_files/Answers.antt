@@ -1,4 +1,4 @@
-use Rattle.std.proofs.Common.{ℕ, List, sym, subst, Option, None}
+use Rattle.std.proofs.Common.{List, sym, subst, Option, None}
 use Rattle.map_machine.specs.Play.{pairs_text, pairs_opening}
 use Rattle.std.specs.Prelude.{IsTrue}
 use Rattle.map_words.specs.Names.{is_plain}

@@ -1,4 +1,4 @@
-use Rattle.std.proofs.Common.{sym, ap, ◌∙◌, subst}
+use Rattle.std.proofs.Common.{ap, ◌∙◌, subst}
 use Rattle.map_machine.specs.Loads.{Opened, ready, turned_away, next_load}
 use Rattle.map_cli.specs.Loads.{LoadsAs}
 use Rattle.map_cli.proofs.LoadLemmas.{accepted_as, refused_as}

@@ -1,8 +1,8 @@
-use Rattle.std.proofs.Common.{◌≡◌, ◌<◌, ℕ, List, length, sym, ap, ◌∙◌, subst, Option, Some}
+use Rattle.std.proofs.Common.{◌≡◌, ◌<◌, List, length, sym, ap, ◌∙◌, subst, Option, Some}
 use Rattle.std.specs.Prelude.{IfSome, IsTrue}
 use Rattle.std.specs.List.{All}
 use Rattle.map_words.specs.Names.{is_plain}
-use Rattle.map_outside.specs.Contents.{Files, Grows}
+use Rattle.map_outside.specs.Contents.{Grows}
 use Rattle.map_machine.specs.Play.{loads_text, loads_opening, run_opening}
 use Rattle.map_machine.specs.Text.{session_text}
 use Rattle.map_machine.specs.Words.{Pair, run_pairs}
