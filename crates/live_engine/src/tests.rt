@@ -70,7 +70,7 @@ enum Said {
     NoMemory,
 }
 
-fn said(answer: Result<Accepted, Refusal>) -> Said {
+fn told(answer: Result<Accepted, Refusal>) -> Said {
     match answer {
         Ok(accepted) => Said::Number(accepted.number),
         Err(Refusal::Unknown(_)) => Said::Unknown,
@@ -98,7 +98,7 @@ fn line(engine: &mut Engine, alloc: Global, text: &[u8]) -> Said {
     let mut tally = tally();
     match edit_of(alloc, text) {
         None => Said::NoMemory,
-        Some(edit) => said(engine.edit(alloc, Edit::Line(edit), 1, &mut tally)),
+        Some(edit) => told(engine.edit(alloc, Edit::Line(edit), 1, &mut tally)),
     }
 }
 
@@ -111,7 +111,7 @@ fn load(engine: &mut Engine, alloc: Global, extent: Extent, name: &[u8], value: 
         Layer::constant(alloc, extent, cell, 7),
     ) {
         (Ok(name), Ok(layer)) => {
-            said(engine.edit(alloc, Edit::Load { name, layer }, 1, &mut tally))
+            told(engine.edit(alloc, Edit::Load { name, layer }, 1, &mut tally))
         }
         _ => Said::NoMemory,
     }
