@@ -1,5 +1,5 @@
 -- When an edit is accepted, and what is then held.
-use Rattle.std.proofs.Common.{◌≡◌, ℕ, Bool, true, false, cond, List, [], ◌∷◌, Option, Some, None, Result, Ok, Err, refl, sym, ap, subst, ◌∙◌, arith}
+use Rattle.std.proofs.Common.{◌≡◌, ℕ, Bool, true, false, cond, List, [], Some, None, Ok, Err, refl, sym, ap, subst, ◌∙◌, arith}
 use Rattle.std.specs.List.{All}
 use Rattle.map_nums.specs.Counts.{raised}
 use Rattle.map_nums.specs.Grids.{Size}

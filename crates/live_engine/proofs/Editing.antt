@@ -1,5 +1,5 @@
 -- What each edit makes of the entries, and why it is refused.
-use Rattle.std.proofs.Common.{◌≡◌, ℕ, ℤ, suc, ◌+◌, ◌≤◌, ◌<◌, ◌^◌, ◌&&◌, Bool, true, false, cond, List, [], ◌∷◌, ◌++◌, length, count_by, nat_lt, nat_eq, IfSome, Option, Some, None, is_some, option_map, Result, Ok, Err, bytes_eq, IsFalse, IsTrue, refl, sym, ap, subst, ◌∙◌, arith}
+use Rattle.std.proofs.Common.{◌≡◌, ℕ, ℤ, ◌+◌, ◌≤◌, ◌<◌, ◌^◌, Bool, true, false, cond, List, [], ◌∷◌, ◌++◌, length, count_by, nat_lt, nat_eq, IfSome, Option, Some, None, is_some, option_map, Ok, Err, bytes_eq, refl, sym, ap, subst, ◌∙◌, arith}
 use Rattle.std.specs.List.{All}
 use Rattle.std.proofs.lemmas.Bool.{lt-ltb, le-ltb, and_parts, eqb-true}
 use Rattle.std.specs.Map.{lookup, set_value}
@@ -7,7 +7,6 @@ use Rattle.layer_tiles.specs.Layers.{LayerState, IsCommitted}
 use Rattle.layer_tiles.specs.Patches.{PatchState, patched}
 use Rattle.map_nums.specs.Grids.{Size, Grid, constant}
 use Rattle.map_defs.specs.Ops.{Name, Op}
-use Rattle.map_defs.specs.Nodes.{Node}
 use Rattle.map_defs.specs.Depths.{is_looped}
 use Rattle.map_defs.specs.Statements.{Flat}
 use Rattle.map_defs.specs.Expansion.{expansion_of}
@@ -22,7 +21,7 @@ use Rattle.statement_graph.specs.Puts.{source_node}
 use Rattle.map_edits.specs.Entries.{Def, source, statement, Entry, find_def, put_entry, drop_entry, layers, nodes_of}
 use Rattle.map_edits.specs.EngineStates.{EngineState}
 use Rattle.map_edits.specs.Faults.{overflow, fault_of}
-use Rattle.map_edits.specs.Edits.{Edit, load, new_layer, paint, define, drop_name, Rectangle, Refusal, unknown, is_derived, exists_already, wrong_size, beyond, cycle, sources, statements, zonals, is_source, is_flat, is_zonal, is_within, painted, same_size, add_source, paint_source, bounded, put_statement, define_entry, entries_after, accept}
+use Rattle.map_edits.specs.Edits.{Edit, load, new_layer, paint, define, drop_name, Rectangle, unknown, is_derived, exists_already, wrong_size, beyond, cycle, sources, statements, zonals, is_source, is_flat, is_zonal, is_within, painted, same_size, add_source, paint_source, bounded, put_statement, define_entry, entries_after, accept}
 use Rattle.map_edits.specs.Laws.{IsOwnDef, IsWellMade}
 use Rattle.map_edits.proofs.Dropped.{drop_has_no_fault}
 use Rattle.live_engine.specs.Held.{grid_of, def_of, flats_of, entries_of}

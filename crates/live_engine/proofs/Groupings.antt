@@ -1,14 +1,12 @@
 -- The groups of entries after an edit are those that the graph makes of theirs.
-use Rattle.std.proofs.Common.{◌≡◌, ℕ, suc, ◌+◌, ◌≤◌, Bool, true, false, cond, not, ◌||◌, List, [], ◌∷◌, ◌++◌, map, find, flat_map, length, Option, Some, None, is_some, option_map, bytes_eq, IsTrue, IsFalse, Result, Ok, Err, refl, sym, ap, subst, ◌∙◌}
-use Rattle.std.specs.List.{list_any}
+use Rattle.std.proofs.Common.{◌≡◌, Bool, true, false, cond, not, ◌||◌, List, [], ◌∷◌, ◌++◌, map, find, Some, None, is_some, option_map, bytes_eq, IsTrue, IsFalse, Err, refl, sym, ap, subst, ◌∙◌}
 use Rattle.std.proofs.lemmas.List.{map-append}
 use Rattle.map_nums.specs.Grids.{Grid}
 use Rattle.map_defs.specs.Ops.{Name}
 use Rattle.map_defs.specs.Nodes.{Node}
 use Rattle.map_defs.specs.Statements.{Flat}
 use Rattle.statement_parser.specs.Lines.{Written}
-use Rattle.map_edits.specs.Entries.{Def, source, statement, Entry, find_def, put_entry, drop_entry, LayerDef, layers, layers_of, flat_layer, node_of_layer, nodes_of}
-use Rattle.map_edits.proofs.Among.{same_name}
+use Rattle.map_edits.specs.Entries.{Def, source, statement, Entry, find_def, put_entry, drop_entry, layers, layers_of, node_of_layer, nodes_of}
 use Rattle.statement_graph.specs.Groups.{Group, nodes_in, has_group, put_group, drop_group}
 use Rattle.statement_graph.specs.Puts.{source_node}
 use Rattle.statement_graph.specs.Puts.{IsPut}

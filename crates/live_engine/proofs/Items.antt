@@ -1,5 +1,5 @@
 -- The items of the names as they are kept, and the entries that they are.
-use Rattle.std.proofs.Common.{◌≡◌, ℕ, Bool, true, false, cond, not, List, [], ◌∷◌, map, find, Option, Some, None, is_some, option_map, bytes_eq, IsTrue, refl, sym, ap, subst, ◌∙◌}
+use Rattle.std.proofs.Common.{◌≡◌, ℕ, Bool, true, false, cond, not, List, [], ◌∷◌, find, Some, None, is_some, option_map, bytes_eq, IsTrue, refl, sym, ap, subst, ◌∙◌}
 use Rattle.std.specs.List.{All}
 use Rattle.std.specs.List.{AllByRecursion as ByRecursion}
 use Rattle.std.proofs.lemmas.List.Elements.{All-from_recursion, recursion_from_All}
@@ -9,10 +9,9 @@ use Rattle.indexmap.specs.IndexMap.{insert_entry}
 use Rattle.map_nums.specs.Grids.{Size}
 use Rattle.map_words.specs.Names.{is_plain}
 use Rattle.map_defs.specs.Ops.{Name}
-use Rattle.map_edits.specs.Entries.{Def, Entry, find_def, put_entry, drop_entry}
+use Rattle.map_edits.specs.Entries.{Entry, find_def, put_entry, drop_entry}
 use Rattle.map_edits.specs.Laws.{IsApart}
 use Rattle.map_edits.proofs.Among.{same_name}
-use Rattle.map_edits.proofs.Puts.{first_is_not}
 use Rattle.live_engine.specs.Held.{def_of, entry_of, entries_of}
 use Rattle.live_engine.specs.Engines.{IsItem, IsHeld}
 use Rattle.live_engine.specs.declared.held.Item.{Item}

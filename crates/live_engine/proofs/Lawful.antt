@@ -1,8 +1,7 @@
 -- What entries keep after an edit, and that their graph stays small.
-use Rattle.std.proofs.Common.{◌≡◌, ℕ, suc, ◌+◌, ◌≤◌, ◌<◌, ◌^◌, List, [], ◌∷◌, length, count_by, false, Option, Some, None, is_some, refl, sym, ap, subst, ◌∙◌, arith}
+use Rattle.std.proofs.Common.{◌≡◌, suc, ◌+◌, ◌≤◌, ◌<◌, List, length, count_by, false, Option, Some, None, is_some, refl, sym, ap, subst, ◌∙◌, arith}
 use Rattle.map_nums.specs.Grids.{Grid}
-use Rattle.map_defs.specs.Ops.{Name, Op}
-use Rattle.map_defs.specs.Nodes.{Node}
+use Rattle.map_defs.specs.Ops.{Name}
 use Rattle.map_defs.specs.Depths.{is_looped}
 use Rattle.map_defs.specs.Statements.{Flat}
 use Rattle.statement_parser.specs.Lines.{Written}
@@ -12,7 +11,7 @@ use Rattle.map_edits.specs.Laws.{IsOwnDef, IsOwn}
 use Rattle.map_edits.proofs.Puts.{own_put, length-nodes_of}
 use Rattle.map_edits.proofs.Kept.{source_alone}
 use Rattle.map_edits.proofs.Accepted.{drop_keeps, put_keeps}
-use Rattle.statement_graph.specs.Groups.{Group, nodes_in, put_group}
+use Rattle.statement_graph.specs.Groups.{nodes_in, put_group}
 use Rattle.live_engine.specs.Engines.{AreLawful}
 use Rattle.live_engine.specs.Groups.{groups_of, statement_nodes}
 use Rattle.live_engine.specs.Standing.{OtherThanSource}

@@ -1,8 +1,8 @@
 -- What is told of a name, by its item.
-use Rattle.std.proofs.Common.{◌≡◌, ℕ, List, [], ◌∷◌, map, Option, Some, None, is_some, option_map, option_copied, bytes_eq, Bor, if◌then◌else◌, refl, sym, ap, subst, ◌∙◌}
+use Rattle.std.proofs.Common.{◌≡◌, List, [], ◌∷◌, map, Option, Some, None, is_some, option_map, option_copied, bytes_eq, Bor, if◌then◌else◌, refl, sym, ap, ◌∙◌}
 use Rattle.std.specs.Map.{lookup}
 use Rattle.map_nums.specs.Grids.{Size, Cells, Grid}
-use Rattle.map_defs.specs.Ops.{Name, Op, terms_of}
+use Rattle.map_defs.specs.Ops.{Name, terms_of}
 use Rattle.map_defs.specs.Operate.{operate}
 use Rattle.map_defs.specs.Nodes.{Node, find_node, lacks, missing}
 use Rattle.statement_parser.specs.Lines as lines
@@ -12,16 +12,14 @@ use Rattle.statement_parser.specs.ToOps.{to_op}
 use Rattle.statement_parser.specs.declared.line.Written as writtens
 use Rattle.layer_tiles.specs.Layers.{LayerState}
 use Rattle.statement_graph.specs.Groups.{nodes_in}
-use Rattle.map_edits.specs.Entries.{Def, source, statement, Entry, find_def, by_op, layers, find_making, nodes_of}
-use Rattle.map_edits.specs.EngineStates.{EngineState, all_some, term_cells, value_of}
-use Rattle.map_edits.specs.Laws.{IsWellMade}
+use Rattle.map_edits.specs.Entries.{statement, find_def, nodes_of}
+use Rattle.map_edits.specs.EngineStates.{all_some, term_cells, value_of}
 use Rattle.map_edits.proofs.Looks.{made_node}
 use Rattle.map_edits.proofs.Puts.{def_making, making_by_entry}
 use Rattle.map_edits.proofs.Evaluating.{value_of_source, value_of_statement, value_of_none, node_by_entry}
-use Rattle.live_engine.specs.Held.{grid_of, def_of, flats_of, entries_of}
+use Rattle.live_engine.specs.Held.{grid_of, flats_of}
 use Rattle.live_engine.specs.Holdings.{entries_in, seen_in, IsKeptIn}
 use Rattle.live_engine.specs.Values.{kept}
-use Rattle.live_engine.specs.declared.held.Item.{Item}
 use Rattle.live_engine.specs.declared.held.Item.TheVariants.{Source, Statement}
 use Rattle.live_engine.specs.declared.held.Held.{Held}
 use Rattle.live_engine.proofs.Counts.{flats_is}

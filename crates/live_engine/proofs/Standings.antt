@@ -1,5 +1,5 @@
 -- What a name stands for, by its item.
-use Rattle.std.proofs.Common.{◌≡◌, ℕ, ◌+◌, ◌-◌, List, [], ◌∷◌, length, count_by, Option, Some, None, is_some, option_map, bytes_eq, refl, sym, ap, subst, ◌∙◌}
+use Rattle.std.proofs.Common.{◌≡◌, ℕ, ◌+◌, ◌-◌, List, [], ◌∷◌, length, count_by, Option, Some, None, is_some, option_map, bytes_eq, refl, sym, ap, ◌∙◌}
 use Rattle.std.specs.Map.{lookup}
 use Rattle.map_defs.specs.Ops.{Name, Op}
 use Rattle.statement_parser.specs.Lines.{Written}

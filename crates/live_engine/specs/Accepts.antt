@@ -1,5 +1,5 @@
 -- What an edit answers.
-use Rattle.std.specs.Prelude.{◌≡◌, ℕ, ⊤, List, Option, Result, Ok, Err, IsTrue}
+use Rattle.std.specs.Prelude.{◌≡◌, Result, Ok, Err, IsTrue}
 use Rattle.map_words.specs.Names.{is_plain}
 use Rattle.statement_parser.specs.Lines as lines
 use Rattle.statement_parser.specs.Views.{edit_view}

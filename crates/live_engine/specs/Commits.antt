@@ -1,5 +1,5 @@
 -- What becomes of a source when tiles are put into its layer.
-use Rattle.std.specs.Prelude.{◌≡◌, ℕ, List, Some, IfSome, bytes_eq}
+use Rattle.std.specs.Prelude.{◌≡◌, ℕ, List, IfSome, bytes_eq}
 use Rattle.std.specs.Map.{lookup, set_value}
 use Rattle.map_nums.specs.Grids.{Size}
 use Rattle.map_defs.specs.Ops.{Name}

@@ -1,9 +1,8 @@
 -- What the engine keeps at every moment.
-use Rattle.std.specs.Prelude.{◌≡◌, ℕ, ◌≤◌, List, count_by, Option, Some, None, IsTrue}
+use Rattle.std.specs.Prelude.{◌≡◌, ℕ, ◌≤◌, List, count_by, None, IsTrue}
 use Rattle.std.specs.List.{All}
 use Rattle.map_nums.specs.Grids.{Size}
 use Rattle.map_words.specs.Names.{is_plain}
-use Rattle.map_defs.specs.Ops.{Name}
 use Rattle.statement_parser.specs.Formed.{IsWritten}
 use Rattle.statement_parser.specs.Views.{written_view}
 use Rattle.statement_graph.specs.Groups.{Group}

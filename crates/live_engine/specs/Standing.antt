@@ -1,8 +1,5 @@
 -- What a name stands for, in three kinds.
-use Rattle.std.specs.Prelude.{◌≡◌, Bool, true, false, List, Option, Some, None, ⊤}
-use Rattle.map_nums.specs.Grids.{Grid}
-use Rattle.map_defs.specs.Statements.{Flat}
-use Rattle.statement_parser.specs.Lines.{Written}
+use Rattle.std.specs.Prelude.{◌≡◌, Bool, true, false, Option, Some, None, ⊤}
 use Rattle.map_edits.specs.Entries.{Def, source, statement}
 use Rattle.live_engine.specs.declared.held.Item.{Item}
 use Rattle.live_engine.specs.declared.held.Item.TheVariants.{Source, Statement}

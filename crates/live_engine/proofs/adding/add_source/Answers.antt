@@ -1,4 +1,4 @@
-use Rattle.std.proofs.Common.{◌≡◌, ◌<◌, List, bytes_eq, refl, sym, ap, subst, ◌∙◌}
+use Rattle.std.proofs.Common.{◌<◌, bytes_eq, refl, sym, subst, ◌∙◌}
 use Rattle.indexmap.specs.IndexMap.{insert_entry}
 use Rattle.map_edits.specs.Entries.{source, put_entry}
 use Rattle.map_edits.specs.Edits as edits

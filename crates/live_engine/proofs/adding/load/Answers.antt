@@ -1,6 +1,5 @@
-use Rattle.std.proofs.Common.{◌≡◌, ◌<◌, ◌≤◌, true, false, List, Some, None, bytes_eq, refl, sym, ap, subst, ◌∙◌}
+use Rattle.std.proofs.Common.{◌≡◌, true, false, refl, sym, ap, ◌∙◌}
 use Rattle.map_edits.specs.Edits as edits
-use Rattle.live_engine.specs.Accepts.{Refuses, Accepts}
 use Rattle.live_engine.specs.Held.{grid_of}
 use Rattle.live_engine.specs.Holdings.{seen_in, entries_in}
 use Rattle.map_nums.specs.Grids.{Grid}

@@ -1,9 +1,7 @@
-use Rattle.std.proofs.Common.{◌≡◌, ◌<◌, ◌≤◌, true, false, List, Some, None, bytes_eq, refl, sym, ap, subst, ◌∙◌}
+use Rattle.std.proofs.Common.{refl, sym, ap, ◌∙◌}
 use Rattle.map_edits.specs.Edits as edits
-use Rattle.live_engine.specs.Accepts.{Refuses, Accepts}
 use Rattle.live_engine.specs.Held.{grid_of}
 use Rattle.live_engine.specs.Holdings.{seen_in, entries_in}
-use Rattle.map_nums.specs.Grids.{constant}
 use Rattle.layer_tiles.specs.Layers.{LayerState}
 use Rattle.map_edits.specs.Entries.{find_def}
 use Rattle.live_engine.proofs.Accepting.{accept_err}

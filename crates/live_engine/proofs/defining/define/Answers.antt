@@ -1,10 +1,9 @@
-use Rattle.std.proofs.Common.{◌≡◌, ◌<◌, ◌≤◌, true, false, List, [], ◌∷◌, Ok, Err, bytes_eq, count_by, refl, sym, ap, subst, ◌∙◌}
+use Rattle.std.proofs.Common.{true, false, [], ◌∷◌, Err, bytes_eq, refl, sym, ap, subst, ◌∙◌}
 use Rattle.indexmap.specs.IndexMap.{insert_entry}
-use Rattle.map_defs.specs.Nodes.{Node}
 use Rattle.statement_parser.specs.Views.{written_view}
-use Rattle.map_edits.specs.Entries.{find_def, layers}
+use Rattle.map_edits.specs.Entries.{find_def}
 use Rattle.map_edits.specs.Edits as edits
-use Rattle.live_engine.specs.Accepts.{Refuses, Accepts}
+use Rattle.live_engine.specs.Accepts.{Refuses}
 use Rattle.live_engine.specs.Groups.{written_node, IsGraphWith}
 use Rattle.live_engine.specs.Holdings.{seen_in, entries_in}
 use Rattle.live_engine.specs.Standing.{OtherThanSource}

@@ -1,7 +1,6 @@
-use Rattle.std.proofs.Common.{◌≡◌, ◌<◌, ◌≤◌, true, false, List, Some, None, bytes_eq, refl, sym, ap, subst, ◌∙◌}
+use Rattle.std.proofs.Common.{bytes_eq, refl, sym, subst, ◌∙◌}
 use Rattle.map_edits.specs.Edits as edits
-use Rattle.live_engine.specs.Accepts.{Refuses, Accepts}
-use Rattle.live_engine.specs.Held.{grid_of}
+use Rattle.live_engine.specs.Accepts.{Refuses}
 use Rattle.live_engine.specs.Holdings.{seen_in, entries_in}
 use Rattle.indexmap.specs.IndexMap.{shift_remove_entry}
 use Rattle.map_edits.specs.Entries.{drop_entry}

@@ -1,4 +1,4 @@
-use Rattle.std.proofs.Common.{◌≡◌, ◌<◌, ◌≤◌, ◌^◌, List, length, ap, subst, sym, ◌∙◌, arith}
+use Rattle.std.proofs.Common.{◌≡◌, ◌≤◌, List, length, ap, ◌∙◌, arith}
 use Rattle.statement_graph.specs.Groups.{Group, nodes_in}
 use Rattle.live_engine.specs.Holdings.{entries_in}
 use Rattle.live_engine.specs.Groups.{groups_of}

@@ -1,4 +1,4 @@
-use Rattle.std.proofs.Common.{◌≡◌, ◌+◌, ◌^◌, ◌<◌, List, [], ◌∷◌, length, ap, sym, subst, ◌∙◌}
+use Rattle.std.proofs.Common.{◌+◌, ◌^◌, ◌<◌, List, [], ◌∷◌, length, ap, sym, subst, ◌∙◌}
 use Rattle.map_defs.specs.Nodes.{Node}
 use Rattle.statement_parser.specs.Views.{written_view}
 use Rattle.statement_graph.specs.Groups.{Group, nodes_in, put_group}

@@ -1,7 +1,6 @@
-use Rattle.std.proofs.Common.{◌≡◌, ◌∙◌, sym, ap, Option, Some, None, bytes_eq}
+use Rattle.std.proofs.Common.{◌≡◌, ◌∙◌, sym, ap, Some, None, bytes_eq}
 use Rattle.std.specs.Option.{option_copied}
 use Rattle.std.specs.Map.{lookup}
-use Rattle.live_engine.specs.declared.held.Item.{Item}
 use Rattle.live_engine.specs.declared.held.Item.TheVariants.{Source, Statement}
 use Rattle.live_engine.proofs.Standings.{kind_at}
 use Rattle.live_engine.proofs.limits.kind_of.Goals as goal

@@ -1,8 +1,6 @@
-use Rattle.std.proofs.Common.{◌≡◌, ◌∙◌, length, sym, ap}
+use Rattle.std.proofs.Common.{◌∙◌, sym}
 use Rattle.std.proofs.lemmas.List.{length-map}
-use Rattle.map_edits.specs.Entries.{find_def}
 use Rattle.live_engine.specs.Held.{entry_of, entries_of}
-use Rattle.live_engine.specs.Standing.{standing_of}
 use Rattle.live_engine.specs.declared.limits.Kind.TheVariants as kinds
 use Rattle.live_engine.proofs.Standings.{statements_put}
 use Rattle.live_engine.proofs.limits.statements_with.Goals as goal

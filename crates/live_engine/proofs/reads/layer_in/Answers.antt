@@ -1,4 +1,4 @@
-use Rattle.std.proofs.Common.{◌≡◌, List, Option, Some, None, option_map, option_copied, bytes_eq, Bor, sym, ap, ◌∙◌}
+use Rattle.std.proofs.Common.{◌≡◌, List, Some, None, option_map, option_copied, bytes_eq, Bor, sym, ap, ◌∙◌}
 use Rattle.std.specs.Map.{lookup}
 use Rattle.map_defs.specs.Nodes.{missing}
 use Rattle.layer_tiles.specs.Layers.{LayerState}

@@ -1,23 +1,22 @@
-use Rattle.std.proofs.Common.{◌≡◌, ◌<◌, ◌≤◌, true, false, List, Some, None, bytes_eq, refl, sym, ap, subst, ◌∙◌}
+use Rattle.std.proofs.Common.{◌≡◌, Some, None, bytes_eq, refl, sym, ap, subst, ◌∙◌}
 use Rattle.map_edits.specs.Edits as edits
-use Rattle.live_engine.specs.Accepts.{Refuses, Accepts}
+use Rattle.live_engine.specs.Accepts.{Refuses}
 use Rattle.live_engine.specs.Held.{grid_of}
 use Rattle.live_engine.specs.Holdings.{seen_in, entries_in}
 use Rattle.std.specs.Option.{option_copied}
 use Rattle.std.specs.Map.{lookup}
 use Rattle.map_nums.specs.Counts.{raised}
-use Rattle.map_nums.specs.Grids.{Size, Grid}
-use Rattle.layer_tiles.specs.Patches.{patched}
-use Rattle.map_edits.specs.Entries.{source, statement, put_entry, find_def}
+use Rattle.map_nums.specs.Grids.{Size}
+use Rattle.map_edits.specs.Entries.{source, put_entry}
 use Rattle.statement_parser.specs.Views.{written_view}
-use Rattle.live_engine.specs.Held.{entries_of, flats_of}
+use Rattle.live_engine.specs.Held.{flats_of}
 use Rattle.live_engine.specs.Painting.{rectangle_of}
 use Rattle.live_engine.specs.declared.held.Item.TheVariants.{Source, Statement}
 use Rattle.live_engine.proofs.Items.{held_item}
 use Rattle.live_engine.proofs.Groupings.{groups_repaint}
 use Rattle.live_engine.proofs.Lawful.{lawful_repaint}
 use Rattle.live_engine.proofs.Accepting.{accept_err, halted}
-use Rattle.live_engine.proofs.Editing.{accepts_after, kept_after, paint_unknown, paint_derived, paint_size, paint_paints, size_refused, paint_tiles, tiles_grid, def_there, item_def, painted_entries, painted_held}
+use Rattle.live_engine.proofs.Editing.{accepts_after, kept_after, paint_unknown, paint_derived, paint_size, size_refused, paint_tiles, tiles_grid, def_there, item_def, painted_entries, painted_held}
 use Rattle.live_engine.proofs.Valuing.{parts_kept, parts_twice}
 use Rattle.live_engine.proofs.repainting.paint.Goals as goal
 
