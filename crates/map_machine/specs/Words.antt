@@ -1,5 +1,5 @@
 -- The words of a run.
-use Rattle.std.specs.Prelude.{ℕ, nat_lt, nat_le, ◌==◌, not, Bool, true, false, ◌&&◌, List, [], ◌∷◌, map, find, length, Option, Some, None, String, string_bytes, codes, decimal, bytes_eq, if◌then◌else◌}
+use Rattle.std.specs.Prelude.{ℕ, nat_lt, nat_le, ◌==◌, not, Bool, true, ◌&&◌, List, [], ◌∷◌, length, Option, Some, None, String, string_bytes, codes, decimal, bytes_eq, if◌then◌else◌}
 use Rattle.std.specs.List.{list_any, range_with_len}
 use Rattle.std.specs.declared.alloc.Global.{Global}
 use Rattle.map_words.specs.Names.{is_plain}
