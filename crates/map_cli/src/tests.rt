@@ -245,15 +245,15 @@ fn refuses_words(rt: HostRuntime) -> Result<(), Fail> {
         )?;
         assert_eq!(rt; (code, wrote.len()), (2, 0), "{workers}");
     }
-    for words in [
-        [].as_slice(),
-        ["run", "1", "-"].as_slice(),
-        ["run", "1", "A=a"].as_slice(),
-        ["run", "1", "-", "A=a", "B=b", "A=b"].as_slice(),
-    ] {
-        let (code, wrote) = play(rt.alloc(), words, FILE, SESSION, NONE)?;
-        assert_eq!(rt; (code, wrote.len()), (2, 0));
-    }
+    let (code, wrote) = play(rt.alloc(), &[], FILE, SESSION, NONE)?;
+    assert_eq!(rt; (code, wrote.len()), (2, 0));
+    let (code, wrote) = play(rt.alloc(), &["run", "1", "-"], FILE, SESSION, NONE)?;
+    assert_eq!(rt; (code, wrote.len()), (2, 0));
+    let (code, wrote) = play(rt.alloc(), &["run", "1", "A=a"], FILE, SESSION, NONE)?;
+    assert_eq!(rt; (code, wrote.len()), (2, 0));
+    let twice = ["run", "1", "-", "A=a", "B=b", "A=b"];
+    let (code, wrote) = play(rt.alloc(), &twice, FILE, SESSION, NONE)?;
+    assert_eq!(rt; (code, wrote.len()), (2, 0));
     Ok(())
 }
 
