@@ -2,7 +2,6 @@
 use Rattle.std.specs.Prelude.{◌≡◌, ℕ, pos, List, [], ◌∷◌, ◌++◌, map, length, Some, None, Result, Ok, Err, codes}
 use Rattle.map_nums.specs.declared.Stat.{Stat}
 use Rattle.map_nums.specs.declared.Stat.TheVariants.{Sum, Product}
-use Rattle.map_defs.specs.Local.{of_stat}
 use Rattle.map_defs.specs.Ops.{Name, Term, layer_term, number_term, Op, local_op}
 use Rattle.map_defs.specs.Statements.{Written, plain, call, Flat, Inner, Procedure}
 use Rattle.map_defs.specs.Expansion.{WrongCall, not_defined, wrong_count, expansion_of}
@@ -15,7 +14,7 @@ abbrev pub number : ℕ → Term
 number n = number_term (pos n)
 
 abbrev pub of_two : Stat → Term → Term → Op
-of_two stat a b = local_op (of_stat stat) (a ∷ b ∷ [])
+of_two stat a b = local_op stat (a ∷ b ∷ [])
 
 abbrev pub inner : Name → Written → Inner
 inner n w = record { name = n; written = w }

@@ -2,9 +2,9 @@
 use Rattle.std.specs.Prelude.{◌≡◌, ℕ, pos, List, [], ◌∷◌, ◌++◌, replicate, filter, Some, None}
 use Rattle.map_nums.specs.declared.Stat.TheVariants.{Sum, Product, Variety}
 use Rattle.map_nums.specs.Grids.{Size, Cells}
-use Rattle.map_defs.specs.Local.{of_stat}
+use Rattle.map_nums.specs.Tiles.{tiles_in, tiles}
 use Rattle.map_defs.specs.Ops.{Op, Term, number_term, local_op, focal_op, zonal_op}
-use Rattle.map_defs.specs.Tiles.{tiles_in, tiles, is_in_square}
+use Rattle.map_defs.specs.Tiles.{is_in_square}
 use Rattle.map_defs.specs.Damage.{op_damage, changed_tiles}
 use Rattle.map_rows.specs.Words.{some, by, all}
 use Rattle.map_rows.specs.Edits.{counts, at_first, at_change}
@@ -24,7 +24,7 @@ abbrev pub painted : ℕ → Cells
 painted n = replicate 31 (some 1) ++ replicate 2 (some n)
 
 abbrev pub product : Op
-product = local_op (of_stat Product) (term ∷ term ∷ [])
+product = local_op Product (term ∷ term ∷ [])
 
 -- 33 by 33 cells of 1, but for this one in row 32 and column 32
 abbrev pub all_but : ℕ → Cells

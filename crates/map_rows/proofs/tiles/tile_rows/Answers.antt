@@ -12,11 +12,12 @@ use Rattle.map_defs.specs.Rounds.{spread_grid, spread_net, region_grid, region_n
 use Rattle.map_defs.specs.Spread.{step_cost}
 use Rattle.map_defs.specs.Operate.{operate}
 use Rattle.map_nums.specs.Stats.{maximum_of}
-use Rattle.map_defs.specs.Tiles.{tiles_across, tiles_in, tile_of, is_in_square}
+use Rattle.map_nums.specs.Tiles.{tiles_across, tiles_down, tiles_in, tile_top, tile_left, tile_of}
+use Rattle.map_defs.specs.Tiles.{is_in_square}
 use Rattle.map_defs.specs.Damage.{op_damage, changed_tiles}
 use Rattle.map_defs.specs.Work.{op_work}
 use Rattle.map_rows.proofs.tiles.tile_rows.Goals as goal
 
 pub returns : goal.returns
-unfolding local_grid focal_grid focal_numbers square disc zonal_grid zone_numbers octant floor_root form_grid linkage_at length_at partition_at frontage_at gradient_at aspect_at direction_grid direction_at winner_at flow_grid flow_at course_of downstream_of sight_grid sight_at sees spread_grid spread_net region_grid region_net step_cost operate maximum_of tiles_across tiles_in tile_of is_in_square op_damage changed_tiles op_work
+unfolding local_grid focal_grid focal_numbers square disc zonal_grid zone_numbers octant floor_root form_grid linkage_at length_at partition_at frontage_at gradient_at aspect_at direction_grid direction_at winner_at flow_grid flow_at course_of downstream_of sight_grid sight_at sees spread_grid spread_net region_grid region_net step_cost operate maximum_of tiles_across tiles_down tiles_in tile_top tile_left tile_of is_in_square op_damage changed_tiles op_work
 returns c = record { four = refl; three = refl; zones_first = refl; zones_change = refl; zones_keep = refl; factors = refl; corner_changed = refl; corner_damaged = refl; over_corner = refl; own_tile = refl; eight_off = refl; nine_off = refl; far = refl; last_cell = refl; first_short = refl; first_far = refl; last_column = refl }

@@ -12,11 +12,12 @@ use Rattle.map_defs.specs.Rounds.{spread_grid, spread_net, region_grid, region_n
 use Rattle.map_defs.specs.Spread.{step_cost}
 use Rattle.map_defs.specs.Operate.{operate}
 use Rattle.map_nums.specs.Stats.{maximum_of}
-use Rattle.map_defs.specs.Tiles.{tiles_across, tiles_in, tile_of, is_in_square}
+use Rattle.map_nums.specs.Tiles.{tiles_across, tiles_down, tiles_in, tile_top, tile_left, tile_of}
+use Rattle.map_defs.specs.Tiles.{is_in_square}
 use Rattle.map_defs.specs.Damage.{op_damage, changed_tiles}
 use Rattle.map_defs.specs.Work.{op_work}
 use Rattle.map_rows.proofs.work.work_rows.Goals as goal
 
 pub returns : goal.returns
-unfolding local_grid focal_grid focal_numbers square disc zonal_grid zone_numbers octant floor_root form_grid linkage_at length_at partition_at frontage_at gradient_at aspect_at direction_grid direction_at winner_at flow_grid flow_at course_of downstream_of sight_grid sight_at sees spread_grid spread_net region_grid region_net step_cost operate maximum_of tiles_across tiles_in tile_of is_in_square op_damage changed_tiles op_work
+unfolding local_grid focal_grid focal_numbers square disc zonal_grid zone_numbers octant floor_root form_grid linkage_at length_at partition_at frontage_at gradient_at aspect_at direction_grid direction_at winner_at flow_grid flow_at course_of downstream_of sight_grid sight_at sees spread_grid spread_net region_grid region_net step_cost operate maximum_of tiles_across tiles_down tiles_in tile_top tile_left tile_of is_in_square op_damage changed_tiles op_work
 returns c = record { spread0 = refl; flow0 = refl; region0 = refl; zonal0 = refl; spread1 = refl; flow1 = refl; region1 = refl; zonal1 = refl; spread2 = refl; flow2 = refl; region2 = refl; zonal2 = refl }
