@@ -1,12 +1,14 @@
 //! An operand before and after an edit.
-ghost use Rattle.std.specs.Prelude.{◌≡◌, ◌<◌, ◌≤◌, ◌↔◌, IsSome, IsTrue, Contains};
+ghost use Rattle.std.specs.Prelude.{◌≡◌, ◌<◌, ◌≤◌, ◌↔◌, ℕ, IsSome, IfSome, IfNone, IsTrue, Contains};
 ghost use Rattle.map_nums.specs.Grids.{IsSize, cells_in, cell_at};
 ghost use Rattle.layer_tiles.specs.Tiles.{tile_block, tiles_in};
 ghost use Rattle.layer_tiles.specs.Patches.{HoldsAll};
 ghost use Rattle.layer_tiles.specs.Windows.{window_of, span_of, tiles_lent, LendsInReach};
 ghost use Rattle.layer_tiles.specs.Tallies.{looked, picked};
 ghost use Rattle.layer_tiles.specs.Changes.{same_change, patched_change, fresh_change, constant_change, cells_before};
+ghost use Rattle.layer_tiles.specs.ChangeFacts.{IsChange, IsNext};
 ghost use Rattle.layer_tiles.specs.ChangeBodies.{change_of, IsChangeBody, IsRowOfOne};
+ghost use Rattle.layer_tiles.specs.Runs.{run_length, IsRun};
 
 use crate::cells::Cell;
 use crate::extents::Extent;
@@ -45,6 +47,18 @@ impl<'a> Model for Change<'a> {
 }
 
 impl<'a> Body<'a> {
+    /// The size of the operand.
+    fn extent(&self) -> Extent
+        ensures { result ≡ (change_of self.now).size }
+    {
+        match self {
+            Body::Same(layer) => layer.extent(),
+            Body::Patched(layer, _) => layer.extent(),
+            Body::Fresh(patch) => patch.extent(),
+            Body::Constant(extent, _) => *extent,
+        }
+    }
+
     /// A cell after the edit, uncounted.
     pub(crate) fn cell(&self, at: u32) -> Cell
         requires body { IsChangeBody self.now }
@@ -57,6 +71,61 @@ impl<'a> Body<'a> {
             Body::Fresh(patch) => fresh_cell(patch, at),
             Body::Constant(_, row) => row[0],
         }
+    }
+
+    /// The cells from one on, to the end of its row within its tile, after the edit, uncounted.
+    pub(crate) fn run(&self, extent: Extent, at: u32) -> &[Cell]
+        requires body { IsChangeBody self.now }
+        requires size { extent ≡ (change_of self.now).size }
+        requires within { at < cells_in extent }
+        ensures { IsRun (change_of self.now).size (change_of self.now).cells at result.now }
+    {
+        let count = extent.run_length(at);
+        match self {
+            Body::Same(layer) => return layer_run(layer, at, count),
+            Body::Patched(layer, patch) => return patched_run(layer, patch, at, count),
+            Body::Fresh(patch) => return fresh_run(patch, at, count),
+            Body::Constant(_, row) => return &row[..count],
+        }
+    }
+}
+
+/// Cells of a layer.
+fn layer_run(layer: &Layer, at: u32, count: usize) -> &[Cell]
+    requires within { at < cells_in layer.now.size }
+    requires count { count ≡ run_length layer.now.size at }
+    ensures { IsRun layer.now.size layer.now.cells at result.now }
+{
+    let _extent = layer.extent();
+    layer.run(at as usize, count)
+}
+
+/// Cells of a layer after tiles were replaced.
+fn patched_run<'b>(layer: &'b Layer, patch: &'b Patch, at: u32, count: usize) -> &'b [Cell]
+    requires within { at < cells_in layer.now.size }
+    requires same { patch.now.size ≡ layer.now.size }
+    requires count { count ≡ run_length layer.now.size at }
+    ensures { IsRun layer.now.size (patched_change layer.now patch.now).cells at result.now }
+{
+    let extent = patch.extent();
+    match patch.find(extent.tile_of(at)) {
+        Some(tile) => tile.run(extent.place_in(at), count),
+        None => layer_run(layer, at, count),
+    }
+}
+
+/// Cells of a patch that holds every tile.
+fn fresh_run(patch: &Patch, at: u32, count: usize) -> &[Cell]
+    requires within { at < cells_in patch.now.size }
+    requires all { HoldsAll patch.now }
+    requires count { count ≡ run_length patch.now.size at }
+    ensures { IsRun patch.now.size (fresh_change patch.now).cells at result.now }
+{
+    let extent = patch.extent();
+    let place = extent.place_in(at);
+    match patch.find(extent.tile_of(at)) {
+        Some(tile) => tile.run(place, count),
+        None => unreachable!(),
     }
 }
 
@@ -126,6 +195,7 @@ impl<'a> Change<'a> {
         ensures { result ≡ constant_change extent cell }
     {
         let _rows = extent.rows();
+        let _value = cell.get();
         Change {
             body: Body::Constant(extent, [cell; 32]),
         }
@@ -134,13 +204,9 @@ impl<'a> Change<'a> {
     pub fn extent(&self) -> Extent
         ensures extent { result ≡ self.now.size }
         ensures size { IsSize self.now.size }
+        ensures change { IsChange self.now }
     {
-        match &self.body {
-            Body::Same(layer) => layer.extent(),
-            Body::Patched(layer, _) => layer.extent(),
-            Body::Fresh(patch) => patch.extent(),
-            Body::Constant(extent, _) => *extent,
-        }
+        self.body.extent()
     }
 
     /// The tiles that meet a tile's square grown by a reach, after the edit. One look each.
@@ -224,6 +290,21 @@ impl<'a> Change<'a> {
             Body::Patched(_, patch) => patch.has(tile),
             Body::Fresh(patch) => patch.has(tile),
             Body::Constant(..) => false,
+        }
+    }
+}
+
+impl<'a> Change<'a> {
+    /// The least touched tile that is not below `from`.
+    pub fn next_touched(&self, from: u32) -> Option<u32>
+        ensures next { IfSome result (IsNext self.now.touched from) }
+        ensures none { IfNone result ((t : ℕ) → Contains self.now.touched t → t < from) }
+    {
+        match &self.body {
+            Body::Same(_) => None,
+            Body::Patched(_, patch) => patch.next_from(from),
+            Body::Fresh(patch) => patch.next_from(from),
+            Body::Constant(..) => None,
         }
     }
 }

@@ -3,6 +3,7 @@ ghost use Rattle.std.specs.Prelude.{◌≡◌, ◌↔◌, ◌<◌, ◌≤◌, �
 ghost use Rattle.map_nums.specs.Grids.{Size, IsSize, cells_in};
 ghost use Rattle.layer_tiles.specs.Tiles.{tiles_in, tile_of, tile_size, place_in, tiles_across, tiles_down, IsPlaced};
 ghost use Rattle.layer_tiles.specs.Places.{IsPlaceOf};
+ghost use Rattle.layer_tiles.specs.Runs.{run_length};
 
 use std::marker::Model;
 
@@ -102,8 +103,19 @@ impl Extent {
         at / self.columns / 32 * ((self.columns + 31) / 32) + at % self.columns / 32
     }
 
+    /// How many cells lie together from one on, to the end of its row within its tile.
+    #[tactic(auto, unfolding(crate::specs::Runs::run_length))]
+    pub(crate) fn run_length(&self, at: u32) -> usize
+        requires { at < cells_in self.now }
+        ensures length { result ≡ run_length self.now at }
+        ensures few { result ≤ 32 }
+    {
+        let column = at % self.columns;
+        (32 - column % 32).min(self.columns - column) as usize
+    }
+
     /// The place of a cell within its tile.
-    pub(crate) fn place_in(&self, at: u32) -> usize
+    pub fn place_in(&self, at: u32) -> usize
         requires { at < cells_in self.now }
         ensures place { result ≡ place_in self.now at }
         ensures within { result < tile_size self.now (tile_of self.now at) }

@@ -1,5 +1,5 @@
 //! A whole grid of cells, kept row by row in one list, with a stamp for each tile.
-ghost use Rattle.std.specs.Prelude.{◌≡◌, ◌<◌, ◌≤◌, [], length, slice_index, IfOk};
+ghost use Rattle.std.specs.Prelude.{◌≡◌, ◌+◌, ◌<◌, ◌≤◌, [], length, take, drop, slice_index, IfOk};
 ghost use Rattle.map_nums.specs.Grids.{cells_in, cell_at, constant};
 ghost use Rattle.layer_tiles.specs.Tiles.{tiles_in, tile_block};
 ghost use Rattle.layer_tiles.specs.Patches.{HoldsAll, patched};
@@ -7,7 +7,7 @@ ghost use Rattle.layer_tiles.specs.Layers.{IsLayer, IsCommitted, layer_of};
 ghost use Rattle.layer_tiles.specs.Windows.{window_of, span_of, tiles_lent, LendsInReach};
 ghost use Rattle.layer_tiles.specs.Tallies.{looked, picked};
 
-use crate::cells::Cell;
+use crate::cells::{Cell, are_cells};
 use crate::extents::Extent;
 use crate::patches::Patch;
 use crate::tallies::Tally;
@@ -73,6 +73,7 @@ impl Layer {
         requires { length cells.items ≡ cells_in extent }
         ensures { IfOk result (λ layer. layer ≡ layer_of extent cells.items stamp) }
     {
+        are_cells(&cells);
         let stamps = vec![in alloc; stamp; extent.tiles() as usize]?;
         Ok(Layer {
             extent,
@@ -173,6 +174,15 @@ impl Layer {
     {
         let lent = span(self.extent(), tile, reach, tally);
         Window::of_layer(self, lent)
+    }
+
+    /// Some cells from a place on, uncounted.
+    pub(crate) fn run(&self, first: usize, count: usize) -> &[Cell]
+        requires { first + count ≤ length self.now.cells }
+        ensures run { result.now ≡ take count (drop first self.now.cells) }
+        ensures count { length result.now ≡ count }
+    {
+        &self.cells[first..first + count]
     }
 
     /// One cell, uncounted.

@@ -1,7 +1,8 @@
 //! One tile of cells.
-ghost use Rattle.std.specs.Prelude.{◌≡◌, ◌+◌, ◌*◌, ◌<◌, length, replicate, slice_set, IfOk, IsTrue, ◌↔◌};
+ghost use Rattle.std.specs.Prelude.{◌≡◌, ◌+◌, ◌*◌, ◌<◌, ◌≤◌, length, take, drop, replicate, slice_set, IfOk, IsTrue, ◌↔◌};
 ghost use Rattle.map_nums.specs.Grids.{cell_at};
-ghost use Rattle.layer_tiles.specs.Tiles.{Block, block_row, tiles_in, tile_size, tile_height, tile_width};
+ghost use Rattle.layer_tiles.specs.Cells.{AreCells};
+ghost use Rattle.layer_tiles.specs.Tiles.{Block, IsBlock, block_row, tiles_in, tile_size, tile_height, tile_width};
 
 use crate::cells::Cell;
 use crate::extents::Extent;
@@ -19,13 +20,14 @@ pub struct Tile {
 }
 
 impl Model for Tile {
+    ghost use Rattle.layer_tiles.specs.Cells.{AreCells};
     ghost use Rattle.layer_tiles.specs.Tiles.{Block, IsBlock};
 
     ghost Value = { Block };
 
     ghost view = { λ t. record { height = t.height; width = t.width; cells = t.cells.items } };
 
-    ghost invariant = { λ t. IsBlock (record { height = t.height; width = t.width; cells = t.cells.items }) };
+    ghost invariant = { λ t. IsBlock (record { height = t.height; width = t.width; cells = t.cells.items }) × AreCells t.cells.items };
 }
 
 impl Tile {
@@ -35,6 +37,7 @@ impl Tile {
         ensures { IfOk result
             (λ t. t ≡ record { height = tile_height extent tile; width = tile_width extent tile; cells = replicate (tile_size extent tile) fill }) }
     {
+        let _value = fill.get();
         let place = extent.place(tile);
         let height = place.height as usize;
         let width = place.width as usize;
@@ -45,12 +48,35 @@ impl Tile {
         })
     }
 
+    /// A tile of rows that lie one after another.
+    pub(crate) fn of_rows(height: usize, width: usize, cells: Vec<Cell>) -> Tile
+        requires block { IsBlock (record { height = height; width = width; cells = cells.items }) }
+        requires are_cells { AreCells cells.items }
+        ensures { result ≡ record { height = height; width = width; cells = cells.items } }
+    {
+        Tile {
+            height,
+            width,
+            cells,
+        }
+    }
+
+    /// How many rows the tile has.
+    pub fn height(&self) -> u32
+        ensures height { result ≡ self.now.height }
+        ensures block { IsBlock self.now }
+        ensures are_cells { AreCells self.now.cells }
+    {
+        self.height as u32
+    }
+
     /// Sets the cell of a row and a column, counted from 0 within the tile.
     pub fn set(&mut self, r: u32, c: u32, cell: Cell)
         requires row { r < self.old.height }
         requires column { c < self.old.width }
         ensures { self.new ≡ record self.old { cells = slice_set self.old.cells (r * self.old.width + c) cell } }
     {
+        let _value = cell.get();
         let at = r as usize * self.width + c as usize;
         self.cells[at] = cell;
     }
@@ -65,15 +91,24 @@ impl Tile {
         &self.cells[first..first + self.width]
     }
 
-    /// The tile, lent.
-    pub(crate) fn view(&self) -> TileView<'_>
+    /// The tile, lent. It is nobody's layer, so that nothing is counted.
+    pub fn view(&self) -> TileView<'_>
         ensures { result ≡ self.now }
     {
         TileView::lend(&self.cells, 0, self.width, self.height, self.width)
     }
 
+    /// Some cells from a place on, row by row.
+    pub(crate) fn run(&self, first: usize, count: usize) -> &[Cell]
+        requires { first + count ≤ length self.now.cells }
+        ensures run { result.now ≡ take count (drop first self.now.cells) }
+        ensures count { length result.now ≡ count }
+    {
+        &self.cells[first..first + count]
+    }
+
     /// The cell at a place, row by row.
-    pub(crate) fn cell(&self, k: usize) -> Cell
+    pub fn cell(&self, k: usize) -> Cell
         requires { k < length self.now.cells }
         ensures { result ≡ cell_at self.now.cells k }
     {

@@ -1,0 +1,117 @@
+-- Rows that are made cell by cell, and tiles that are made row by row.
+use Rattle.std.proofs.Common.{◌≡◌, ◌≢◌, ℕ, ◌+◌, ◌-◌, ◌*◌, ◌/◌, ◌%◌, ◌<◌, ◌≤◌, length, get_or, set, IsTrue, IsFalse, Option, None, ℤ, Result, Ok, Err, IfOk, refl, sym, ◌∙◌, ap, subst, arith, below_more, ⊎_elim}
+use Rattle.std.proofs.lemmas.Bool.{cases_lt}
+use Rattle.std.proofs.lemmas.List.{get_or-set_same, get_or-set_other, length-set}
+use Rattle.std.proofs.lemmas.Nat.{mul-add-lt, div-mul-add, mod-mul-add}
+use Rattle.map_nums.specs.Answers.{is_wide}
+use Rattle.map_nums.specs.Exact.{IsExact}
+use Rattle.map_nums.specs.Grids.{Size}
+use Rattle.map_nums.specs.declared.Wide.{Wide}
+use Rattle.layer_tiles.specs.Tiles.{Block, IsBlockOf, tile_start, tile_top, tile_left, tile_height, tile_width}
+use Rattle.layer_tiles.specs.PlaceByPlace.{cell_in, IsPlaceRefusal, IsLeastPlace, IsMade}
+use Rattle.layer_tiles.specs.declared.kernels.KernelRefusal.{KernelRefusal}
+use Rattle.layer_tiles.specs.declared.kernels.KernelRefusal.TheVariants.{Overflow}
+use Rattle.layer_tiles.specs.declared.kernels.KernelRefusal.TheVariants as refusal
+use Rattle.tile_frame.specs.Frames.{by_row, refused_at, IsRowMade, IsFirstWide, IsRowRefusal}
+
+-- ---- a row
+
+-- no cell yet
+pub row_none : (value : ℕ → Option ℤ) (width r : ℕ) (b : Block) → IsRowMade value width r 0 b b
+row_none value width r b = record {
+  height_stays = refl;
+  width_stays = refl;
+  count = refl;
+  above = λ k l. refl;
+  done = λ c l. absurd (omega (arith, l));
+  in_range = λ c l. absurd (omega (arith, l));
+}
+
+-- one more cell
+row_more : (value : ℕ → Option ℤ) (width height r c : ℕ) (old made new : Block) (cell : Option ℤ) → IsRowMade value width r c old made → old.width ≡ width → length old.cells ≡ height * width → r < height → c < width → (cell ≡ value c) × IsFalse (is_wide (value c)) → new ≡ record made { cells = set made.cells (r * made.width + c) cell } → IsRowMade value width r (c + 1) old new
+row_more value width height r c old made new cell m w count p q a n =
+    let at = r * width + c in
+    let there : new ≡ record made { cells = set made.cells at cell } = n ∙ ap (λ j. record made { cells = set made.cells (r * j + c) cell }) (m.width_stays ∙ w) in
+    let within : at < length made.cells = omega (arith, mul-add-lt r width c height p q, count, m.count) in
+    rw (there)
+    record {
+      height_stays = m.height_stays;
+      width_stays = m.width_stays;
+      count = length-set made.cells at cell ∙ m.count;
+      above = λ k l. let other : k ≢ at = omega arith in get_or-set_other made.cells at k cell None other ∙ m.above k l;
+      done = below_more _ _
+          (λ j l. let other : r * width + j ≢ at = omega arith in get_or-set_other made.cells at (r * width + j) cell None other ∙ m.done j l)
+          (get_or-set_same made.cells at cell None within ∙ a.0);
+      in_range = below_more _ _ m.in_range a.1;
+    }
+
+-- the answer of one more cell
+pub row_put : (value : ℕ → Option ℤ) (width height r c at : ℕ) (old made new : Block) (answer : Result (Option ℤ) Wide) → IsRowMade value width r c old made → old.width ≡ width → length old.cells ≡ height * width → r < height → c < width → IsExact (value c) answer → IfOk answer (λ cell. new ≡ record made { cells = set made.cells (r * made.width + c) cell }) → refused_at at answer ≡ Ok tt → IsRowMade value width r (c + 1) old new
+row_put value width height r c at old made new (Ok cell) m w count p q a n e = row_more value width height r c old made new cell m w count p q a n
+row_put value width height r c at old made new (Err wide) m w count p q a n e = cc
+
+first_wide : (value : ℕ → Option ℤ) (s : Size) (t r c at : ℕ) (old made : Block) → IsRowMade value (tile_width s t) r c old made → c < tile_width s t → at ≡ (tile_top s t + r) * s.columns + tile_left s t + c → IsTrue (is_wide (value c)) → IsFirstWide value s t r at
+unfolding tile_start
+first_wide value s t r c at old made m q l w = record { column = c; within = q; is_at = omega (arith, l); wide = w; first = m.in_range }
+
+-- or why the row has none
+pub row_refused : (value : ℕ → Option ℤ) (s : Size) (t r c at : ℕ) (old made : Block) (answer : Result (Option ℤ) Wide) (e : KernelRefusal) → IsRowMade value (tile_width s t) r c old made → c < tile_width s t → at ≡ (tile_top s t + r) * s.columns + tile_left s t + c → IsExact (value c) answer → refused_at at answer ≡ Err e → IsRowRefusal value s t r e
+row_refused value s t r c at old made (Ok cell) e m q l a x = cc
+row_refused value s t r c at old made (Err wide) (Overflow place) m q l a x = let same : place ≡ at = cc in first_wide value s t r c place old made m q (same ∙ l) a
+row_refused value s t r c at old made (Err wide) refusal.NoMemory m q l a x = tt
+
+-- ---- a tile
+
+pub by_row-is : (w : ℕ) (q : ℕ → ℕ → Option ℤ) (r c : ℕ) → c < w → by_row w q (r * w + c) ≡ q r c
+unfolding by_row
+by_row-is w q r c l = rw (div-mul-add r w c l, mod-mul-add r w c l) refl
+
+-- the rows above row r are made, and row r was made
+pub rows_then : (q : ℕ → ℕ → Option ℤ) (height width r : ℕ) (old new : Block) → IsMade (by_row width q) height width (r * width) old → IsRowMade (q r) width r width old new → IsMade (by_row width q) height width ((r + 1) * width) new
+rows_then q height width r old new m row = record {
+  height_is = row.height_stays ∙ m.height_is;
+  width_is = row.width_stays ∙ m.width_is;
+  count = row.count ∙ m.count;
+  done = λ j l. ⊎_elim
+      (λ (a : j < r * width). row.above j a ∙ m.done j a)
+      (λ (a : r * width ≤ j).
+      let c = j - r * width in
+      let in_row : c < width = omega arith in
+      let at : r * width + c ≡ j = omega arith in
+      ap (λ k. get_or new.cells k None) (sym at) ∙ row.done c in_row ∙ sym (by_row-is width q r c in_row) ∙ ap (by_row width q) at)
+      (cases_lt j (r * width));
+  in_range = λ j l. ⊎_elim
+      (λ (a : j < r * width). m.in_range j a)
+      (λ (a : r * width ≤ j).
+      let c = j - r * width in
+      let in_row : c < width = omega arith in
+      let at : r * width + c ≡ j = omega arith in
+      subst (λ k. IsFalse (is_wide (by_row width q k))) at (subst (λ (x : Option ℤ). IsFalse (is_wide x)) (sym (by_row-is width q r c in_row)) (row.in_range c in_row)))
+      (cases_lt j (r * width));
+}
+
+-- row r has a value out of range
+pub rows_refused : (q : ℕ → ℕ → Option ℤ) (s : Size) (t r : ℕ) (old : Block) (e : KernelRefusal) → IsMade (by_row (tile_width s t) q) (tile_height s t) (tile_width s t) (r * tile_width s t) old → r < tile_height s t → IsRowRefusal (q r) s t r e → IsPlaceRefusal (by_row (tile_width s t) q) s t e
+rows_refused q s t r old (Overflow at) m p f = least_place q s t r at old m p f
+  where
+    least_place : (q : ℕ → ℕ → Option ℤ) (s : Size) (t r at : ℕ) (old : Block) → IsMade (by_row (tile_width s t) q) (tile_height s t) (tile_width s t) (r * tile_width s t) old → r < tile_height s t → IsFirstWide (q r) s t r at → IsLeastPlace (by_row (tile_width s t) q) s t at
+    least_place q s t r at old m p f =
+        let w = tile_width s t in
+        record {
+          row = r;
+          column = f.column;
+          row_within = p;
+          column_within = f.within;
+          is_at = f.is_at;
+          wide = subst (λ (x : Option ℤ). IsTrue (is_wide x)) (sym (by_row-is w q r f.column f.within)) f.wide;
+          least = λ k l. ⊎_elim
+              (λ (a : k < r * w). m.in_range k a)
+              (λ (a : r * w ≤ k).
+              let c = k - r * w in
+              let before : c < f.column = omega arith in
+              let in_row : c < w = omega (arith, f.within) in
+              let at : r * w + c ≡ k = omega arith in
+              subst (λ j. IsFalse (is_wide (by_row w q j))) at (subst (λ (x : Option ℤ). IsFalse (is_wide x)) (sym (by_row-is w q r c in_row)) (f.first c before)))
+              (cases_lt k (r * w));
+        }
+rows_refused q s t r old refusal.NoMemory m p f = tt
