@@ -3,11 +3,9 @@ use Rattle.std.proofs.Common.{◌≡◌, ℤ, Bool, true, false, cond, nat_lt, L
 use Rattle.map_nums.specs.Grids.{Size, Grid, constant}
 use Rattle.map_defs.specs.Ops.{Name}
 use Rattle.map_defs.specs.Statements as statements
-use Rattle.map_defs.specs.Statements.{Flat}
+use Rattle.map_defs.specs.Statements.{Flat, Written}
 use Rattle.map_defs.specs.Expansion.{WrongCall, not_defined, wrong_count, expansion_of}
 use Rattle.map_defs.specs.Depths.{reaches, is_looped, by_depth}
-use Rattle.statement_parser.specs.Lines.{Written}
-use Rattle.statement_parser.specs.ToOps.{to_written}
 use Rattle.map_edits.specs.Entries.{Def, source, statement, Entry, find_def, put_entry, drop_entry, layers, nodes_of}
 use Rattle.map_edits.specs.EngineStates.{EngineState, no_entries, value_of}
 use Rattle.map_edits.specs.Faults.{Fault, fault_of}
@@ -73,8 +71,8 @@ module _ (es new : List Entry) (n : Name) (own : IsOwn es) where
 
   define_is : (written : Written) (o : Option Def) → define_entry es n written o ≡ Ok new → IsChanged es n new
   define_is written (Some (source grid)) e = absurd cc
-  define_is written (Some (statement w flats)) e = put_is written (expansion_of [] n (to_written written)) (plain_is_own n (to_written written) written) e
-  define_is written None e = put_is written (expansion_of [] n (to_written written)) (plain_is_own n (to_written written) written) e
+  define_is written (Some (statement w flats)) e = put_is written (expansion_of [] n written) (plain_is_own n written written) e
+  define_is written None e = put_is written (expansion_of [] n written) (plain_is_own n written written) e
 
 paint_is : (s : EngineState) (new : List Entry) (n : Name) (r : Rectangle) (cell : Option ℤ) (o : Option Def) → IsOwn s.entries → paint_source s n r cell o ≡ Ok new → IsChanged s.entries n new
 paint_is s new n r cell None own e = absurd cc

@@ -11,7 +11,8 @@ use Rattle.map_defs.specs.Nodes.{Node, find_node, needs_in}
 use Rattle.map_defs.specs.Depths.{by_depth}
 use Rattle.map_edits.specs.Entries.{Entry, find_def, drop_entry, Making, given_grid, by_op, layers, find_making, nodes_of}
 use Rattle.map_edits.specs.EngineStates.{EngineState, all_some, term_cells, made, value_of}
-use Rattle.map_edits.specs.Faults.{Fault, too_many_viewers, viewers_among, viewers_of, wide_place, overflow_at, fault_of_layer, first_fault, fault_of}
+use Rattle.map_nums.specs.Options.{first_some}
+use Rattle.map_edits.specs.Faults.{Fault, too_many_viewers, viewers_among, viewers_of, wide_place, overflow_at, fault_of_layer, fault_of}
 use Rattle.map_edits.specs.Edits.{Edit, load, new_layer, paint, define, drop_name, unknown, entries_after, accept}
 use Rattle.map_edits.specs.Laws.{is_among, is_named_in, HasNoCycle, IsOwn, IsWellMade}
 use Rattle.map_edits.proofs.Among.{same_name, bytes_eq-self, none_at}
@@ -83,16 +84,16 @@ undefined_faultless s n e = ap (faulty v s.size n) e ∙ go (nat_lt most_viewers
     go true = refl
     go false = refl
 
-none_first : (f : Name → Option Fault) (xs : List Node) → Each (λ node. f node.name ≡ None) xs → first_fault (map (λ (node : Node). f node.name) xs) ≡ None
+none_first : (f : Name → Option Fault) (xs : List Node) → Each (λ node. f node.name ≡ None) xs → first_some (map (λ (node : Node). f node.name) xs) ≡ None
 none_first f [] each = refl
-none_first f (x ∷ xs) each = ap (λ o. first_fault (o ∷ map (λ (node : Node). f node.name) xs)) each.0 ∙ none_first f xs each.1
+none_first f (x ∷ xs) each = ap (λ o. first_some (o ∷ map (λ (node : Node). f node.name) xs)) each.0 ∙ none_first f xs each.1
 
-named_faultless : (f : Name → Option Fault) (n : Name) (xs : List Node) → first_fault (map (λ (node : Node). f node.name) xs) ≡ None → is_named_in n xs ≡ true → f n ≡ None
+named_faultless : (f : Name → Option Fault) (n : Name) (xs : List Node) → first_some (map (λ (node : Node). f node.name) xs) ≡ None → is_named_in n xs ≡ true → f n ≡ None
 named_faultless f n [] none named = absurd (false≢true named)
 named_faultless f n (x ∷ xs) none named = go (f x.name) refl none (or_cases (bytes_eq x.name n) (is_named_in n xs) named) (named_faultless f n xs)
   where
-    go : (o : Option Fault) → f x.name ≡ o → first_fault (o ∷ map (λ (node : Node). f node.name) xs) ≡ None → (bytes_eq x.name n ≡ true) ⊎ (is_named_in n xs ≡ true)
-        → (first_fault (map (λ (node : Node). f node.name) xs) ≡ None → is_named_in n xs ≡ true → f n ≡ None) → f n ≡ None
+    go : (o : Option Fault) → f x.name ≡ o → first_some (o ∷ map (λ (node : Node). f node.name) xs) ≡ None → (bytes_eq x.name n ≡ true) ⊎ (is_named_in n xs ≡ true)
+        → (first_some (map (λ (node : Node). f node.name) xs) ≡ None → is_named_in n xs ≡ true → f n ≡ None) → f n ≡ None
     go (Some fault) is none named rest = absurd cc
     go None is none (inl same) rest = ap f (sym (same_name x.name n same)) ∙ is
     go None is none (inr later) rest = rest none later

@@ -5,10 +5,9 @@ use Rattle.std.proofs.lemmas.Option.{none-some}
 use Rattle.map_nums.specs.Grids.{Grid}
 use Rattle.map_defs.specs.Ops.{Name, Op, terms_of, needs_of}
 use Rattle.map_defs.specs.Operate.{operate}
-use Rattle.map_defs.specs.Statements.{Flat}
+use Rattle.map_defs.specs.Statements.{Flat, Written}
 use Rattle.map_defs.specs.Nodes.{Node, find_node, needs_in, lacks, missing, first_some}
 use Rattle.map_defs.specs.Depths.{by_depth}
-use Rattle.statement_parser.specs.Lines.{Written}
 use Rattle.map_edits.specs.Entries.{Def, source, statement, Entry, find_def, given_grid, layers, nodes_of}
 use Rattle.map_edits.specs.EngineStates.{EngineState, all_some, term_cells, made, value_of}
 use Rattle.map_edits.specs.Laws.{is_among, is_named_in, HasNoCycle, IsOwnDef, IsOwn, IsWellMade}

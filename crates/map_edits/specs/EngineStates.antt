@@ -1,6 +1,7 @@
 -- The state that the engine keeps of the map machine, and the grid of each layer. It keeps no grid of a statement.
 use Rattle.std.specs.Prelude.{ℕ, zero, suc, List, [], ◌∷◌, map, length, Option, Some, None, option_map}
 use Rattle.map_nums.specs.Grids.{Size, Cells, Grid, constant}
+pub use Rattle.map_nums.specs.Options.{all_some}
 use Rattle.map_defs.specs.Ops.{Name, Term, layer_term, number_term, terms_of}
 use Rattle.map_defs.specs.Operate.{operate}
 use Rattle.map_edits.specs.Entries.{Entry, Making, given_grid, by_op, LayerDef, layers, find_making}
@@ -14,12 +15,6 @@ pub record EngineState : Type 0 where
 
 abbrev pub no_entries : Size → EngineState
 no_entries size = record { size = size; entries = []; number = 0 }
-
--- the operands' cells, where every one is there
-abbrev pub all_some : List (Option Cells) → Option (List Cells)
-all_some [] = Some []
-all_some (None ∷ os) = None
-all_some (Some cells ∷ os) = option_map (λ rest. cells ∷ rest) (all_some os)
 
 -- a number is the grid that holds it everywhere
 abbrev pub term_cells : Size → (Name → Option Grid) → Term → Option Cells

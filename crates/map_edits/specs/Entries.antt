@@ -2,8 +2,7 @@
 use Rattle.std.specs.Prelude.{ℕ, not, List, [], ◌∷◌, map, filter, find, flat_map, Option, Some, None, option_map, bytes_eq, if◌then◌else◌}
 use Rattle.map_nums.specs.Grids.{Grid}
 use Rattle.map_defs.specs.Ops.{Name, Op, needs_of}
-use Rattle.map_defs.specs.Statements.{Flat}
-use Rattle.statement_parser.specs.Lines.{Written}
+use Rattle.map_defs.specs.Statements.{Flat, Written}
 use Rattle.map_defs.specs.Nodes.{Node}
 
 -- what a name stands for

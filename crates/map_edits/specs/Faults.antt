@@ -2,6 +2,7 @@
 use Rattle.std.specs.Prelude.{ℕ, suc, ◌&&◌, nat_lt, List, [], ◌∷◌, map, position, Option, Some, None, is_some, if◌then◌else◌}
 use Rattle.map_nums.specs.Grids.{Size, Cells, Grid, row_of, column_of}
 use Rattle.map_nums.specs.Answers.{is_wide}
+use Rattle.map_nums.specs.Options.{first_some}
 use Rattle.map_defs.specs.Sight.{viewer_count, most_viewers}
 use Rattle.map_defs.specs.Ops.{Name, sight_op}
 use Rattle.map_defs.specs.Nodes.{Node}
@@ -38,11 +39,6 @@ fault_of_layer s n =
     if nat_lt most_viewers (viewers_of s (find_making (layers s.entries) n)) && is_some (value_of s n) then Some (too_many_viewers n (viewers_of s (find_making (layers s.entries) n)))
     else overflow_at s.size n (wide_place (value_of s n))
 
-abbrev pub first_fault : List (Option Fault) → Option Fault
-first_fault [] = None
-first_fault (None ∷ os) = first_fault os
-first_fault (Some f ∷ os) = Some f
-
 -- the first by depth, then place
 unfoldable pub fault_of : EngineState → Option Fault
-fault_of s = first_fault (map (λ (node : Node). fault_of_layer s node.name) (by_depth (nodes_of s.entries)))
+fault_of s = first_some (map (λ (node : Node). fault_of_layer s node.name) (by_depth (nodes_of s.entries)))

@@ -1,6 +1,12 @@
 pub mod Entries
 pub mod EngineStates
 pub mod Faults
+pub mod EditForms
+pub mod Refusals
+pub mod Limits
+pub mod Painting
+pub mod EntriesAfter
 pub mod Edits
+pub mod LineEdits
 pub mod Laws
 pub mod Sessions

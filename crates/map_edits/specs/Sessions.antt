@@ -2,7 +2,8 @@
 use Rattle.std.specs.Prelude.{◌≡◌, ℕ, pos, List, [], ◌∷◌, Some, None, Result, Ok, Err, codes}
 use Rattle.map_nums.specs.Grids.{Size, Grid}
 use Rattle.map_nums.specs.declared.Stat.TheVariants as stats
-use Rattle.statement_parser.specs.Lines.{layer, value, local, Written, plain}
+use Rattle.map_defs.specs.Ops.{layer_term, number_term, local_op}
+use Rattle.map_defs.specs.Statements.{Written, plain}
 use Rattle.map_edits.specs.EngineStates.{EngineState, no_entries, value_of}
 use Rattle.map_edits.specs.Faults.{overflow}
 use Rattle.map_edits.specs.Edits.{Edit, load, paint, define, drop_name, Rectangle, Refusal, unknown, is_derived, exists_already, wrong_size, cycle, fault, accept}
@@ -35,7 +36,7 @@ abbrev pub one_cell : ℕ → Grid
 one_cell n = record { size = cell; cells = Some (pos n) ∷ [] }
 
 abbrev pub sum_of : List ℕ → ℕ → Written
-sum_of n k = plain (local stats.Sum (layer n ∷ value (pos k) ∷ []))
+sum_of n k = plain (local_op stats.Sum (layer_term n ∷ number_term (pos k) ∷ []))
 
 abbrev pub corner : Rectangle
 corner = record { top = 1; left = 1; bottom = 1; right = 1 }

@@ -1,7 +1,7 @@
 //! What an edit does to the names of a map, as definitions: the state after it, or the first refusal.
 //!
 //! A state keeps sources with their grids and statements as they were written; it keeps no grid of a statement, and
-//! `specs/EngineStates` evaluates each on whole grids. The engine of the next stage is to be proved against these.
+//! `specs/EngineStates` evaluates each on whole grids. The engine is proved against these.
 #![tactic(auto)]
 
 ghost use Rattle.map_edits.specs.Sessions.{Sessions};

@@ -5,8 +5,6 @@ use Rattle.std.proofs.lemmas.List.FromFn.{length-map-range_with_len}
 use Rattle.map_nums.specs.Grids.{Size, Cells, cells_in}
 use Rattle.map_defs.specs.Local as locals
 use Rattle.map_defs.specs.Local.{local_grid, local_at}
-use Rattle.map_defs.specs.Ops as ops
-use Rattle.map_defs.specs.Operate.{operate}
 use Rattle.layer_tiles.specs.Tiles.{Block}
 use Rattle.layer_tiles.specs.Changes.{ChangeState}
 use Rattle.layer_tiles.specs.Answers.{IsTileAnswer, IsLeastWide}
@@ -15,11 +13,6 @@ use Rattle.layer_tiles.specs.declared.kernels.KernelRefusal.TheVariants.{Overflo
 use Rattle.local_ops.specs.Operations.{Takes}
 use Rattle.local_ops.specs.Operands.{size_of, cells_after}
 use Rattle.local_ops.proofs.Numbers.{takes_some}
-
--- a Local operation is its kernel's grid
-pub operate_local : (s : Size) (o : ops.Op) (l : locals.LocalOp) (ts : List ops.Term) (operands : List Cells) → o ≡ ops.local_op l ts → operate s o operands ≡ local_grid s l operands
-unfolding operate
-operate_local s o l ts operands e = rw (e) refl
 
 -- it has as many cells as its size
 pub local_count : (s : Size) (l : locals.LocalOp) (operands : List Cells) → length (local_grid s l operands).cells ≡ cells_in s

@@ -1,17 +1,16 @@
 //! The layer of a statement's operation.
-ghost use Rattle.std.specs.Prelude.{◌≡◌, ◌*◌, length, map, IfOk};
+ghost use Rattle.std.specs.Prelude.{◌≡◌, ◌*◌, length, IfOk};
 ghost use Rattle.std.specs.List.{All};
 ghost use Rattle.map_defs.specs.Operate.{operate};
-ghost use Rattle.map_defs.specs.Ops.{local_op};
+ghost use Rattle.map_defs.specs.Ops.{terms_of};
 ghost use Rattle.layer_tiles.specs.Tiles.{tiles_in};
 ghost use Rattle.layer_tiles.specs.Tallies.{RisesBy};
-ghost use Rattle.local_ops.specs.Operations.{op_of};
+ghost use Rattle.local_ops.specs.Operations.{op_of, Takes};
 ghost use Rattle.local_ops.specs.Operands.{cells_after};
 ghost use Rattle.statement_parser.specs.Formed.{IsOp};
-ghost use Rattle.statement_parser.specs.Lines.{terms_of};
-ghost use Rattle.statement_parser.specs.ToOps.{to_op, to_term};
 ghost use Rattle.statement_parser.specs.Views.{op_view};
 ghost use Rattle.op_jobs.specs.Evaluated.{IsEvaluated};
+ghost use Rattle.op_jobs.specs.Kernels.{IsKernelOf};
 
 use crate::tiling::make_tiles;
 use layer_tiles::{Extent, KernelRefusal, Layer, Operands, Tally};
@@ -36,7 +35,7 @@ pub fn evaluate<M: Tally>(
     requires formed { IsOp (op_view op.now) }
     requires terms { length operands.now ≡ length (terms_of (op_view op.now)) }
     requires one_size { All (λ c. c.size ≡ extent) operands.now }
-    ensures layer { IsEvaluated extent (operate extent (to_op (op_view op.now)) (cells_after operands.now)) stamp result }
+    ensures layer { IsEvaluated extent (operate extent (op_view op.now) (cells_after operands.now)) stamp result }
     ensures tally { RisesBy (length operands.now * tiles_in extent) 0 (M.counts tally.old) (M.counts tally.new) }
 {
     let Ok(local) = local_op_of(alloc, op) else {
@@ -47,8 +46,11 @@ pub fn evaluate<M: Tally>(
 }
 
 /// The operation as its kernel takes it.
+#[tactic(auto, unfolding(map_defs::specs::Operate::operate))]
 fn local_op_of(alloc: Global, op: &Op) -> Result<LocalOp, NoMemory>
-    ensures { IfOk result (λ local. to_op (op_view op.now) ≡ local_op (op_of local) (map to_term (terms_of (op_view op.now)))) }
+    requires formed { IsOp (op_view op.now) }
+    ensures kernel { IfOk result (λ local. IsKernelOf (op_view op.now) (op_of local)) }
+    ensures takes { IfOk result (λ local. Takes (op_of local) (length (terms_of (op_view op.now)))) }
 {
     match op {
         Op::Local { stat, .. } => Ok(LocalOp::Stat(*stat)),
