@@ -15,7 +15,9 @@ use Rattle.map_nums.specs.Numbers.{is_value}
 use Rattle.map_words.specs.Bytes.{Text, is_blank, is_mark, is_good, first_bad, is_silent}
 use Rattle.map_words.specs.Words.{Placed, closed, longer, words_from, text_of}
 use Rattle.map_words.specs.Names.{is_plain, has_name_form, is_name_byte, is_reserved}
-use Rattle.statement_parser.specs.Lines.{Manner, Term, layer, value, Op, local, difference, ratio, rating, Written, plain, define, edit}
+use Rattle.map_defs.specs.Ops.{Term, layer_term, number_term, Op, local_op, difference_op, ratio_op, rating_op}
+use Rattle.map_defs.specs.Statements.{Written, plain, call}
+use Rattle.statement_parser.specs.Lines.{Manner, define, edit}
 use Rattle.statement_parser.specs.Grammar.{IsLine}
 use Rattle.statement_parser.specs.Formed.{Each, IsTerm, IsCell, IsRate, IsOp, IsWritten}
 use Rattle.statement_parser.specs.Canonical.{term_text, cell_text, stat_text, terms_after, terms_texts, to_texts, rates_texts, op_texts, written_tail, written_texts, spaced, joined, written_text}
@@ -195,8 +197,8 @@ number_word : (z : ℤ) → IsTrue (is_value z) → IsWord (signed_decimal z)
 number_word z h = inl (number_some z h, number_run z h)
 
 term_word : (t : Term) → IsTerm t → IsWord (term_text t)
-term_word (layer n) h = plain_word n h
-term_word (value z) h = number_word z h
+term_word (layer_term n) h = plain_word n h
+term_word (number_term z) h = number_word z h
 
 cell_word : (c : Option ℤ) → IsCell c → IsWord (cell_text c)
 cell_word None h = inl (λ e. cc, refl)
@@ -244,16 +246,18 @@ rates_words (r ∷ rs) h =
     (inl (λ e. cc, refl), (cell_word r.give h.0.give, (inl (λ e. cc, refl), (number_word r.low h.0.low, each-append (to_texts r.low r.high) (rates_texts rs) (to_words r.low r.high h.0.high) (rates_words rs h.1)))))
 
 op_words : (o : Op) → IsOp o → Each IsWord (op_texts o)
-op_words (local s ts) h = (stat_word s, (of_word, terms_words ts h.2))
-op_words (difference l r) h = (inl (λ e. cc, refl), (of_word, (term_word l h.0, (and_word, (term_word r h.1, tt)))))
-op_words (ratio l r) h = (inl (λ e. cc, refl), (of_word, (term_word l h.0, (and_word, (term_word r h.1, tt)))))
-op_words (rating t rs) h = (inl (λ e. cc, refl), (of_word, (term_word t h.0, rates_words rs h.3)))
+op_words (local_op s ts) h = (stat_word s, (of_word, terms_words ts h.2))
+op_words (difference_op l r) h = (inl (λ e. cc, refl), (of_word, (term_word l h.0, (and_word, (term_word r h.1, tt)))))
+op_words (ratio_op l r) h = (inl (λ e. cc, refl), (of_word, (term_word l h.0, (and_word, (term_word r h.1, tt)))))
+op_words (rating_op t rs) h = (inl (λ e. cc, refl), (of_word, (term_word t h.0, rates_words rs h.3)))
+op_words op h = absurd h
 
 equals_word : IsWord (codes "=")
 equals_word = inr (61, refl, refl, refl, refl)
 
 written_words : (n : Text) (w : Written) → is_plain n ≡ true → IsWritten w → Each IsWord (written_texts n w)
 written_words n (plain o) p h = (plain_word n p, (equals_word, op_words o h))
+written_words n (call q ts) p h = absurd h
 
 -- ---- back
 

@@ -13,7 +13,9 @@ use Rattle.map_words.specs.Bytes.{Text}
 use Rattle.map_words.specs.Names.{is_plain, is_reserved, is_among}
 use Rattle.grammar_core.specs.Rules.{Rule, Derives, ends, next, after, or_rule}
 use Rattle.grammar_core.proofs.Ends.{next_derives, also_derives, rest_derives}
-use Rattle.statement_parser.specs.Lines.{Manner, Term, layer, value, Op, local, difference, ratio, rating, Written, plain, define, Line, edit}
+use Rattle.map_defs.specs.Ops.{Term, layer_term, number_term, Op, local_op, difference_op, ratio_op, rating_op}
+use Rattle.map_defs.specs.Statements.{Written, plain, call}
+use Rattle.statement_parser.specs.Lines.{Manner, define, Line, edit}
 use Rattle.statement_parser.specs.Operations.{lookup, operation_named}
 use Rattle.statement_parser.specs.Places.{the, name_of, value_of, term_of, cell_of}
 use Rattle.statement_parser.specs.Bodies.{and_terms, statistic_body, pair_body, to_part, rate_part, with_rates, rating_body, operation_body}
@@ -30,8 +32,8 @@ name_back : (n : Text) → IsTrue (is_plain n) → name_of n ≡ Some n
 name_back n h = rw h refl
 
 term_back : (t : Term) → IsTerm t → term_of (term_text t) ≡ Some t
-term_back (layer n) h = rw h refl
-term_back (value z) h = rw (no_plain z h) (ap (option_map value) (value_back z h))
+term_back (layer_term n) h = rw h refl
+term_back (number_term z) h = rw (no_plain z h) (ap (option_map number_term) (value_back z h))
 
 cell_back : (c : Option ℤ) → IsCell c → cell_of (cell_text c) ≡ Some c
 cell_back None h = refl
@@ -67,26 +69,26 @@ module _ (mk : Op → Line) where
   abbrev last : Op → Rule Text Line
   last op = ends (mk op)
 
-  and_back : (s : Stat) (n : ℕ) (us front : List Term) → length us ≤ n → Each IsTerm us → Derives (and_terms (λ ts. last (local s ts)) n front) (terms_after (codes "and") us) (mk (local s (front ++ us)))
-  and_back s zero [] front le h = ap (λ ts. Some (mk (local s ts))) (sym (append-nil front))
+  and_back : (s : Stat) (n : ℕ) (us front : List Term) → length us ≤ n → Each IsTerm us → Derives (and_terms (λ ts. last (local_op s ts)) n front) (terms_after (codes "and") us) (mk (local_op s (front ++ us)))
+  and_back s zero [] front le h = ap (λ ts. Some (mk (local_op s ts))) (sym (append-nil front))
   and_back s zero (u ∷ us) front le h = absurd (omega arith)
-  and_back s (suc n) [] front le h = ap (λ ts. Some (mk (local s ts))) (sym (append-nil front))
+  and_back s (suc n) [] front le h = ap (λ ts. Some (mk (local_op s ts))) (sym (append-nil front))
   and_back s (suc n) (u ∷ us) front le h =
-      let f = λ (ts : List Term). last (local s ts) in
-      also_derives (the (codes "and")) (λ _. next term_of (λ t. and_terms f n (front ++ t ∷ []))) (f front) (codes "and") tt (term_text u ∷ terms_after (codes "and") us) (mk (local s (front ++ u ∷ us))) refl
-      (next_derives term_of (λ t. and_terms f n (front ++ t ∷ [])) (term_text u) u (terms_after (codes "and") us) (mk (local s (front ++ u ∷ us))) (term_back u h.0)
-      (subst (λ (ts : List Term). Derives (and_terms f n (front ++ u ∷ [])) (terms_after (codes "and") us) (mk (local s ts))) (append_assoc front (u ∷ []) us)
+      let f = λ (ts : List Term). last (local_op s ts) in
+      also_derives (the (codes "and")) (λ _. next term_of (λ t. and_terms f n (front ++ t ∷ []))) (f front) (codes "and") tt (term_text u ∷ terms_after (codes "and") us) (mk (local_op s (front ++ u ∷ us))) refl
+      (next_derives term_of (λ t. and_terms f n (front ++ t ∷ [])) (term_text u) u (terms_after (codes "and") us) (mk (local_op s (front ++ u ∷ us))) (term_back u h.0)
+      (subst (λ (ts : List Term). Derives (and_terms f n (front ++ u ∷ [])) (terms_after (codes "and") us) (mk (local_op s ts))) (append_assoc front (u ∷ []) us)
       (and_back s n us (front ++ u ∷ []) (omega arith) h.1)))
 
-  statistic_back : (s : Stat) (ts : List Term) → IsOp (local s ts) → Derives (statistic_body s last) (codes "of" ∷ terms_texts ts) (mk (local s ts))
+  statistic_back : (s : Stat) (ts : List Term) → IsOp (local_op s ts) → Derives (statistic_body s last) (codes "of" ∷ terms_texts ts) (mk (local_op s ts))
   statistic_back s [] h = absurd (let l = h.0 in omega arith)
   statistic_back s (a ∷ []) h = absurd (let l = h.0 in omega arith)
   statistic_back s (a ∷ b ∷ us) h =
-      let x = mk (local s (a ∷ b ∷ us)) in
+      let x = mk (local_op s (a ∷ b ∷ us)) in
       let l = h.1 in
       let rest = terms_after (codes "and") us in
       next_derives term_of _ (term_text a) a (codes "and" ∷ term_text b ∷ rest) x (term_back a h.2.0)
-      (next_derives term_of (λ b. and_terms (λ ts. last (local s ts)) 6 (a ∷ b ∷ [])) (term_text b) b rest x (term_back b h.2.1.0) (and_back s 6 us (a ∷ b ∷ []) (omega arith) h.2.1.1))
+      (next_derives term_of (λ b. and_terms (λ ts. last (local_op s ts)) 6 (a ∷ b ∷ [])) (term_text b) b rest x (term_back b h.2.1.0) (and_back s 6 us (a ∷ b ∷ []) (omega arith) h.2.1.1))
 
   pair_back : (make : Term → Term → Op) (a b : Term) → IsTerm a → IsTerm b → Derives (pair_body make last) (codes "of" ∷ term_text a ∷ codes "and" ∷ term_text b ∷ []) (mk (make a b))
   pair_back make a b p q =
@@ -133,24 +135,25 @@ module _ (mk : List Rate → Line) where
       (rate_back g r (rates_texts rs) (mk (front ++ r ∷ rs)) h.0 (no_to rs)
       (subst (λ (us : List Rate). Derives (g r) (rates_texts rs) (mk us)) (append_assoc front (r ∷ []) rs) (with_back n rs (front ++ r ∷ []) (omega arith) h.1)))
 
-rating_back : (mk : Op → Line) (t : Term) (rs : List Rate) → IsOp (rating t rs) → Derives (rating_body (λ op. ends (mk op))) (codes "of" ∷ term_text t ∷ rates_texts rs) (mk (rating t rs))
+rating_back : (mk : Op → Line) (t : Term) (rs : List Rate) → IsOp (rating_op t rs) → Derives (rating_body (λ op. ends (mk op))) (codes "of" ∷ term_text t ∷ rates_texts rs) (mk (rating_op t rs))
 rating_back mk t [] h = absurd (let l = h.1 in omega arith)
 rating_back mk t (r ∷ rs) h =
-    let x = mk (rating t (r ∷ rs)) in
+    let x = mk (rating_op t (r ∷ rs)) in
     let l = h.2 in
-    let g = λ (one : Rate). with_rates (λ rs. ends (mk (rating t rs))) 31 (one ∷ []) in
+    let g = λ (one : Rate). with_rates (λ rs. ends (mk (rating_op t rs))) 31 (one ∷ []) in
     next_derives term_of _ (term_text t) t (rates_texts (r ∷ rs)) x (term_back t h.0)
-    (rate_back g r (rates_texts rs) x h.3.0 (no_to rs) (with_back (λ rs. mk (rating t rs)) 31 rs (r ∷ []) (omega arith) h.3.1))
+    (rate_back g r (rates_texts rs) x h.3.0 (no_to rs) (with_back (λ rs. mk (rating_op t rs)) 31 rs (r ∷ []) (omega arith) h.3.1))
 
 op_back : (m : Manner) (mk : Op → Line) (o : Op) → IsOp o → Derives (next operation_named (operation_body m (λ op. ends (mk op)))) (op_texts o) (mk o)
-op_back m mk (local s ts) h =
-    next_derives operation_named (operation_body m (λ op. ends (mk op))) (stat_text s) (Local s) (codes "of" ∷ terms_texts ts) (mk (local s ts)) (statistic_name s) (statistic_back mk s ts h)
-op_back m mk (difference l r) h =
-    next_derives operation_named (operation_body m (λ op. ends (mk op))) (codes "LocalDifference") Difference (codes "of" ∷ term_text l ∷ codes "and" ∷ term_text r ∷ []) (mk (difference l r)) difference_name (pair_back mk difference l r h.0 h.1)
-op_back m mk (ratio l r) h =
-    next_derives operation_named (operation_body m (λ op. ends (mk op))) (codes "LocalRatio") Ratio (codes "of" ∷ term_text l ∷ codes "and" ∷ term_text r ∷ []) (mk (ratio l r)) ratio_name (pair_back mk ratio l r h.0 h.1)
-op_back m mk (rating t rs) h =
-    next_derives operation_named (operation_body m (λ op. ends (mk op))) (codes "LocalRating") Rating (codes "of" ∷ term_text t ∷ rates_texts rs) (mk (rating t rs)) rating_name (rating_back mk t rs h)
+op_back m mk (local_op s ts) h =
+    next_derives operation_named (operation_body m (λ op. ends (mk op))) (stat_text s) (Local s) (codes "of" ∷ terms_texts ts) (mk (local_op s ts)) (statistic_name s) (statistic_back mk s ts h)
+op_back m mk (difference_op l r) h =
+    next_derives operation_named (operation_body m (λ op. ends (mk op))) (codes "LocalDifference") Difference (codes "of" ∷ term_text l ∷ codes "and" ∷ term_text r ∷ []) (mk (difference_op l r)) difference_name (pair_back mk difference_op l r h.0 h.1)
+op_back m mk (ratio_op l r) h =
+    next_derives operation_named (operation_body m (λ op. ends (mk op))) (codes "LocalRatio") Ratio (codes "of" ∷ term_text l ∷ codes "and" ∷ term_text r ∷ []) (mk (ratio_op l r)) ratio_name (pair_back mk ratio_op l r h.0 h.1)
+op_back m mk (rating_op t rs) h =
+    next_derives operation_named (operation_body m (λ op. ends (mk op))) (codes "LocalRating") Rating (codes "of" ∷ term_text t ∷ rates_texts rs) (mk (rating_op t rs)) rating_name (rating_back mk t rs h)
+op_back m mk op h = absurd h
 
 -- ---- lines
 
@@ -175,3 +178,4 @@ words_back m n (plain o) p h = start (command_named n) (name_of n) (no_command n
     start None None e f d = absurd cc
     start None (Some k) e f d = let same : n ≡ k = cc in subst (λ (t : Text). Derives (define_rule m t) (codes "=" ∷ op_texts o) (edit (define n (plain o)))) same d
     start (Some c) named e f d = absurd cc
+words_back m n (call q ts) p h = absurd h

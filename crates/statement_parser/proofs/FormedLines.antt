@@ -10,7 +10,9 @@ use Rattle.map_words.specs.Names.{is_plain, is_dotted}
 use Rattle.map_words.specs.Numbers.{number_text, if_between}
 use Rattle.grammar_core.specs.Rules.{Rule, ends, on, next}
 use Rattle.grammar_core.proofs.Ends.{AllEnds, each_end, ends_on, ends_next, ends_or, ends_also}
-use Rattle.statement_parser.specs.Lines.{Manner, Term, layer, value, Op, local, difference, ratio, rating, plain, define, paint, new_layer, drop, ask_value, ask_grid, ask_list, Line, edit, ask, quit}
+use Rattle.map_defs.specs.Ops.{Term, layer_term, number_term, Op, local_op, difference_op, ratio_op, rating_op}
+use Rattle.map_defs.specs.Statements.{plain}
+use Rattle.statement_parser.specs.Lines.{Manner, define, paint, new_layer, drop, ask_value, ask_grid, ask_list, Line, edit, ask, quit}
 use Rattle.statement_parser.specs.Operations.{operation_named}
 use Rattle.statement_parser.specs.Places.{the, name_of, any_of, value_of, side_of, term_of, cell_of}
 use Rattle.statement_parser.specs.Bodies.{and_terms, statistic_body, pair_body, to_part, rate_part, with_rates, rating_body, operation_body}
@@ -67,9 +69,9 @@ side_formed w n e =
 term_formed : (w : Text) (t : Term) → term_of w ≡ Some t → IsTerm t
 term_formed w t e = go (is_plain w) refl e
   where
-    go : (b : Bool) → is_plain w ≡ b → cond b (Some (layer w)) (option_map value (value_of w)) ≡ Some t → IsTerm t
-    go true p e = let h : layer w ≡ t = cc in subst IsTerm h p
-    go false p e = let h = map_some value (value_of w) t e in subst IsTerm h.2 (value_formed w h.0 h.1)
+    go : (b : Bool) → is_plain w ≡ b → cond b (Some (layer_term w)) (option_map number_term (value_of w)) ≡ Some t → IsTerm t
+    go true p e = let h : layer_term w ≡ t = cc in subst IsTerm h p
+    go false p e = let h = map_some number_term (value_of w) t e in subst IsTerm h.2 (value_formed w h.0 h.1)
 
 cell_formed : (w : Text) (c : Option ℤ) → cell_of w ≡ Some c → IsCell c
 cell_formed w c e = go (bytes_eq w (codes "null")) e
@@ -128,7 +130,7 @@ and_formed f h (suc n) ts r =
 statistic_formed : (s : Stat) (f : Op → Rule Text Line) → Keeps IsOp f → Formed (statistic_body s f)
 statistic_formed s f h =
     then_the (codes "of") _ (then_term _ (λ a p. then_the (codes "and") _ (then_term _ (λ b q.
-    and_formed (λ ts. f (local s ts)) (λ ts r. h (local s ts) r) 6 (a ∷ b ∷ []) (omega arith, omega arith, (p, (q, tt)))))))
+    and_formed (λ ts. f (local_op s ts)) (λ ts r. h (local_op s ts) r) 6 (a ∷ b ∷ []) (omega arith, omega arith, (p, (q, tt)))))))
 
 pair_formed : (make : Term → Term → Op) (f : Op → Rule Text Line) → ((a b : Term) → IsTerm a → IsTerm b → Formed (f (make a b))) → Formed (pair_body make f)
 pair_formed make f h = then_the (codes "of") _ (then_term _ (λ a p. then_the (codes "and") _ (then_term _ (λ b q. h a b p q))))
@@ -150,13 +152,13 @@ with_formed f h (suc n) rs r =
 
 rating_formed : (f : Op → Rule Text Line) → Keeps IsOp f → Formed (rating_body f)
 rating_formed f h =
-    then_the (codes "of") _ (then_term _ (λ a p. then_the (codes "with") _ (rate_formed (λ one. with_rates (λ rs. f (rating a rs)) 31 (one ∷ [])) (λ one q.
-    with_formed (λ rs. f (rating a rs)) (λ rs r. h (rating a rs) (p, r.0, r.1, r.2)) 31 (one ∷ []) (omega arith, omega arith, (q, tt))))))
+    then_the (codes "of") _ (then_term _ (λ a p. then_the (codes "with") _ (rate_formed (λ one. with_rates (λ rs. f (rating_op a rs)) 31 (one ∷ [])) (λ one q.
+    with_formed (λ rs. f (rating_op a rs)) (λ rs r. h (rating_op a rs) (p, r.0, r.1, r.2)) 31 (one ∷ []) (omega arith, omega arith, (q, tt))))))
 
 operation_formed : (m : Manner) (f : Op → Rule Text Line) → Keeps IsOp f → (o : Operation) → Formed (operation_body m f o)
 operation_formed m f h (Local s) = statistic_formed s f h
-operation_formed m f h Difference = pair_formed difference f (λ a b p q. h (difference a b) (p, q))
-operation_formed m f h Ratio = pair_formed ratio f (λ a b p q. h (ratio a b) (p, q))
+operation_formed m f h Difference = pair_formed difference_op f (λ a b p q. h (difference_op a b) (p, q))
+operation_formed m f h Ratio = pair_formed ratio_op f (λ a b p q. h (ratio_op a b) (p, q))
 operation_formed m f h Rating = rating_formed f h
 
 -- ---- lines

@@ -11,4 +11,5 @@ pub mod BackWords
 pub mod BackBytes
 pub mod Computed
 pub mod LineOfLemmas
-pub mod ToOpsLemmas
+pub mod TermLemmas
+pub mod Viewed

@@ -6,7 +6,7 @@ use Rattle.map_words.specs.Bytes.{Text}
 use Rattle.map_words.specs.Names.{is_plain, is_dotted, is_reserved, is_among}
 use Rattle.map_words.specs.Numbers.{number_text}
 use Rattle.grammar_core.proofs.Reading.{IsPlace}
-use Rattle.statement_parser.specs.Lines.{value}
+use Rattle.map_defs.specs.Ops.{number_term}
 use Rattle.statement_parser.specs.Operations.{operation_named}
 use Rattle.statement_parser.specs.Places.{the, name_of, any_of, value_of, side_of, term_of, cell_of, tests}
 use Rattle.statement_parser.specs.Grammar.{command_named}
@@ -21,7 +21,7 @@ pub any_takes : any_of (codes "A") ≡ Some (codes "A")
 unfolding is_plain is_reserved is_among
 any_takes = refl
 
-pub term_takes : term_of (codes "1") ≡ Some (value (pos 1))
+pub term_takes : term_of (codes "1") ≡ Some (number_term (pos 1))
 unfolding is_plain number_text
 term_takes = refl
 

@@ -10,7 +10,8 @@ use Rattle.grammar_core.specs.Refusals.{is_unknown}
 use Rattle.grammar_core.specs.Run.{run, is_node}
 use Rattle.grammar_core.specs.Readers.{◌>>=◌, Read, one_at, starts}
 use Rattle.grammar_core.proofs.Reading.{assoc, cond_k, pick, IsPlace, Reads, place_k, IsTail, also_reads, or_refused, body_place}
-use Rattle.statement_parser.specs.Lines.{Manner, Term, Op, local, difference, ratio, rating, Line}
+use Rattle.map_defs.specs.Ops.{Term, Op, local_op, difference_op, ratio_op, rating_op}
+use Rattle.statement_parser.specs.Lines.{Manner, Line}
 use Rattle.statement_parser.specs.Operations.{operation_named}
 use Rattle.statement_parser.specs.Places.{the, value_of, term_of, cell_of, tests}
 use Rattle.statement_parser.specs.Bodies.{and_terms, statistic_body, pair_body, to_part, rate_part, with_rates, rating_body, operation_body}
@@ -60,15 +61,15 @@ and_reads k r tails reads (suc n) ts ws =
 statistic_reads : (s : Stat) (k : Goes Op) (r : Op → Rule Text Line) → AreTails r → Reads tests k r → (ws : List Text) → (statistic_at s ws >>= λ p. k p.0 p.1) ≡ run tests (statistic_body s r) ws
 unfolding statistic_at
 statistic_reads s k r tails reads =
-    let last = λ (a b : Term) (ws : List Text). and_at 6 (a ∷ b ∷ []) ws >>= λ ts. Ok (local s ts.0, ts.1) in
+    let last = λ (a b : Term) (ws : List Text). and_at 6 (a ∷ b ∷ []) ws >>= λ ts. Ok (local_op s ts.0, ts.1) in
     let second = λ (a : Term) (ws : List Text). one_at tests term_of true ws >>= λ b. last a b.0 b.1 in
     let both = λ (a : Term) (ws : List Text). one_at tests (the (codes "and")) false ws >>= λ v. second a v.1 in
     place_k tests (the (codes "of")) false (λ u ws. one_at tests term_of true ws >>= λ a. both a.0 a.1) k _ of_place (λ u. refl) (λ u.
     place_k tests term_of true both k _ term_place (λ a. refl) (λ a.
     place_k tests (the (codes "and")) false (λ v ws. second a ws) k _ and_place (λ v. refl) (λ v.
-    place_k tests term_of true (last a) k _ term_place (λ b. (and_tail (λ ts. r (local s ts)) 6 (a ∷ b ∷ []) (λ ts. tails (local s ts))).node) (λ b ws.
-    assoc (and_at 6 (a ∷ b ∷ []) ws) (λ ts. Ok (local s ts.0, ts.1)) (λ p. k p.0 p.1)
-    ∙ and_reads (λ ts. k (local s ts)) (λ ts. r (local s ts)) (λ ts. tails (local s ts)) (λ ts. reads (local s ts)) 6 (a ∷ b ∷ []) ws))))
+    place_k tests term_of true (last a) k _ term_place (λ b. (and_tail (λ ts. r (local_op s ts)) 6 (a ∷ b ∷ []) (λ ts. tails (local_op s ts))).node) (λ b ws.
+    assoc (and_at 6 (a ∷ b ∷ []) ws) (λ ts. Ok (local_op s ts.0, ts.1)) (λ p. k p.0 p.1)
+    ∙ and_reads (λ ts. k (local_op s ts)) (λ ts. r (local_op s ts)) (λ ts. tails (local_op s ts)) (λ ts. reads (local_op s ts)) 6 (a ∷ b ∷ []) ws))))
 
 pair_reads : (make : Term → Term → Op) (k : Goes Op) (r : Op → Rule Text Line) → AreTails r → Reads tests k r → (ws : List Text) → (pair_at ws >>= λ p. k (make p.0.0 p.0.1) p.1) ≡ run tests (pair_body make r) ws
 unfolding pair_at
@@ -82,13 +83,13 @@ pair_reads make k r tails reads =
     place_k tests (the (codes "and")) false (λ v ws. second a ws) h _ and_place (λ v. refl) (λ v.
     place_k tests term_of true (last a) h (λ b. r (make a b)) term_place (λ b. (tails (make a b)).node) (λ b. reads (make a b)))))
 
-difference_reads : (k : Goes Op) (r : Op → Rule Text Line) → AreTails r → Reads tests k r → (ws : List Text) → (difference_at ws >>= λ p. k p.0 p.1) ≡ run tests (pair_body difference r) ws
+difference_reads : (k : Goes Op) (r : Op → Rule Text Line) → AreTails r → Reads tests k r → (ws : List Text) → (difference_at ws >>= λ p. k p.0 p.1) ≡ run tests (pair_body difference_op r) ws
 unfolding difference_at
-difference_reads k r tails reads ws = assoc (pair_at ws) (λ p. Ok (difference p.0.0 p.0.1, p.1)) (λ p. k p.0 p.1) ∙ pair_reads difference k r tails reads ws
+difference_reads k r tails reads ws = assoc (pair_at ws) (λ p. Ok (difference_op p.0.0 p.0.1, p.1)) (λ p. k p.0 p.1) ∙ pair_reads difference_op k r tails reads ws
 
-ratio_reads : (k : Goes Op) (r : Op → Rule Text Line) → AreTails r → Reads tests k r → (ws : List Text) → (ratio_at ws >>= λ p. k p.0 p.1) ≡ run tests (pair_body ratio r) ws
+ratio_reads : (k : Goes Op) (r : Op → Rule Text Line) → AreTails r → Reads tests k r → (ws : List Text) → (ratio_at ws >>= λ p. k p.0 p.1) ≡ run tests (pair_body ratio_op r) ws
 unfolding ratio_at
-ratio_reads k r tails reads ws = assoc (pair_at ws) (λ p. Ok (ratio p.0.0 p.0.1, p.1)) (λ p. k p.0 p.1) ∙ pair_reads ratio k r tails reads ws
+ratio_reads k r tails reads ws = assoc (pair_at ws) (λ p. Ok (ratio_op p.0.0 p.0.1, p.1)) (λ p. k p.0 p.1) ∙ pair_reads ratio_op k r tails reads ws
 
 to_reads : (k : Goes Rate) (r : Rate → Rule Text Line) → AreTails r → Reads tests k r → (give : Option ℤ) (low : ℤ) (ws : List Text) → (to_at give low ws >>= λ p. k p.0 p.1) ≡ run tests (to_part r give low) ws
 unfolding to_at
@@ -131,16 +132,16 @@ with_reads k r tails reads (suc n) rs ws =
 rating_reads : (k : Goes Op) (r : Op → Rule Text Line) → AreTails r → Reads tests k r → (ws : List Text) → (rating_at ws >>= λ p. k p.0 p.1) ≡ run tests (rating_body r) ws
 unfolding rating_at
 rating_reads k r tails reads =
-    let last = λ (a : Term) (one : Rate) (ws : List Text). with_at 31 (one ∷ []) ws >>= λ rs. Ok (rating a rs.0, rs.1) in
+    let last = λ (a : Term) (one : Rate) (ws : List Text). with_at 31 (one ∷ []) ws >>= λ rs. Ok (rating_op a rs.0, rs.1) in
     let first = λ (a : Term) (ws : List Text). rate_at ws >>= λ one. last a one.0 one.1 in
     let both = λ (a : Term) (ws : List Text). one_at tests (the (codes "with")) false ws >>= λ v. first a v.1 in
     place_k tests (the (codes "of")) false (λ u ws. one_at tests term_of true ws >>= λ a. both a.0 a.1) k _ of_place (λ u. refl) (λ u.
     place_k tests term_of true both k _ term_place (λ a. refl) (λ a.
     place_k tests (the (codes "with")) false (λ v ws. first a ws) k _ with_place (λ v. refl) (λ v ws.
     assoc (rate_at ws) (λ one. last a one.0 one.1) (λ p. k p.0 p.1)
-    ∙ rate_reads (λ one ws. last a one ws >>= λ p. k p.0 p.1) (λ one. with_rates (λ rs. r (rating a rs)) 31 (one ∷ [])) (λ one. with_tail (λ rs. r (rating a rs)) 31 (one ∷ []) (λ rs. tails (rating a rs))) (λ one ws.
-    assoc (with_at 31 (one ∷ []) ws) (λ rs. Ok (rating a rs.0, rs.1)) (λ p. k p.0 p.1)
-    ∙ with_reads (λ rs. k (rating a rs)) (λ rs. r (rating a rs)) (λ rs. tails (rating a rs)) (λ rs. reads (rating a rs)) 31 (one ∷ []) ws) ws)))
+    ∙ rate_reads (λ one ws. last a one ws >>= λ p. k p.0 p.1) (λ one. with_rates (λ rs. r (rating_op a rs)) 31 (one ∷ [])) (λ one. with_tail (λ rs. r (rating_op a rs)) 31 (one ∷ []) (λ rs. tails (rating_op a rs))) (λ one ws.
+    assoc (with_at 31 (one ∷ []) ws) (λ rs. Ok (rating_op a rs.0, rs.1)) (λ p. k p.0 p.1)
+    ∙ with_reads (λ rs. k (rating_op a rs)) (λ rs. r (rating_op a rs)) (λ rs. tails (rating_op a rs)) (λ rs. reads (rating_op a rs)) 31 (one ∷ []) ws) ws)))
 
 operation_reads : (m : Manner) (k : Goes Op) (r : Op → Rule Text Line) → AreTails r → Reads tests k r → (o : Operation) (ws : List Text) → (operation_at o ws >>= λ p. k p.0 p.1) ≡ run tests (operation_body m r o) ws
 operation_reads m k r tails reads (Local s) = statistic_reads s k r tails reads

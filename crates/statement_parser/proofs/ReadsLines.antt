@@ -6,7 +6,9 @@ use Rattle.grammar_core.specs.Rules.{ends}
 use Rattle.grammar_core.specs.Run.{run, is_node}
 use Rattle.grammar_core.specs.Readers.{◌>>=◌, one_at, end_at}
 use Rattle.grammar_core.proofs.Reading.{place, place_k, end_reads, ends_tail, or_else, or_refused, start_place}
-use Rattle.statement_parser.specs.Lines.{Manner, Op, plain, define, paint, new_layer, drop, ask_value, ask_grid, ask_list, blank, edit, ask, quit}
+use Rattle.map_defs.specs.Ops.{Op}
+use Rattle.map_defs.specs.Statements.{plain}
+use Rattle.statement_parser.specs.Lines.{Manner, define, paint, new_layer, drop, ask_value, ask_grid, ask_list, blank, edit, ask, quit}
 use Rattle.statement_parser.specs.Places.{the, name_of, any_of, side_of, cell_of, tests}
 use Rattle.statement_parser.specs.Grammar.{define_rule, paint_rule, new_rule, drop_rule, value_rule, grid_rule, command_named, command_rule, line_rule}
 use Rattle.statement_parser.specs.ReadLocal.{body_at}

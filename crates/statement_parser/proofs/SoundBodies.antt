@@ -11,7 +11,8 @@ use Rattle.grammar_core.specs.Refusals.{Begins, opens_next}
 use Rattle.grammar_core.specs.Run.{is_node}
 use Rattle.grammar_core.proofs.FirstFault.{KnownBodies, nothing}
 use Rattle.grammar_core.proofs.Parts.{Healthy, Tail, through, all_on, tail_next, tail_also}
-use Rattle.statement_parser.specs.Lines.{Manner, Term, Op, local, difference, ratio, rating, Line}
+use Rattle.map_defs.specs.Ops.{Term, Op, local_op, difference_op, ratio_op, rating_op}
+use Rattle.statement_parser.specs.Lines.{Manner, Line}
 use Rattle.statement_parser.specs.Operations.{operation_named}
 use Rattle.statement_parser.specs.Places.{the, value_of, term_of, cell_of, tests}
 use Rattle.statement_parser.specs.Bodies.{and_terms, statistic_body, pair_body, to_part, rate_part, with_rates, rating_body, operation_body}
@@ -47,7 +48,7 @@ tail_and f (suc n) ts h =
 tail_statistic : (s : Stat) (f : Op → Rule Text Line) → Tails f → Tail tests (statistic_body s f)
 tail_statistic s f h =
     the_tail (codes "of") _ refl refl (term_tail _ (λ a. (the_tail (codes "and") _ refl refl (term_tail _ (λ b.
-    (tail_and (λ ts. f (local s ts)) 6 (a ∷ b ∷ []) (λ ts. h (local s ts))).healthy)).healthy).healthy)).healthy
+    (tail_and (λ ts. f (local_op s ts)) 6 (a ∷ b ∷ []) (λ ts. h (local_op s ts))).healthy)).healthy).healthy)).healthy
 
 tail_pair : (make : Term → Term → Op) (f : Op → Rule Text Line) → Tails f → Tail tests (pair_body make f)
 tail_pair make f h = the_tail (codes "of") _ refl refl (term_tail _ (λ a. (the_tail (codes "and") _ refl refl (term_tail _ (λ b. (h (make a b)).healthy)).healthy).healthy)).healthy
@@ -69,12 +70,12 @@ tail_with f (suc n) rs h =
 tail_rating : (f : Op → Rule Text Line) → Tails f → Tail tests (rating_body f)
 tail_rating f h =
     the_tail (codes "of") _ refl refl (term_tail _ (λ a. (the_tail (codes "with") _ refl refl (tail_rate _ (λ r.
-    tail_with (λ rs. f (rating a rs)) 31 (r ∷ []) (λ rs. h (rating a rs)))).healthy).healthy)).healthy
+    tail_with (λ rs. f (rating_op a rs)) 31 (r ∷ []) (λ rs. h (rating_op a rs)))).healthy).healthy)).healthy
 
 pub tail_operation : (m : Manner) (f : Op → Rule Text Line) → Tails f → (o : Operation) → Tail tests (operation_body m f o)
 tail_operation m f h (Local s) = tail_statistic s f h
-tail_operation m f h Difference = tail_pair difference f h
-tail_operation m f h Ratio = tail_pair ratio f h
+tail_operation m f h Difference = tail_pair difference_op f h
+tail_operation m f h Ratio = tail_pair ratio_op f h
 tail_operation m f h Rating = tail_rating f h
 
 -- ---- bodies

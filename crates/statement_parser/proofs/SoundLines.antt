@@ -4,7 +4,8 @@ use Rattle.std.specs.Prelude.{codes}
 use Rattle.map_words.specs.Bytes.{Text}
 use Rattle.grammar_core.specs.Rules.{Rule, on, next, ends, ◌<|>◌}
 use Rattle.grammar_core.proofs.Parts.{Healthy, NoBody, healthy_next, healthy_end, healthy_ends, all_on, all_or, tail_ends}
-use Rattle.statement_parser.specs.Lines.{Manner, plain, define, paint, new_layer, drop, ask_value, ask_grid, ask_list, Line, blank, edit, ask, quit}
+use Rattle.map_defs.specs.Statements.{plain}
+use Rattle.statement_parser.specs.Lines.{Manner, define, paint, new_layer, drop, ask_value, ask_grid, ask_list, Line, blank, edit, ask, quit}
 use Rattle.statement_parser.specs.Places.{name_of, any_of, side_of, tests}
 use Rattle.statement_parser.specs.Grammar.{define_rule, command_named, command_rule, line_rule}
 use Rattle.statement_parser.specs.declared.command.Command.{Command}

@@ -4,7 +4,8 @@ use Rattle.map_nums.specs.declared.Stat.{Stat}
 use Rattle.map_nums.specs.declared.Rate.{Rate}
 use Rattle.map_words.specs.Bytes.{Text}
 use Rattle.grammar_core.specs.Rules.{Rule, on, next, also}
-use Rattle.statement_parser.specs.Lines.{Manner, Term, Op, local, difference, ratio, rating, Line}
+use Rattle.map_defs.specs.Ops.{Term, Op, local_op, difference_op, ratio_op, rating_op}
+use Rattle.statement_parser.specs.Lines.{Manner, Line}
 use Rattle.statement_parser.specs.Places.{the, value_of, term_of, cell_of}
 use Rattle.statement_parser.specs.declared.operation.Operation.{Operation}
 use Rattle.statement_parser.specs.declared.operation.Operation.TheVariants.{Local, Difference, Ratio, Rating}
@@ -18,7 +19,7 @@ and_terms f (suc n) ts = also (on (the (codes "and")) (λ _. next term_of (λ t.
 abbrev pub statistic_body : Stat → (Op → Rule Text Line) → Rule Text Line
 statistic_body s f =
     next (the (codes "of")) (λ _. next term_of (λ a. next (the (codes "and")) (λ _. next term_of (λ b.
-    and_terms (λ ts. f (local s ts)) 6 (a ∷ b ∷ [])))))
+    and_terms (λ ts. f (local_op s ts)) 6 (a ∷ b ∷ [])))))
 
 -- "of" term "and" term
 abbrev pub pair_body : (Term → Term → Op) → (Op → Rule Text Line) → Rule Text Line
@@ -42,11 +43,11 @@ with_rates f (suc n) rs = also (on (the (codes "with")) (λ _. rate_part (λ r. 
 abbrev pub rating_body : (Op → Rule Text Line) → Rule Text Line
 rating_body f =
     next (the (codes "of")) (λ _. next term_of (λ a. next (the (codes "with")) (λ _. rate_part (λ r.
-    with_rates (λ rs. f (rating a rs)) 31 (r ∷ [])))))
+    with_rates (λ rs. f (rating_op a rs)) 31 (r ∷ [])))))
 
 -- what follows the name of each operation
 abbrev pub operation_body : Manner → (Op → Rule Text Line) → Operation → Rule Text Line
 operation_body m f (Local s) = statistic_body s f
-operation_body m f Difference = pair_body difference f
-operation_body m f Ratio = pair_body ratio f
+operation_body m f Difference = pair_body difference_op f
+operation_body m f Ratio = pair_body ratio_op f
 operation_body m f Rating = rating_body f

@@ -6,11 +6,12 @@ use Rattle.map_nums.specs.declared.Stat.{Stat}
 use Rattle.map_nums.specs.declared.Stat.TheVariants.{Sum, Product, Maximum, Minimum, Mean, Median, Majority, Minority, Variety}
 use Rattle.map_nums.specs.declared.Rate.{Rate}
 use Rattle.map_words.specs.Bytes.{Text}
-use Rattle.statement_parser.specs.Lines.{Term, layer, value, Op, local, difference, ratio, rating, Written, plain}
+use Rattle.map_defs.specs.Ops.{Term, layer_term, number_term, Op, local_op, difference_op, ratio_op, rating_op}
+use Rattle.map_defs.specs.Statements.{Written, plain, call}
 
 abbrev pub term_text : Term → Text
-term_text (layer n) = n
-term_text (value z) = signed_decimal z
+term_text (layer_term n) = n
+term_text (number_term z) = signed_decimal z
 
 abbrev pub cell_text : Option ℤ → Text
 cell_text None = codes "null"
@@ -47,15 +48,18 @@ abbrev pub rates_texts : List Rate → List Text
 rates_texts [] = []
 rates_texts (r ∷ rs) = rate_texts r ++ rates_texts rs
 
--- the words of an operation
+-- the words of an operation; those that no line writes yet have none
 abbrev pub op_texts : Op → List Text
-op_texts (local s ts) = stat_text s ∷ codes "of" ∷ terms_texts ts
-op_texts (difference l r) = codes "LocalDifference" ∷ codes "of" ∷ term_text l ∷ codes "and" ∷ term_text r ∷ []
-op_texts (ratio l r) = codes "LocalRatio" ∷ codes "of" ∷ term_text l ∷ codes "and" ∷ term_text r ∷ []
-op_texts (rating t rs) = codes "LocalRating" ∷ codes "of" ∷ term_text t ∷ rates_texts rs
+op_texts (local_op s ts) = stat_text s ∷ codes "of" ∷ terms_texts ts
+op_texts (difference_op l r) = codes "LocalDifference" ∷ codes "of" ∷ term_text l ∷ codes "and" ∷ term_text r ∷ []
+op_texts (ratio_op l r) = codes "LocalRatio" ∷ codes "of" ∷ term_text l ∷ codes "and" ∷ term_text r ∷ []
+op_texts (rating_op t rs) = codes "LocalRating" ∷ codes "of" ∷ term_text t ∷ rates_texts rs
+op_texts op = []
 
+-- the words of a body; no line calls a procedure yet
 abbrev pub written_tail : Written → List Text
 written_tail (plain o) = op_texts o
+written_tail (call p ts) = []
 
 abbrev pub written_texts : Text → Written → List Text
 written_texts n w = n ∷ codes "=" ∷ written_tail w

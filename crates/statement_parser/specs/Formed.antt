@@ -4,15 +4,17 @@ use Rattle.map_nums.specs.declared.Rate.{Rate}
 use Rattle.map_nums.specs.Numbers.{is_value}
 use Rattle.map_words.specs.Bytes.{Text}
 use Rattle.map_words.specs.Names.{is_plain, is_dotted}
-use Rattle.statement_parser.specs.Lines.{Term, layer, value, Op, local, difference, ratio, rating, Written, plain, Edit, define, paint, new_layer, drop, Request, ask_value, ask_grid, ask_list, Line, blank, edit, ask, quit}
+use Rattle.map_defs.specs.Ops.{Term, layer_term, number_term, Op, local_op, difference_op, ratio_op, rating_op}
+use Rattle.map_defs.specs.Statements.{Written, plain, call}
+use Rattle.statement_parser.specs.Lines.{Edit, define, paint, new_layer, drop, Request, ask_value, ask_grid, ask_list, Line, blank, edit, ask, quit}
 
 abbrev pub Each : {A : Type 0} → (A → Type 0) → List A → Type 0
 Each P [] = Unit {0}
 Each P (x ∷ xs) = P x × Each P xs
 
 abbrev pub IsTerm : Term → Type 0
-IsTerm (layer n) = IsTrue (is_plain n)
-IsTerm (value z) = IsTrue (is_value z)
+IsTerm (layer_term n) = IsTrue (is_plain n)
+IsTerm (number_term z) = IsTrue (is_value z)
 
 abbrev pub IsCell : Option ℤ → Type 0
 IsCell c = IfSome c (λ z. IsTrue (is_value z))
@@ -22,14 +24,17 @@ pub record IsRate (r : Rate) : Type 0 where
   pub high : IsTrue (is_value r.high)
   pub give : IsCell r.give
 
+-- no line writes other operations yet
 abbrev pub IsOp : Op → Type 0
-IsOp (local s ts) = (2 ≤ length ts) × (length ts ≤ 8) × Each IsTerm ts
-IsOp (difference l r) = IsTerm l × IsTerm r
-IsOp (ratio l r) = IsTerm l × IsTerm r
-IsOp (rating t rs) = IsTerm t × (1 ≤ length rs) × (length rs ≤ 32) × Each IsRate rs
+IsOp (local_op s ts) = (2 ≤ length ts) × (length ts ≤ 8) × Each IsTerm ts
+IsOp (difference_op l r) = IsTerm l × IsTerm r
+IsOp (ratio_op l r) = IsTerm l × IsTerm r
+IsOp (rating_op t rs) = IsTerm t × (1 ≤ length rs) × (length rs ≤ 32) × Each IsRate rs
+IsOp op = ⊥
 
 abbrev pub IsWritten : Written → Type 0
 IsWritten (plain o) = IsOp o
+IsWritten (call p ts) = ⊥
 
 -- a row or a column
 abbrev pub IsSide : ℕ → Type 0

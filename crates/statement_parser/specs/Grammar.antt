@@ -2,7 +2,8 @@
 use Rattle.std.specs.Prelude.{List, [], ◌∷◌, Option, Some, codes}
 use Rattle.map_words.specs.Bytes.{Text}
 use Rattle.grammar_core.specs.Rules.{Rule, Derives, node, ends, on, next, ◌<|>◌}
-use Rattle.statement_parser.specs.Lines.{Manner, Written, plain, define, paint, new_layer, drop, ask_value, ask_grid, ask_list, Line, blank, edit, ask, quit}
+use Rattle.map_defs.specs.Statements.{Written, plain}
+use Rattle.statement_parser.specs.Lines.{Manner, define, paint, new_layer, drop, ask_value, ask_grid, ask_list, Line, blank, edit, ask, quit}
 use Rattle.statement_parser.specs.Operations.{lookup, operation_named}
 use Rattle.statement_parser.specs.Places.{the, name_of, any_of, side_of, cell_of}
 use Rattle.statement_parser.specs.Bodies.{operation_body}

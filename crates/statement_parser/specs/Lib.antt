@@ -13,5 +13,4 @@ pub mod Formed
 pub mod Canonical
 pub mod Printing
 pub mod Rows
-pub mod ToOps
 pub mod LineOf

@@ -1,34 +1,11 @@
 -- What lines are.
-use Rattle.std.specs.Prelude.{ℕ, ℤ, List, [], ◌∷◌, Option}
-use Rattle.map_nums.specs.declared.Stat.{Stat}
-use Rattle.map_nums.specs.declared.Rate.{Rate}
+use Rattle.std.specs.Prelude.{ℕ, ℤ, Option}
 use Rattle.map_words.specs.Bytes.{Text}
+use Rattle.map_defs.specs.Statements.{Written}
 
 -- how lines are read: the language, and whether it may still be set. There is one manner
 pub data Manner : Type 0 where
   first_language : Manner
-
--- an operand: a layer, or a number that stands for a layer of it everywhere
-pub data Term : Type 0 where
-  layer : Text → Term
-  value : ℤ → Term
-
-pub data Op : Type 0 where
-  local : Stat → List Term → Op
-  difference : Term → Term → Op
-  ratio : Term → Term → Op
-  rating : Term → List Rate → Op
-
--- the operands, in order
-abbrev pub terms_of : Op → List Term
-terms_of (local s ts) = ts
-terms_of (difference l r) = l ∷ r ∷ []
-terms_of (ratio l r) = l ∷ r ∷ []
-terms_of (rating t rs) = t ∷ []
-
--- a statement's body
-pub data Written : Type 0 where
-  plain : Op → Written
 
 -- a line that changes the map
 pub data Edit : Type 0 where

@@ -5,7 +5,7 @@ use Rattle.map_words.specs.Bytes.{Text}
 use Rattle.map_words.specs.Names.{has_name_form, is_plain, is_dotted}
 use Rattle.map_words.specs.Numbers.{is_number, number_in}
 use Rattle.grammar_core.specs.Refusals.{Tests}
-use Rattle.statement_parser.specs.Lines.{Term, layer, value}
+use Rattle.map_defs.specs.Ops.{Term, layer_term, number_term}
 use Rattle.statement_parser.specs.Operations.{is_operation}
 
 -- this very word
@@ -29,7 +29,7 @@ abbrev pub side_of : Text → Option ℕ
 side_of t = option_map nat_abs (number_in (pos 1) (pos 4096) t)
 
 abbrev pub term_of : Text → Option Term
-term_of t = if is_plain t then Some (layer t) else option_map value (value_of t)
+term_of t = if is_plain t then Some (layer_term t) else option_map number_term (value_of t)
 
 abbrev pub cell_of : Text → Option (Option ℤ)
 cell_of t = if bytes_eq t (codes "null") then Some None else option_map Some (value_of t)

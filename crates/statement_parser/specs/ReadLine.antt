@@ -5,7 +5,8 @@ use Rattle.grammar_core.specs.declared.Kind.TheVariants.{Syntax}
 use Rattle.grammar_core.specs.declared.Fault.{Fault}
 use Rattle.grammar_core.specs.Run.{refused}
 use Rattle.grammar_core.specs.Readers.{◌>>=◌, Read, one_at, end_at}
-use Rattle.statement_parser.specs.Lines.{Line, plain, define, paint, new_layer, drop, ask_value, ask_grid, ask_list, blank, edit, ask, quit}
+use Rattle.map_defs.specs.Statements.{plain}
+use Rattle.statement_parser.specs.Lines.{Line, define, paint, new_layer, drop, ask_value, ask_grid, ask_list, blank, edit, ask, quit}
 use Rattle.statement_parser.specs.Places.{the, name_of, any_of, side_of, cell_of, tests}
 use Rattle.statement_parser.specs.Grammar.{command_named}
 use Rattle.statement_parser.specs.ReadLocal.{body_at}

@@ -7,7 +7,7 @@ use Rattle.grammar_core.specs.declared.Kind.TheVariants.{Syntax, Operation as Un
 use Rattle.grammar_core.specs.Refusals.{is_unknown}
 use Rattle.grammar_core.specs.Run.{refused}
 use Rattle.grammar_core.specs.Readers.{◌>>=◌, Read, one_at, starts}
-use Rattle.statement_parser.specs.Lines.{Term, Op, local, difference, ratio, rating}
+use Rattle.map_defs.specs.Ops.{Term, Op, local_op, difference_op, ratio_op, rating_op}
 use Rattle.statement_parser.specs.Places.{the, value_of, term_of, cell_of, tests}
 use Rattle.statement_parser.specs.Operations.{operation_named}
 use Rattle.statement_parser.specs.declared.operation.Operation.{Operation}
@@ -27,7 +27,7 @@ statistic_at s ws = do
   v ← one_at tests (the (codes "and")) false a.1
   b ← one_at tests term_of true v.1
   ts ← and_at 6 (a.0 ∷ b.0 ∷ []) b.1
-  Ok (local s ts.0, ts.1)
+  Ok (local_op s ts.0, ts.1)
 
 unfoldable pub pair_at : List Text → Read Text (Term × Term)
 pair_at ws = do
@@ -40,12 +40,12 @@ pair_at ws = do
 unfoldable pub difference_at : List Text → Read Text Op
 difference_at ws = do
   p ← pair_at ws
-  Ok (difference p.0.0 p.0.1, p.1)
+  Ok (difference_op p.0.0 p.0.1, p.1)
 
 unfoldable pub ratio_at : List Text → Read Text Op
 ratio_at ws = do
   p ← pair_at ws
-  Ok (ratio p.0.0 p.0.1, p.1)
+  Ok (ratio_op p.0.0 p.0.1, p.1)
 
 unfoldable pub to_at : Option ℤ → ℤ → List Text → Read Text Rate
 to_at give low ws = if starts (the (codes "to")) ws then (do
@@ -78,7 +78,7 @@ rating_at ws = do
   v ← one_at tests (the (codes "with")) false a.1
   r ← rate_at v.1
   rs ← with_at 31 (r.0 ∷ []) r.1
-  Ok (rating a.0 rs.0, rs.1)
+  Ok (rating_op a.0 rs.0, rs.1)
 
 abbrev pub operation_at : Operation → List Text → Read Text Op
 operation_at (Local s) ws = statistic_at s ws

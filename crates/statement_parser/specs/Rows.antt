@@ -2,7 +2,9 @@
 use Rattle.std.specs.Prelude.{pos, negsuc, [], ◌∷◌, ◌++◌, Some, None, codes}
 use Rattle.map_nums.specs.declared.Stat.TheVariants as stats
 use Rattle.map_words.specs.Bytes.{Text}
-use Rattle.statement_parser.specs.Lines.{first_language, layer, value, local, rating, plain, define, paint, new_layer, ask_grid, Line, blank, edit, ask}
+use Rattle.map_defs.specs.Ops.{layer_term, number_term, local_op, rating_op}
+use Rattle.map_defs.specs.Statements.{plain}
+use Rattle.statement_parser.specs.Lines.{first_language, define, paint, new_layer, ask_grid, Line, blank, edit, ask}
 use Rattle.statement_parser.specs.Texts.{LineText, Refusal, syntax, operation, number, RefusedText}
 
 abbrev pub Is : Text → Line → Type 0
@@ -14,8 +16,8 @@ IsRefused bytes r = RefusedText first_language bytes r
 pub record Rows : Type 0 where
   pub empty : Is [] blank
   pub note : Is (codes "# note (") blank
-  pub whole : Is (codes "B = LocalSum of A and 3") (edit (define (codes "B") (plain (local stats.Sum (layer (codes "A") ∷ value (pos 3) ∷ [])))))
-  pub rated : Is (codes "R = LocalRating of A with 9 for 1 to 3 with null for -5") (edit (define (codes "R") (plain (rating (layer (codes "A"))
+  pub whole : Is (codes "B = LocalSum of A and 3") (edit (define (codes "B") (plain (local_op stats.Sum (layer_term (codes "A") ∷ number_term (pos 3) ∷ [])))))
+  pub rated : Is (codes "R = LocalRating of A with 9 for 1 to 3 with null for -5") (edit (define (codes "R") (plain (rating_op (layer_term (codes "A"))
       (record { low = pos 1; high = pos 3; give = Some (pos 9) } ∷ record { low = negsuc 4; high = negsuc 4; give = None } ∷ [])))))
   pub painted : Is (codes "paint A 01 +1 2 2 -0") (edit (paint (codes "A") 1 1 2 2 (Some (pos 0))))
   pub fresh : Is (codes "new C 1") (edit (new_layer (codes "C") (Some (pos 1))))

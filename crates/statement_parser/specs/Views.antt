@@ -14,24 +14,26 @@ use Rattle.statement_parser.specs.declared.line.Request as requests
 use Rattle.statement_parser.specs.declared.line.Request.TheVariants as a_request
 use Rattle.statement_parser.specs.declared.line.Line as lines
 use Rattle.statement_parser.specs.declared.line.Line.TheVariants as a_line
-use Rattle.statement_parser.specs.Lines.{Term, layer, value, Op, local, difference, ratio, rating, Written, plain, Edit, define, paint, new_layer, drop, Request, ask_value, ask_grid, ask_list, Line, blank, edit, ask, quit}
+use Rattle.map_defs.specs.Ops.{Term, layer_term, number_term, Op, local_op, difference_op, ratio_op, rating_op}
+use Rattle.map_defs.specs.Statements.{Written, plain}
+use Rattle.statement_parser.specs.Lines.{Edit, define, paint, new_layer, drop, Request, ask_value, ask_grid, ask_list, Line, blank, edit, ask, quit}
 
 -- the texts of words
 abbrev pub texts_of : List Word → List Text
 texts_of ws = map (λ (w : Word). w.text.now) ws
 
 abbrev pub term_view : terms.Term → Term
-term_view (a_term.Layer n) = layer n
-term_view (a_term.Number z) = value z
+term_view (a_term.Layer n) = layer_term n
+term_view (a_term.Number z) = number_term z
 
 abbrev pub terms_view : List terms.Term → List Term
 terms_view ts = map term_view ts
 
 abbrev pub op_view : ops.Op → Op
-op_view (an_op.Local s ts) = local s (terms_view ts.items)
-op_view (an_op.Difference l r) = difference (term_view l) (term_view r)
-op_view (an_op.Ratio l r) = ratio (term_view l) (term_view r)
-op_view (an_op.Rating t rs) = rating (term_view t) rs.items
+op_view (an_op.Local s ts) = local_op s (terms_view ts.items)
+op_view (an_op.Difference l r) = difference_op (term_view l) (term_view r)
+op_view (an_op.Ratio l r) = ratio_op (term_view l) (term_view r)
+op_view (an_op.Rating t rs) = rating_op (term_view t) rs.items
 
 abbrev pub written_view : writtens.Written → Written
 written_view (a_written.Plain o) = plain (op_view o)

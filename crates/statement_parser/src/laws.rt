@@ -2,10 +2,9 @@
 
 ghost use Rattle.map_words.specs.Bytes.{Text};
 ghost use Rattle.statement_parser.specs.LineOf.{IsLineOf};
-ghost use Rattle.statement_parser.specs.Lines.{Manner, Op};
+ghost use Rattle.statement_parser.specs.Lines.{Manner};
 ghost use Rattle.statement_parser.specs.Rows.{Rows};
 ghost use Rattle.statement_parser.specs.Texts.{IsSettledText};
-ghost use Rattle.statement_parser.specs.ToOps.{KeepsTerms};
 
 /// All bytes are either one line, or refused in one way.
 pub fn lines_are_settled()
@@ -15,11 +14,6 @@ pub fn lines_are_settled()
 /// The program of lines gives the one line that bytes are, or the one refusal.
 pub fn lines_are_read()
     ensures { (m : Manner) (bytes : Text) → IsLineOf m bytes }
-{}
-
-/// What a statement means keeps its terms and their order.
-pub fn terms_are_kept()
-    ensures { (op : Op) → KeepsTerms op }
 {}
 
 /// Worked lines are what the definitions make of them.

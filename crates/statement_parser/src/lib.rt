@@ -16,12 +16,9 @@ mod places;
 mod printing;
 mod refusal;
 
-pub use laws::{lines_are_read, lines_are_settled, terms_are_kept, worked_lines};
+pub use laws::{lines_are_read, lines_are_settled, worked_lines};
 pub use line::{Line, LineEdit, Request, Written};
 pub use line_text::parse_line;
 pub use op::{Op, Term};
 pub use printing::print_written;
 pub use refusal::LineRefusal;
-
-#[cfg(test)]
-mod tests;

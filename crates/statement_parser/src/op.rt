@@ -23,7 +23,7 @@ pub enum Op {
 }
 
 impl Op {
-    ghost use Rattle.statement_parser.specs.Lines.{terms_of};
+    ghost use Rattle.map_defs.specs.Ops.{terms_of};
     ghost use Rattle.statement_parser.specs.Views.{term_view, op_view};
 
     /// The term at this place, from 0, in the order in which a statement writes them; none past the last.
