@@ -5,13 +5,13 @@ use Rattle.std.specs.Fmt.{signed_decimal}
 use Rattle.std.specs.List.{flat_map, range_with_len}
 use Rattle.std.proofs.lemmas.List.{drop-drop, take_all}
 use Rattle.std.proofs.Math.Seq.{take-add}
-use Rattle.map_nums.specs.Grids.{Size, IsSize, Cells, cells_in}
+use Rattle.map_nums.specs.Grids.{Size, IsSize, Cells, cells_in, cell_at}
 use Rattle.layer_tiles.specs.Cells.{IsCell}
 use Rattle.grid_text.specs.Grammar.{AreCells}
 use Rattle.grid_text.specs.Pairs.{Entry, IsKey, Says, HasPairs, BeginsNoPair}
 use Rattle.grid_text.specs.Pairs as pairs
 use Rattle.grid_text.specs.Printed.{cell_text, null_number, spaced, row_text, rows_text, header_text, grid_text, x_key, y_key}
-use Rattle.grid_text.specs.ReadBack.{AreInRange, ReadsBack}
+use Rattle.grid_text.specs.ReadBack.{ReadsBack}
 use Rattle.grid_text.specs.Tokens.{is_white, tokens_from, tokens_of}
 use Rattle.grid_text.specs.declared.Corner.{Corner}
 use Rattle.grid_text.specs.declared.Header.{Header}
@@ -23,6 +23,15 @@ use Rattle.grid_text.proofs.Splits.{token}
 use Rattle.grid_text.proofs.WordTexts.{IsWord, word_first}
 
 -- ---- the cells
+
+-- each is null or in the range
+AreInRange : Cells → Type 0
+AreInRange [] = Unit {0}
+AreInRange (c ∷ cells) = IsCell c × AreInRange cells
+
+all_in_range : (cells : Cells) → ((i : ℕ) → IsCell (cell_at cells i)) → AreInRange cells
+all_in_range [] each = tt
+all_in_range (c ∷ cells) each = (each 0, all_in_range cells (λ i. each (suc i)))
 
 -- cells, and what follows them
 record CellsThen (n : ℕ) (bytes rest : List ℕ) (front : Cells) : Type 0 where
@@ -179,7 +188,7 @@ reads_back h s cells header z count range =
     let d = line_says c.next (y_name h.y.center) h.y.text l5 (pairs.y h.y) (y_is_word h.y.center) (decimal-word h.y.text header.y) (y_is_key h.y.center, header.y, refl) in
     let e = line_says d.next (codes "cellsize") h.size l6 (pairs.size h.size) (record { some = omega arith; solid = refl }) (decimal-word h.size header.size) (refl, header.size, refl) in
     let f = line_says e.next (codes "NODATA_value") (signed_decimal null_number) rows (pairs.null null_number) (record { some = omega arith; solid = refl }) null_word (refl, null_in_header) in
-    let cs = grid_cells f.next s cells range z count in
+    let cs = grid_cells f.next s cells (all_in_range cells range.each) z count in
     let left = tokens_from f.next rows in
     let e6 : List Entry = pairs.null null_number ∷ [] in
     let e5 : List Entry = pairs.size h.size ∷ e6 in

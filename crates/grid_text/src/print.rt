@@ -5,7 +5,7 @@ ghost use Rattle.layer_tiles.specs.Tiles.{tiles_in, tiles_across};
 ghost use Rattle.layer_tiles.specs.Tallies.{RisesBy};
 ghost use Rattle.grid_text.specs.Headers.{IsHeader};
 ghost use Rattle.grid_text.specs.Printed.{null_number, cell_text, spaced, x_key, y_key, header_text, rows_text, grid_text};
-ghost use Rattle.grid_text.specs.ReadBack.{AreInRange, ReadsAs};
+ghost use Rattle.grid_text.specs.ReadBack.{ReadsAs};
 
 use crate::{Corner, Header};
 use itoa::Buffer;
@@ -152,7 +152,7 @@ pub fn print_grid<M: Tally>(
     tally: &mut M,
 ) -> Result<Vec<u8>, NoMemory>
     ensures text { IfOk result (λ v. v.items ≡ grid_text header.now layer.now.size layer.now.cells) }
-    ensures reads { IsHeader header.now → AreInRange layer.now.cells → IfOk result (λ v. ReadsAs v.items header.now layer.now.size layer.now.cells) }
+    ensures reads { IsHeader header.now → IfOk result (λ v. ReadsAs v.items header.now layer.now.size layer.now.cells) }
     ensures looks { RisesBy (64 * tiles_in layer.now.size) 0 (M.counts tally.old) (M.counts tally.new) }
 {
     let mut text = Vec::new(alloc);

@@ -1,11 +1,11 @@
 -- What an edit answers.
 use Rattle.std.specs.Prelude.{◌≡◌, Result, Ok, Err, IsTrue}
 use Rattle.map_words.specs.Names.{is_plain}
-use Rattle.statement_parser.specs.Lines as lines
 use Rattle.statement_parser.specs.Views.{edit_view}
 use Rattle.statement_parser.specs.Formed.{IsEdit}
 use Rattle.map_edits.specs.EngineStates.{EngineState}
 use Rattle.map_edits.specs.Edits as edits
+use Rattle.map_edits.specs.LineEdits.{line_edit}
 use Rattle.map_edits.specs.Faults as faults
 use Rattle.live_engine.specs.Held.{grid_of}
 use Rattle.live_engine.specs.declared.edits.Edit.{Edit}
@@ -15,13 +15,6 @@ use Rattle.live_engine.specs.declared.edits.Which.{Which}
 use Rattle.live_engine.specs.declared.edits.Which.TheVariants as which
 use Rattle.live_engine.specs.declared.edits.Refusal.{Refusal}
 use Rattle.live_engine.specs.declared.edits.Refusal.TheVariants.{Unknown, Derived, Exists, Size, Limit, Cycle, Overflow, NoMemory}
-
--- the edit that a line stands for
-abbrev pub line_edit : lines.Edit → edits.Edit
-line_edit (lines.define n w) = edits.define n w
-line_edit (lines.paint n r1 c1 r2 c2 cell) = edits.paint n (record { top = r1; left = c1; bottom = r2; right = c2 }) cell
-line_edit (lines.new_layer n cell) = edits.new_layer n cell
-line_edit (lines.drop n) = edits.drop_name n
 
 abbrev pub edit_of : Edit → edits.Edit
 edit_of (Load n layer) = edits.load n (grid_of layer)

@@ -9,4 +9,5 @@ pub mod EntriesAfter
 pub mod Edits
 pub mod LineEdits
 pub mod Laws
+pub mod Sound
 pub mod Sessions

@@ -7,7 +7,8 @@ use Rattle.map_edits.specs.EngineStates.{EngineState}
 use Rattle.map_edits.specs.Edits.{Refusal, accept}
 use Rattle.map_machine.specs.declared.Kind.TheVariants.{Quit}
 use Rattle.map_machine.specs.States.{MapState}
-use Rattle.map_machine.specs.Steps.{edit_of, edited, step_by, step_of, ends, is_quit}
+use Rattle.map_edits.specs.LineEdits.{line_edit}
+use Rattle.map_machine.specs.Steps.{edited, step_by, step_of, ends, is_quit}
 
 edited_goes_on : (s : MapState) (r : Result EngineState Refusal) → (edited s r).kind ≡ Quit → ⊥
 edited_goes_on s (Ok t) e = cc
@@ -15,7 +16,7 @@ edited_goes_on s (Err r) e = cc
 
 ends_kind : (s : MapState) (r : Result Line LineRefusal) → ((step_by s r).kind ≡ Quit) ↔ (ends r ≡ true)
 ends_kind s (Ok blank) = (λ e. absurd (cc), λ e. absurd (cc))
-ends_kind s (Ok (edit e)) = (λ k. absurd (edited_goes_on s (accept s.engine (edit_of e)) k), λ q. absurd (cc))
+ends_kind s (Ok (edit e)) = (λ k. absurd (edited_goes_on s (accept s.engine (line_edit e)) k), λ q. absurd (cc))
 ends_kind s (Ok (ask r)) = (λ e. absurd (cc), λ e. absurd (cc))
 ends_kind s (Ok quit) = (λ e. refl, λ e. refl)
 ends_kind s (Err r) = (λ e. absurd (cc), λ e. absurd (cc))

@@ -1,11 +1,11 @@
 -- What one line does to a state, and what is replied.
 use Rattle.std.specs.Prelude.{ℕ, Bool, true, false, List, [], Result, Ok, Err}
 use Rattle.statement_parser.specs.Lines.{first_language, Line, blank, edit, ask, quit}
-use Rattle.statement_parser.specs.Lines as lines
 use Rattle.statement_parser.specs.Texts.{Refusal as LineRefusal, long}
 use Rattle.statement_parser.specs.LineOf.{line_of}
 use Rattle.map_edits.specs.EngineStates.{EngineState}
-use Rattle.map_edits.specs.Edits.{Edit, Refusal, accept, define, paint, new_layer, drop_name}
+use Rattle.map_edits.specs.Edits.{Refusal, accept}
+use Rattle.map_edits.specs.LineEdits.{line_edit}
 use Rattle.map_machine.specs.declared.Kind.{Kind}
 use Rattle.map_machine.specs.declared.Kind.TheVariants.{Silent, Accepted, Shown, Refused, Quit}
 use Rattle.map_machine.specs.States.{MapState}
@@ -19,13 +19,6 @@ pub record Stepped : Type 0 where
   pub reply : List ℕ
   pub kind : Kind
 
--- the edit that a line stands for
-abbrev pub edit_of : lines.Edit → Edit
-edit_of (lines.define n w) = define n w
-edit_of (lines.paint n r1 c1 r2 c2 cell) = paint n (record { top = r1; left = c1; bottom = r2; right = c2 }) cell
-edit_of (lines.new_layer n cell) = new_layer n cell
-edit_of (lines.drop n) = drop_name n
-
 -- the state is as before
 abbrev pub unchanged : MapState → List ℕ → Kind → Stepped
 unchanged s reply kind = record { state = s; reply = reply; kind = kind }
@@ -36,7 +29,7 @@ edited s (Err r) = unchanged s (refused_reply (edit_cause r)) Refused
 
 abbrev pub step_by : MapState → Result Line LineRefusal → Stepped
 step_by s (Ok blank) = unchanged s [] Silent
-step_by s (Ok (edit e)) = edited s (accept s.engine (edit_of e))
+step_by s (Ok (edit e)) = edited s (accept s.engine (line_edit e))
 step_by s (Ok (ask r)) = unchanged s (answer_to s r) Shown
 step_by s (Ok quit) = unchanged s [] Quit
 step_by s (Err r) = unchanged s (refused_reply (line_cause r)) Refused

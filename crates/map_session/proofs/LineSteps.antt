@@ -9,17 +9,16 @@ use Rattle.statement_parser.specs.declared.refusal.LineRefusal.{LineRefusal}
 use Rattle.statement_parser.specs.declared.refusal.LineRefusal.TheVariants as a_line
 use Rattle.statement_parser.specs.Views.{line_view}
 use Rattle.grid_text.specs.declared.Header.{Header}
-use Rattle.live_engine.specs.Accepts.{line_edit}
 use Rattle.map_edits.specs.EngineStates.{EngineState}
-use Rattle.map_edits.specs.Edits as edits
 use Rattle.map_edits.specs.Edits.{accept}
+use Rattle.map_edits.specs.LineEdits.{line_edit}
 use Rattle.map_machine.specs.declared.Kind.{Kind}
 use Rattle.map_machine.specs.Answers.{answer_to}
 use Rattle.map_machine.specs.declared.Kind.TheVariants.{Shown, Refused}
 use Rattle.map_machine.specs.States.{MapState}
 use Rattle.map_machine.specs.Replies.{refused_reply}
 use Rattle.map_machine.specs.Causes.{line_cause}
-use Rattle.map_machine.specs.Steps.{Stepped, edit_of, edited, unchanged, step_by, step_of}
+use Rattle.map_machine.specs.Steps.{Stepped, edited, unchanged, step_by, step_of}
 use Rattle.map_session.specs.Causes.{line_told}
 use Rattle.map_session.specs.Said.{Says, Does}
 use Rattle.map_session.specs.Answered.{Steps}
@@ -28,12 +27,6 @@ use Rattle.map_session.proofs.EditSteps.{state}
 
 some_same : {A : Type 0} (x y : A) → Some x ≡ Some y → x ≡ y
 some_same x y e = cc
-
-pub same_edit : (e : lines.Edit) → edit_of e ≡ line_edit e
-same_edit (lines.define n w) = refl
-same_edit (lines.paint n r1 c1 r2 c2 cell) = refl
-same_edit (lines.new_layer n cell) = refl
-same_edit (lines.drop n) = refl
 
 pub stepped : (s t : MapState) (line : List ℕ) (x : Line) (r : Result Reply NoMemory) → line_of first_language line ≡ Ok x → Does s t (step_by s (Ok x)) r → Steps s t line r
 unfolding step_of
@@ -51,7 +44,7 @@ pub stepped_ask : (h : Header) (engine : EngineState) (s : MapState) (line : Lis
 stepped_ask h engine s line q r w is says = stepped s s line (lines.ask q) r is (ask_done s q r (subst (λ (u : MapState). IfOk r (Says (answer_to u q) Shown)) w says))
 
 pub stepped_edit : (s t : MapState) (line : List ℕ) (e : lines.Edit) (r : Result Reply NoMemory) → line_of first_language line ≡ Ok (lines.edit e) → Does s t (edited s (accept s.engine (line_edit e))) r → Steps s t line r
-stepped_edit s t line e r is d = stepped s t line (lines.edit e) r is (subst (λ (x : edits.Edit). Does s t (edited s (accept s.engine x)) r) (sym (same_edit e)) d)
+stepped_edit s t line e r is d = stepped s t line (lines.edit e) r is d
 
 line_turned : (line : List ℕ) (r : LineRefusal) (text : List ℕ) → IsLineRead (line_of first_language line) line_view (Err r) → line_told r ≡ Some text
     → (x : SpecRefusal) × (line_of first_language line ≡ Err x) × (line_cause x ≡ text)

@@ -17,8 +17,8 @@ pub returns-clause-looks : goal.returns-clause-looks
 returns-clause-looks g c = rows_rise c.args.layer.now.size _ _ c.put_rows.ensures.looks
 
 pub returns-clause-reads : goal.returns-clause-reads
-returns-clause-reads g c = λ header range.
+returns-clause-reads g c = λ header.
     subst (λ text. ReadsAs text c.args.header.now c.args.layer.now.size c.args.layer.now.cells)
     (sym (whole_text c.new-text.result.items c.put_header.new.text.items c.put_rows.new.text.items c.args.header.now c.extent.result c.args.layer.now.size c.args.layer.now.cells
     c.new-text.ensures.items c.in_ok-put_header.ensures c.extent.ensures.extent c.in_ok-put_rows.ensures.rows))
-    (reads_back c.args.header.now c.args.layer.now.size c.args.layer.now.cells header c.extent.ensures.layer.size c.extent.ensures.layer.cells range)
+    (reads_back c.args.header.now c.args.layer.now.size c.args.layer.now.cells header c.extent.ensures.layer.size c.extent.ensures.layer.cells c.extent.ensures.layer.are_cells)

@@ -1,6 +1,7 @@
 use Rattle.std.proofs.Common.{sym, subst}
 use Rattle.statement_parser.specs.Views.{edit_view}
-use Rattle.live_engine.specs.Accepts.{Accepts, line_edit}
+use Rattle.map_edits.specs.LineEdits.{line_edit}
+use Rattle.live_engine.specs.Accepts.{Accepts}
 use Rattle.live_engine.specs.Holdings.{seen_in}
 use Rattle.live_engine.proofs.engine.apply_line.Goals as goal
 

@@ -3,7 +3,7 @@ use Rattle.map_nums.specs.Counts.{raised}
 use Rattle.map_nums.specs.declared.NoMemory.{NoMemory}
 use Rattle.statement_parser.specs.Views.{edit_view}
 use Rattle.map_edits.specs.Edits.{accept}
-use Rattle.live_engine.specs.Accepts.{line_edit}
+use Rattle.map_edits.specs.LineEdits.{line_edit}
 use Rattle.map_machine.specs.Steps.{edited}
 use Rattle.map_session.specs.Said.{Does}
 use Rattle.map_session.specs.declared.replies.Reply.{Reply}
