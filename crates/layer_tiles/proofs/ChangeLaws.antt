@@ -27,8 +27,8 @@ no_numbers t c = absurd (omega (arith, c.1))
 pub numbers_within : (p : PatchState) → IsPatch p → (t : ℕ) → Contains (numbers_of p.tiles) t → t < tiles_in p.size
 numbers_within p h t c = within (patch_get p.tiles t) refl (get-from_Contains p.tiles t c)
   where
-    within : (o : Option Block) → o ≡ patch_get p.tiles t → IsSome (patch_get p.tiles t) → t < tiles_in p.size
-    within None e s = let no : IsSome (None {Block}) = subst (λ (o : Option Block). IsSome o) (sym e) s in cc
+    within : (o : Option Block) → o ≡ patch_get p.tiles t → IsSome o → t < tiles_in p.size
+    within None e s = cc
     within (Some b) e s = h.below t b (sym e)
 
 -- no tile where its number is missing

@@ -3,10 +3,11 @@ use Rattle.std.proofs.Common.{◌≡◌, ℕ, ◌+◌, ◌*◌, ◌<◌, ◌≤�
 use Rattle.std.proofs.Math.Seq.{take-add}
 use Rattle.map_nums.specs.Grids.{Size, IsSize, Cells, cells_in}
 use Rattle.layer_tiles.specs.Cells.{AreCells}
-use Rattle.layer_tiles.specs.Tiles.{Block, block_row, tiles_in, tile_start, tile_height, tile_width}
+use Rattle.layer_tiles.specs.Tiles.{Block, IsBlock, block_row, strided, tiles_in, tile_start, tile_height, tile_width}
 use Rattle.layer_tiles.specs.Views.{IsLent}
 use Rattle.layer_tiles.specs.ChangeBodies.{IsRowOfOne}
 use Rattle.layer_tiles.proofs.Places.{placed, tile_strided}
+use Rattle.layer_tiles.proofs.Strides.{length-strided}
 use Rattle.layer_tiles.proofs.Ranged.{AreCells-one}
 
 -- a tile of a grid
@@ -23,6 +24,16 @@ lent_one s row t h l o =
       most_columns = p.most_columns;
       are_cells = AreCells-one row o;
     }
+
+-- a rectangle that is lent
+pub lent_block : (cells : Cells) (start stride height width : ℕ) → IsLent cells start stride height width → IsBlock (record { height = height; width = width; cells = strided cells start stride height width })
+lent_block cells start stride height width i = record {
+  some_row = i.rows.some_row;
+  some_column = i.rows.some_column;
+  most_rows = i.most_rows;
+  most_columns = i.most_columns;
+  count = length-strided cells start stride height width;
+}
 
 -- rectangles with the same parts
 pub block_same : (b b' : Block) → b.height ≡ b'.height → b.width ≡ b'.width → b.cells ≡ b'.cells → b ≡ b'

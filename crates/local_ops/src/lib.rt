@@ -7,10 +7,8 @@
 mod kernel;
 mod ops;
 mod pairs;
+mod rows;
 mod values;
 
 pub use kernel::local_tile;
 pub use ops::{LocalOp, Rates};
-
-#[cfg(test)]
-mod tests;

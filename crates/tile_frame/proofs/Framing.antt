@@ -12,7 +12,7 @@ use Rattle.layer_tiles.specs.PlaceByPlace.{cell_in, IsPlaceRefusal, IsLeastPlace
 use Rattle.layer_tiles.specs.declared.kernels.KernelRefusal.{KernelRefusal}
 use Rattle.layer_tiles.specs.declared.kernels.KernelRefusal.TheVariants.{Overflow}
 use Rattle.layer_tiles.specs.declared.kernels.KernelRefusal.TheVariants as refusal
-use Rattle.tile_frame.specs.Frames.{by_row, refused_at, IsRowMade, IsFirstWide, IsRowRefusal}
+use Rattle.tile_frame.specs.Frames.{by_row, refused_at, IsRowMade, IsFirstWide, IsRowRefusal, IsRowAnswer}
 
 -- ---- a row
 
@@ -59,6 +59,25 @@ pub row_refused : (value : ℕ → Option ℤ) (s : Size) (t r c at : ℕ) (old 
 row_refused value s t r c at old made (Ok cell) e m q l a x = cc
 row_refused value s t r c at old made (Err wide) (Overflow place) m q l a x = let same : place ≡ at = cc in first_wide value s t r c place old made m q (same ∙ l) a
 row_refused value s t r c at old made (Err wide) refusal.NoMemory m q l a x = tt
+
+-- the same values by another name
+pub row_as : (f g : ℕ → Option ℤ) (s : Size) (t r : ℕ) (old new : Block) (result : Result (Unit {0}) KernelRefusal) → ((c : ℕ) → c < tile_width s t → f c ≡ g c) → IsRowAnswer f s t r old new result → IsRowAnswer g s t r old new result
+row_as f g s t r old new (Ok done) same m = record {
+  height_stays = m.height_stays;
+  width_stays = m.width_stays;
+  count = m.count;
+  above = m.above;
+  done = λ c l. m.done c l ∙ same c l;
+  in_range = λ c l. subst (λ (x : Option ℤ). IsFalse (is_wide x)) (same c l) (m.in_range c l);
+}
+row_as f g s t r old new (Err (Overflow at)) same m = record {
+  column = m.column;
+  within = m.within;
+  is_at = m.is_at;
+  wide = subst (λ (x : Option ℤ). IsTrue (is_wide x)) (same m.column m.within) m.wide;
+  first = λ c l. let before : c < tile_width s t = omega (arith, m.within) in subst (λ (x : Option ℤ). IsFalse (is_wide x)) (same c before) (m.first c l);
+}
+row_as f g s t r old new (Err refusal.NoMemory) same m = tt
 
 -- ---- a tile
 

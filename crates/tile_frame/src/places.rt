@@ -37,9 +37,8 @@ fn cell_of(value: Option<Value>) -> Cell
     requires { IsFalse (is_wide value) }
     ensures { result ≡ value }
 {
-    match value.map(Cell::of) {
+    match value {
         None => Cell::null(),
-        Some(Some(cell)) => cell,
-        Some(None) => unreachable!(),
+        Some(number) => Cell::within(number),
     }
 }

@@ -21,13 +21,7 @@ pub trait TileMaker {
     ghost makes: { Self → Size → ℕ → Type 0 };
 
     /// Makes row `r` of the tile, by `make_row` mostly.
-    fn row(
-        &self,
-        extent: Extent,
-        tile: u32,
-        r: u32,
-        made: &mut Tile,
-    ) -> Result<(), KernelRefusal>
+    fn row(&self, extent: Extent, tile: u32, r: u32, made: &mut Tile) -> Result<(), KernelRefusal>
         requires makes { makes self.now extent tile }
         requires within { tile < tiles_in extent }
         requires row { r < tile_height extent tile }

@@ -1,7 +1,7 @@
 use Rattle.std.proofs.Common.{◌≡◌, Some, take, length, map}
 use Rattle.map_defs.specs.Local.{all_numbers}
 use Rattle.map_nums.specs.Grids.{cell_at}
-use Rattle.local_ops.proofs.kernel.value_at.Given as goal
+use Rattle.local_ops.proofs.rows.value_of_column.Given as goal
 
 abbrev pub invariant-loop-k : goal.invariant-loop-k
 invariant-loop-k l = record {

@@ -1,6 +1,6 @@
 use Rattle.std.proofs.Common.{◌≡◌, map, take, length}
 use Rattle.layer_tiles.specs.Tiles.{block_row}
-use Rattle.local_ops.proofs.kernel.rows_of.Given as goal
+use Rattle.local_ops.proofs.rows.rows_of.Given as goal
 
 abbrev pub invariant-loop-k : goal.invariant-loop-k
 invariant-loop-k l = record {

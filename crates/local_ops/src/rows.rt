@@ -1,0 +1,163 @@
+//! The rows of a tile that an operation makes of lent ones.
+ghost use Rattle.std.specs.Prelude.{◌≡◌, ◌<◌, ◌≤◌, length, map, take};
+ghost use Rattle.std.specs.List.{All};
+ghost use Rattle.map_nums.specs.Exact.{IsExact};
+ghost use Rattle.map_nums.specs.Grids.{cell_at};
+ghost use Rattle.map_defs.specs.Local.{local_cell};
+ghost use Rattle.layer_tiles.specs.Tiles.{block_row, tiles_in, tile_height, tile_width, IsBlockOf};
+ghost use Rattle.tile_frame.specs.Frames.{IsRowAnswer};
+ghost use Rattle.local_ops.specs.Operations.{op_of, Takes};
+ghost use Rattle.local_ops.specs.Operands.{cell_by, HaveSize};
+
+use crate::ops::LocalOp;
+use crate::pairs::of_two;
+use crate::values::value_of;
+use layer_tiles::{Cell, Extent, KernelRefusal, Tile, TileView, Value};
+use map_nums::Wide;
+use tile_frame::{RowMaker, TileMaker, make_row};
+
+/// An operation, and the tiles of its operands.
+#[derive(Drop)]
+pub(crate) struct LocalTile<'a, 'b> {
+    pub(crate) op: &'a LocalOp,
+    pub(crate) views: &'a [TileView<'b>],
+}
+
+impl<'a, 'b> TileMaker for LocalTile<'a, 'b> {
+    ghost use Rattle.std.specs.Prelude.{◌×◌, length};
+    ghost use Rattle.layer_tiles.specs.Tiles.{tile_height, tile_width};
+    ghost use Rattle.local_ops.specs.Operations.{op_of, Takes};
+    ghost use Rattle.local_ops.specs.Operands.{cell_by, HaveSize};
+
+    ghost value = { λ m r c. cell_by (op_of m.op.now) m.views.now r c };
+
+    ghost makes = { λ m s t. Takes (op_of m.op.now) (length m.views.now) × HaveSize (tile_height s t) (tile_width s t) m.views.now };
+
+    fn row(&self, extent: Extent, tile: u32, r: u32, made: &mut Tile) -> Result<(), KernelRefusal> {
+        if self.views.len() == 2 {
+            return row_of_two(self.op, self.views, extent, tile, r, made);
+        }
+        row_of_any(self.op, self.views, extent, tile, r, made)
+    }
+}
+
+/// An operation, and a row of each of two operands.
+#[derive(Drop)]
+struct RowOfTwo<'a> {
+    op: &'a LocalOp,
+    left: &'a [Cell],
+    right: &'a [Cell],
+}
+
+impl<'a> RowMaker for RowOfTwo<'a> {
+    ghost use Rattle.std.specs.Prelude.{◌×◌, ◌<◌, [], ◌∷◌, length};
+    ghost use Rattle.map_nums.specs.Grids.{cell_at};
+    ghost use Rattle.map_defs.specs.Local.{local_cell};
+    ghost use Rattle.local_ops.specs.Operations.{op_of, Takes};
+
+    ghost value = { λ m c. local_cell (op_of m.op.now) (cell_at m.left.now c ∷ cell_at m.right.now c ∷ []) };
+
+    ghost has = { λ m c. Takes (op_of m.op.now) 2 × (c < length m.left.now) × (c < length m.right.now) };
+
+    fn value_at(&self, c: u32) -> Result<Option<Value>, Wide> {
+        of_two(self.op, self.left[c as usize], self.right[c as usize])
+    }
+}
+
+/// An operation, and a row of each of its operands.
+#[derive(Drop)]
+struct RowOfAny<'a, 'b> {
+    op: &'a LocalOp,
+    rows: &'a [&'b [Cell]],
+}
+
+impl<'a, 'b> RowMaker for RowOfAny<'a, 'b> {
+    ghost use Rattle.std.specs.Prelude.{◌×◌, ◌<◌, length, map};
+    ghost use Rattle.std.specs.List.{All};
+    ghost use Rattle.map_nums.specs.Grids.{cell_at};
+    ghost use Rattle.map_defs.specs.Local.{local_cell};
+    ghost use Rattle.local_ops.specs.Operations.{op_of, Takes};
+
+    ghost value = { λ m c. local_cell (op_of m.op.now) (map (λ row. cell_at row.now c) m.rows.now) };
+
+    ghost has = { λ m c. Takes (op_of m.op.now) (length m.rows.now) × All (λ row. c < length row.now) m.rows.now };
+
+    fn value_at(&self, c: u32) -> Result<Option<Value>, Wide> {
+        value_of_column(self.op, self.rows, c)
+    }
+}
+
+/// A row of a tile of two operands.
+fn row_of_two(
+    op: &LocalOp,
+    views: &[TileView<'_>],
+    extent: Extent,
+    tile: u32,
+    r: u32,
+    made: &mut Tile,
+) -> Result<(), KernelRefusal>
+    requires two { length views.now ≡ 2 }
+    requires takes { Takes (op_of op.now) 2 }
+    requires within { tile < tiles_in extent }
+    requires sizes { HaveSize (tile_height extent tile) (tile_width extent tile) views.now }
+    requires row { r < tile_height extent tile }
+    requires size { IsBlockOf extent tile made.old }
+    ensures { IsRowAnswer (cell_by (op_of op.now) views.now r) extent tile r made.old made.new result }
+{
+    let left = views[0].row(r);
+    let right = views[1].row(r);
+    let maker = RowOfTwo { op, left, right };
+    make_row(&maker, extent, tile, r, made)
+}
+
+/// A row of a tile of any operands.
+fn row_of_any(
+    op: &LocalOp,
+    views: &[TileView<'_>],
+    extent: Extent,
+    tile: u32,
+    r: u32,
+    made: &mut Tile,
+) -> Result<(), KernelRefusal>
+    requires takes { Takes (op_of op.now) (length views.now) }
+    requires within { tile < tiles_in extent }
+    requires sizes { HaveSize (tile_height extent tile) (tile_width extent tile) views.now }
+    requires row { r < tile_height extent tile }
+    requires size { IsBlockOf extent tile made.old }
+    ensures { IsRowAnswer (cell_by (op_of op.now) views.now r) extent tile r made.old made.new result }
+{
+    let all = rows_of(views, r);
+    let rows = &all[..views.len()];
+    let maker = RowOfAny { op, rows };
+    make_row(&maker, extent, tile, r, made)
+}
+
+/// Row `r` of each operand, then empty ones.
+fn rows_of<'a, 'b>(views: &'a [TileView<'b>], r: u32) -> [&'a [Cell]; 8]
+    requires most { length views.now ≤ 8 }
+    requires within { All (λ b. r < b.height) views.now }
+    ensures rows { map (λ row. row.now) (take (length views.now) result) ≡ map (λ b. block_row b r) views.now }
+    ensures widths { map (λ row. length row.now) (take (length views.now) result) ≡ map (λ b. b.width) views.now }
+{
+    let mut rows: [&'a [Cell]; 8] = [&[]; 8];
+    for (k, view) in views.iter().enumerate() {
+        rows[k] = view.row(r);
+    }
+    rows
+}
+
+/// The operation's value in column `c` of rows, null where an operand is null there.
+fn value_of_column(op: &LocalOp, rows: &[&[Cell]], c: u32) -> Result<Option<Value>, Wide>
+    requires takes { Takes (op_of op.now) (length rows.now) }
+    requires within { All (λ row. c < length row.now) rows.now }
+    ensures { IsExact (local_cell (op_of op.now) (map (λ row. cell_at row.now c) rows.now)) result }
+{
+    let mut values = [0; 8];
+    for (k, row) in rows.iter().enumerate() {
+        match row[c as usize].get() {
+            Some(value) => values[k] = value,
+            None => return Ok(None),
+        }
+    }
+    value_of(op, &mut values[..rows.len()])
+}
