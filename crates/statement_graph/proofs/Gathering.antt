@@ -1,5 +1,5 @@
 -- What the needs of a place add to it, need by need.
-use Rattle.std.proofs.Common.{◌≡◌, ℕ, suc, ◌+◌, ◌<◌, ◌≤◌, max, Bool, true, false, ◌||◌, List, map, fold, length, take, get_or, Option, Some, None, option_map, slice_get, bytes_eq, is_some, refl, sym, ap, ◌∙◌, arith, IfSome}
+use Rattle.std.proofs.Common.{◌≡◌, ℕ, suc, ◌+◌, ◌<◌, ◌≤◌, max, Bool, true, false, ◌||◌, List, map, fold, length, take, get_or, Option, Some, None, option_map, slice_get, bytes_eq, is_some, unwrap_or, refl, sym, ap, ◌∙◌, arith, IfSome}
 use Rattle.std.specs.Option.{option_or, option_and_then}
 use Rattle.std.specs.List.{All}
 use Rattle.std.proofs.lemmas.List.{map_more, take_all}
@@ -21,6 +21,30 @@ seen_is nodes rows n m o e = ap (found_or_missing n m) (got-map (shown nodes) ro
 pub all_found : (P : Row → Type 0) (rows : List Row) (o : Option ℕ) (row : Row) → All P rows → option_and_then (slice_get rows) o ≡ Some row → P row
 all_found P rows None row all e = absurd (none-some row e)
 all_found P rows (Some i) row all e = let same = get_or_from_slice_get rows i row row e in let here = all i row (slice_get_within rows i row e) in rw same at here
+
+pub missing_shown : (nodes : List Node) (p : Place) (n m : Name) (b : Bool) → need_at nodes p ≡ Some m → b ≡ bytes_eq m n
+    → shown nodes (record { depth = 0; lack = Some p; reached = b }) ≡ found_or_missing n m None
+missing_shown nodes p n m b placed is = ap (λ l. made l b) placed ∙ ap (made (Some m)) is
+  where
+    made : Option Name → Bool → Shown
+    made l b = record { depth = 0; lack = Some l; reached = b }
+
+-- what a need adds, by its first place
+pub seen_row : (nodes : List Node) (rows : List Row) (n m : Name) (p : Place) (link : Option ℕ) (row : Row) → link ≡ place_of nodes m → need_at nodes p ≡ Some m
+    → row ≡ unwrap_or (option_and_then (slice_get rows) link) (record { depth = 0; lack = Some p; reached = bytes_eq m n }) → shown nodes row ≡ seen nodes (shown_all nodes rows) n m
+seen_row nodes rows n m p link row linked placed is = go (option_and_then (slice_get rows) link) refl is
+  where
+    go : (o : Option Row) → option_and_then (slice_get rows) link ≡ o → row ≡ unwrap_or o (record { depth = 0; lack = Some p; reached = bytes_eq m n }) → shown nodes row ≡ seen nodes (shown_all nodes rows) n m
+    go None e is = ap (shown nodes) is ∙ missing_shown nodes p n m (bytes_eq m n) placed refl ∙ sym (seen_is nodes rows n m None (sym e ∙ ap (option_and_then (slice_get rows)) linked))
+    go (Some r) e is = ap (shown nodes) is ∙ sym (seen_is nodes rows n m (Some r) (sym e ∙ ap (option_and_then (slice_get rows)) linked))
+
+pub seen_shallow : (rows : List Row) (p : Place) (b : Bool) (most : ℕ) (link : Option ℕ) (row : Row) → All (λ r. r.depth + 1 < most) rows → 1 < most
+    → row ≡ unwrap_or (option_and_then (slice_get rows) link) (record { depth = 0; lack = Some p; reached = b }) → row.depth + 1 < most
+seen_shallow rows p b most link row all one is = go (option_and_then (slice_get rows) link) refl is
+  where
+    go : (o : Option Row) → option_and_then (slice_get rows) link ≡ o → row ≡ unwrap_or o (record { depth = 0; lack = Some p; reached = b }) → row.depth + 1 < most
+    go None e is = let d : row.depth ≡ 0 = ap (λ (r : Row). r.depth) is in omega arith
+    go (Some r) e is = let d : row.depth ≡ r.depth = ap (λ (r : Row). r.depth) is in let h = all_found (λ r. r.depth + 1 < most) rows link r all e in omega arith
 
 option_map-or : {A B : Type 0} (f : A → B) (a b : Option A) → option_map f (option_or a b) ≡ option_or (option_map f a) (option_map f b)
 option_map-or f None b = refl
@@ -70,13 +94,6 @@ deeper_yes (Some ns) s e = refl
 pub deeper_no : (o : Option (List Name)) (s : Shown) → is_some o ≡ false → s ≡ deeper o s
 deeper_no None s e = refl
 deeper_no (Some ns) s e = absurd cc
-
-pub missing_shown : (nodes : List Node) (p : Place) (n m : Name) (b : Bool) → need_at nodes p ≡ Some m → b ≡ bytes_eq m n
-    → shown nodes (record { depth = 0; lack = Some p; reached = b }) ≡ found_or_missing n m None
-missing_shown nodes p n m b placed is = ap (λ l. made l b) placed ∙ ap (made (Some m)) is
-  where
-    made : Option Name → Bool → Shown
-    made l b = record { depth = 0; lack = Some l; reached = b }
 
 pub unjoined_there : (es : List Entry) (n : Name) (at : ℕ) (e : Entry) (b : Bool) → at < length es → e ≡ get_or es at e → b ≡ bytes_eq (node_at e).name n
     → IfSome (slice_get (nodes_at es) at) (λ node. shown (nodes_at es) (record { depth = 0; lack = None; reached = b }) ≡ unjoined n node)

@@ -7,3 +7,5 @@ pub mod Walking
 pub mod Placing
 pub mod Exchanging
 pub mod Making
+pub mod Linking
+pub mod Settling

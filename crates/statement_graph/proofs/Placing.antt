@@ -268,10 +268,13 @@ missing_is es rows spare m q h l =
 pub seen_nodes : (es : List Entry) (rows spare : List Row) (gs : List Group) → IsKept es rows spare → groups_of es ≡ gs → nodes_at es ≡ nodes_in gs
 seen_nodes es rows spare gs h is = sym (nodes_in-groups_of es h.whole) ∙ ap nodes_in is
 
+pub same_nodes : (es es' : List Entry) → seats es' ≡ seats es → nodes_at es' ≡ nodes_at es
+same_nodes es es' same = sym (map-seated es') ∙ ap (map seated) same ∙ map-seated es
+
 -- a copy
 pub copied : (es es' : List Entry) (rows rows' spare spare' : List Row) → IsKept es rows spare → seats es' ≡ seats es → rows' ≡ rows → spare' ≡ spare → IsKept es' rows' spare'
 copied es es' rows rows' spare spare' h same r s =
-    let nodes : nodes_at es' ≡ nodes_at es = sym (map-seated es') ∙ ap (map seated) same ∙ map-seated es in
+    let nodes = same_nodes es es' same in
     let len : length es' ≡ length es = sym (length-map es' seat_of) ∙ ap length same ∙ length-map es seat_of in
     record {
       whole = ap (are_whole false) same ∙ h.whole;

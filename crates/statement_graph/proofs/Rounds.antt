@@ -5,7 +5,7 @@ use Rattle.std.specs.List.{list_any, All}
 use Rattle.std.proofs.Math.Nat.{max-le}
 use Rattle.std.proofs.lemmas.List.{take_more_set, map_push, map_more, length-map}
 use Rattle.std.proofs.lemmas.List.Folds.{fold_stays}
-use Rattle.std.proofs.lemmas.Option.{slice_get-get_or}
+use Rattle.std.proofs.lemmas.Option.{slice_get-get_or, slice_get-map}
 use Rattle.std.proofs.Math.Bool.{or_assoc, or-false}
 use Rattle.map_defs.specs.Ops.{Name}
 use Rattle.map_defs.specs.Nodes.{Node, find_node, needs_in, lacks_within, first_some}
@@ -40,11 +40,15 @@ made d l r = record { depth = d; lack = l; reached = r }
 same_shown : (a b : Shown) → a.depth ≡ b.depth → a.lack ≡ b.lack → a.reached ≡ b.reached → a ≡ b
 same_shown a b d l r = ap (λ x. made x a.lack a.reached) d ∙ ap (λ x. made b.depth x a.reached) l ∙ ap (made b.depth b.lack) r
 
+-- at any step
+pub shown_missing : (k : ℕ) (nodes : List Node) (n m : Name) → find_node nodes m ≡ None → shown_at k nodes n m ≡ found_or_missing n m None
+shown_missing k nodes n m e = same_shown (shown_at k nodes n m) _ (depth_missing (suc k) nodes m e) (ap (option_map Some) (lacks_missing k nodes m e)) (reaches_missing k nodes n m e)
+
 pub seen_at : (k : ℕ) (nodes : List Node) (n m : Name) → seen nodes (table_at k nodes n) n m ≡ shown_at k nodes n m
 seen_at k nodes n m = ap (found_or_missing n m) (looked-map (λ node. shown_at k nodes n node.name) nodes m) ∙ go (find_node nodes m) refl
   where
     go : (o : Option Node) → find_node nodes m ≡ o → found_or_missing n m (option_map (λ (node : Node). shown_at k nodes n node.name) o) ≡ shown_at k nodes n m
-    go None e = same_shown _ (shown_at k nodes n m) (sym (depth_missing (suc k) nodes m e)) (ap (option_map Some) (sym (lacks_missing k nodes m e))) (sym (reaches_missing k nodes n m e))
+    go None e = sym (shown_missing k nodes n m e)
     go (Some node) e = ap (shown_at k nodes n) (find_node-name nodes m node e)
 
 -- ---- what needs add
@@ -145,17 +149,42 @@ at_first nodes at first R Q first_in at_in is r goes =
     let here = rw got_first at r in
     rw got (goes (get_or nodes at any_node) (get_or nodes first any_node) (found ∙ got_first) here)
 
-pub next_step : (es : List Entry) (rows : List Row) (n : Name) (k : ℕ) (next : List Row) (at first : ℕ) (row : Row) → at < length es → at < length next → first < length es → IsFirst (nodes_at es) at first
-    → IfSome (slice_get (nodes_at es) first) (λ node. shown (nodes_at es) row ≡ step_of (nodes_at es) (shown_all (nodes_at es) rows) n node)
+pub next_step : (es : List Entry) (rows : List Row) (n : Name) (k : ℕ) (next : List Row) (at : ℕ) (row : Row) → at < length es → at < length next → IsFirst (nodes_at es) at at
+    → IfSome (slice_get (nodes_at es) at) (λ node. shown (nodes_at es) row ≡ step_of (nodes_at es) (shown_all (nodes_at es) rows) n node)
     → shown_all (nodes_at es) rows ≡ table_at k (nodes_at es) n
     → shown_all (nodes_at es) (take at next) ≡ map (λ (node : Node). shown_at (suc k) (nodes_at es) n node.name) (take at (nodes_at es))
     → shown_all (nodes_at es) (take (at + 1) (set next at row)) ≡ map (λ (node : Node). shown_at (suc k) (nodes_at es) n node.name) (take (at + 1) (nodes_at es))
-next_step es rows n k next at first row at_in at_next first_in is step table before =
+next_step es rows n k next at row at_in at_next is step table before =
     let nodes = nodes_at es in
     let len : length nodes ≡ length es = length-map es node_at in
     one_more nodes nodes (λ node. shown_at (suc k) nodes n node.name) next at row at_next (omega arith) before
-    (at_first nodes at first (λ node. shown nodes row ≡ step_of nodes (shown_all nodes rows) n node) (λ node. shown nodes row ≡ shown_at (suc k) nodes n node.name) (omega arith) (omega arith) is step
+    (at_first nodes at at (λ node. shown nodes row ≡ step_of nodes (shown_all nodes rows) n node) (λ node. shown nodes row ≡ shown_at (suc k) nodes n node.name) (omega arith) (omega arith) is step
     (λ node found e s. s ∙ ap (λ t. step_of nodes t n found) table ∙ step_at k nodes n node.name found e))
+
+slice_get-take : {X : Type 0} (xs : List X) (k i : ℕ) → i < k → slice_get (take k xs) i ≡ slice_get xs i
+slice_get-take xs zero i h = absurd (omega arith)
+slice_get-take [] (suc k) i h = refl
+slice_get-take (x ∷ xs) (suc k) zero h = refl
+slice_get-take (x ∷ xs) (suc k) (suc i) h = slice_get-take xs k i (omega arith)
+
+-- a place whose name stands before it has the row of that place
+pub next_copied : (es : List Entry) (n : Name) (k : ℕ) (next : List Row) (at first : ℕ) (d : Row) → at < length es → at < length next → first < at → IsFirst (nodes_at es) at first
+    → shown_all (nodes_at es) (take at next) ≡ map (λ (node : Node). shown_at (suc k) (nodes_at es) n node.name) (take at (nodes_at es))
+    → shown_all (nodes_at es) (take (at + 1) (set next at (get_or next first d))) ≡ map (λ (node : Node). shown_at (suc k) (nodes_at es) n node.name) (take (at + 1) (nodes_at es))
+next_copied es n k next at first d at_in at_next first_in is before =
+    let nodes = nodes_at es in
+    let f : Node → Shown = λ node. shown_at (suc k) nodes n node.name in
+    let len : length nodes ≡ length es = length-map es node_at in
+    let row = get_or next first d in
+    let there : slice_get next first ≡ Some row = slice_get-get_or next first d (omega arith) in
+    let left : slice_get (shown_all nodes (take at next)) first ≡ Some (shown nodes row) = slice_get-map (shown nodes) (take at next) first ∙ ap (option_map (shown nodes)) (slice_get-take next at first first_in ∙ there) in
+    let right : slice_get (map f (take at nodes)) first ≡ option_map f (slice_get nodes first) = slice_get-map f (take at nodes) first ∙ ap (option_map f) (slice_get-take nodes at first first_in) in
+    let both : option_map f (slice_get nodes first) ≡ Some (shown nodes row) = sym right ∙ ap (λ l. slice_get l first) (sym before) ∙ left in
+    let got : slice_get nodes first ≡ Some (get_or nodes first any_node) = slice_get-get_or nodes first any_node (omega arith) in
+    let here : IfSome (slice_get nodes first) (λ node. shown nodes row ≡ f node) = rw got (let same : Some (f (get_or nodes first any_node)) ≡ Some (shown nodes row) = ap (option_map f) (sym got) ∙ both in cc) in
+    one_more nodes nodes f next at row at_next (omega arith) before
+    (at_first nodes at first (λ node. shown nodes row ≡ f node) (λ node. shown nodes row ≡ f node) (omega arith) (omega arith) is here
+    (λ node found e s. s ∙ ap (shown_at (suc k) nodes n) (find_node-name nodes node.name found e)))
 
 -- the row of a place that needs nothing yet
 pub first_step : (es : List Entry) (rows : List Row) (n : Name) (at first : ℕ) (row : Row) → at < length es → at < length rows → first < length es → IsFirst (nodes_at es) at first

@@ -6,3 +6,5 @@ pub mod Fresh
 pub mod Walks
 pub mod Firsts
 pub mod Splices
+pub mod Links
+pub mod Stores

@@ -6,6 +6,7 @@ ghost use Rattle.map_defs.specs.Depths.{depth_of, by_depth};
 ghost use Rattle.statement_graph.specs.Groups.{nodes_in, has_group, drop_group};
 ghost use Rattle.statement_graph.specs.Puts.{flat_node, flat_nodes, source_node, FitsAs, IsPut};
 
+use crate::links::{Links, count_needs};
 use crate::node::{Entry, Node};
 use crate::places::{copy_entries, cut_out, group_of, span_of, span_or_end};
 use crate::refusal::GraphRefusal;
@@ -23,19 +24,21 @@ pub struct Graph {
     rows: Vec<Row>,
     /// Room for a round, so that dropping a name takes no memory.
     spare: Vec<Row>,
+    /// Room for the first places of names, for the same.
+    links: Links,
 }
 
 impl Model for Graph {
     ghost use Rattle.std.specs.Prelude.{List};
     ghost use Rattle.statement_graph.specs.Groups.{Group};
     ghost use Rattle.statement_graph.specs.Seats.{groups_of};
-    ghost use Rattle.statement_graph.specs.Tables.{IsKept};
+    ghost use Rattle.statement_graph.specs.Stores.{IsStored};
 
     ghost Value = { List Group };
 
     ghost view = { λ g. groups_of g.entries.items };
 
-    ghost invariant = { λ g. IsKept g.entries.items g.rows.items g.spare.items };
+    ghost invariant = { λ g. IsStored g.entries.items g.rows.items g.spare.items g.links.firsts.items g.links.needs.items };
 }
 
 impl Graph {
@@ -46,6 +49,7 @@ impl Graph {
             entries: Vec::new(alloc),
             rows: Vec::new(alloc),
             spare: Vec::new(alloc),
+            links: Links::new(alloc),
         }
     }
 
@@ -55,10 +59,12 @@ impl Graph {
         let entries = copy_entries(alloc, self.entries.as_slice())?;
         let rows = Vec::from_slice(alloc, self.rows.as_slice())?;
         let spare = Vec::from_slice(alloc, self.spare.as_slice())?;
+        let links = self.links.copy(alloc)?;
         Ok(Graph {
             entries,
             rows,
             spare,
+            links,
         })
     }
 
@@ -101,12 +107,21 @@ impl Graph {
     {
         let own = name.copy(alloc)?;
         let total = self.entries.len() + 1;
+        let needs = count_needs(self.entries.as_slice(), 0)?;
         let mut rows = vec![in alloc; BARE; total]?;
         let mut spare = vec![in alloc; BARE; total]?;
+        let mut links = Links::with_room(alloc, total, needs)?;
         self.entries.push(Entry::Source(own))?;
-        resettle(self.entries.as_slice(), name, &mut rows, &mut spare);
+        resettle(
+            self.entries.as_slice(),
+            name,
+            &mut rows,
+            &mut spare,
+            &mut links,
+        );
         self.rows = rows;
         self.spare = spare;
+        self.links = links;
         Ok(())
     }
 
@@ -118,12 +133,24 @@ impl Graph {
         let fresh = group_of(alloc, nodes)?;
         let span = span_or_end(self.entries.as_slice(), name);
         let total = self.entries.len() - (span.end - span.start) + fresh.len();
+        let had_needs = count_needs(self.entries.as_slice(), 0)?;
+        let needs = count_needs(fresh.as_slice(), had_needs)?;
         let mut rows = vec![in alloc; BARE; total]?;
         let mut spare = vec![in alloc; BARE; total]?;
-        match splice(&mut self.entries, name, span, fresh, &mut rows, &mut spare) {
+        let mut links = Links::with_room(alloc, total, needs)?;
+        match splice(
+            &mut self.entries,
+            name,
+            span,
+            fresh,
+            &mut rows,
+            &mut spare,
+            &mut links,
+        ) {
             Ok(()) => {
                 self.rows = rows;
                 self.spare = spare;
+                self.links = links;
                 Ok(())
             }
             Err(refusal) => Err(refusal),
@@ -144,6 +171,7 @@ impl Graph {
                 name,
                 &mut self.rows,
                 &mut self.spare,
+                &mut self.links,
             );
         }
     }

@@ -5,6 +5,7 @@
 #![tactic(auto)]
 
 mod graph;
+mod links;
 mod node;
 mod places;
 mod refusal;
@@ -14,6 +15,3 @@ mod splice;
 pub use graph::Graph;
 pub use node::Node;
 pub use refusal::GraphRefusal;
-
-#[cfg(test)]
-mod tests;

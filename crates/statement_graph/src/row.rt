@@ -1,6 +1,7 @@
 //! For each place its depth and its first missing name, found in rounds over all places.
 
-ghost use Rattle.std.specs.Prelude.{◌≡◌, ℕ, suc, IfSome, ◌+◌, ◌^◌, ◌<◌, ◌≤◌, IfOk, Some, None, length, option_copied, option_map, map, fold, max, ◌||◌, bytes_eq, slice_get, All, is_some, ◌&&◌, ◌==◌, if◌then◌else◌};
+ghost use Rattle.std.specs.Prelude.{◌≡◌, ℕ, suc, IfSome, ◌+◌, ◌^◌, ◌<◌, ◌≤◌, IfOk, Some, None, length, option_copied, option_map, map, fold, max, ◌||◌, bytes_eq, slice_get, All, is_some, ◌&&◌, ◌==◌, if◌then◌else◌, take, unwrap_or, IsTrue, ◌↔◌};
+ghost use Rattle.std.specs.Bool.{OnTrue};
 ghost use Rattle.std.specs.List.{list_any};
 ghost use Rattle.std.specs.Option.{option_or, option_and_then};
 ghost use Rattle.map_defs.specs.Nodes.{Node as Defined};
@@ -8,9 +9,10 @@ ghost use Rattle.map_defs.specs.Depths.{is_looped as is_looped_in, by_depth};
 ghost use Rattle.statement_graph.specs.Puts.{flat_node};
 ghost use Rattle.statement_graph.specs.Seats.{nodes_at, node_at, name_at};
 ghost use Rattle.statement_graph.specs.Walks.{IsNth, at_depth};
-ghost use Rattle.statement_graph.specs.Firsts.{IsFirst};
-ghost use Rattle.statement_graph.specs.Tables.{shown, shown_all, table_at, place_of as place_in, looked, seen, joined as joined_shown, gathered as gathered_by, step_of, need_at, kept, kept_at};
+ghost use Rattle.statement_graph.specs.Links.{all_needs, IsLinkedFrom, IsFirstTo, IsLinked, HasRoom};
+ghost use Rattle.statement_graph.specs.Tables.{shown, shown_all, table_at, place_of as place_in, seen, joined as joined_shown, gathered as gathered_by, step_of, need_at, kept, kept_at};
 
+use crate::links::Links;
 use crate::node::{Entry, Node};
 use crate::places::place_of;
 use map_words::Name;
@@ -50,21 +52,21 @@ pub(crate) fn look(entries: &[Entry], rows: &[Row], name: &Name) -> Option<Row>
     }
 }
 
-/// What a need adds to what needs it.
-fn seen(entries: &[Entry], rows: &[Row], name: &Name, place: Place, need: &Name) -> Row
-    requires rows_are { length rows.now ≡ length entries.now }
-    requires shallow { All (λ r. r.depth + 1 < 2 ^ 32) rows.now }
-    requires placed { need_at (nodes_at entries.now) place ≡ Some need.now }
-    ensures shown { shown (nodes_at entries.now) result ≡ seen (nodes_at entries.now) (shown_all (nodes_at entries.now) rows.now) name.now need.now }
-    ensures shallow { result.depth + 1 < 2 ^ 32 }
+/// What a need with this first place adds to what needs it.
+fn seen(rows: &[Row], name: &Name, place: Place, need: &Name, link: Option<usize>) -> Row
+    ensures { result ≡ unwrap_or (option_and_then (slice_get rows.now) link) (record { depth = 0; lack = Some place; reached = bytes_eq need.now name.now }) }
 {
-    match look(entries, rows, need) {
+    let row = match link {
+        None => None,
+        Some(at) => rows.get(at),
+    };
+    match row {
         None => Row {
             depth: 0,
             lack: Some(place),
             reached: *need == *name,
         },
-        Some(row) => row,
+        Some(row) => *row,
     }
 }
 
@@ -79,11 +81,20 @@ fn joined(one: Row, other: Row) -> Row
     }
 }
 
-/// What the needs of a place add to it.
-fn gathered(entries: &[Entry], rows: &[Row], name: &Name, at: usize) -> Row
-    requires rows_are { length rows.now ≡ length entries.now }
+/// What the needs of a place add to it; `start` is where the links of its needs start.
+fn gathered(
+    entries: &[Entry],
+    links: &[Option<usize>],
+    rows: &[Row],
+    name: &Name,
+    at: usize,
+    start: usize,
+) -> Row
     requires shallow { All (λ r. r.depth + 1 < 2 ^ 32) rows.now }
     requires within { at < length entries.now }
+    requires room { length (all_needs (nodes_at entries.now)) ≤ length links.now }
+    requires linked { IsLinkedFrom (nodes_at entries.now) 0 (all_needs (nodes_at entries.now)) links.now }
+    requires starts { start ≡ length (all_needs (take at (nodes_at entries.now))) }
     ensures shown { IfSome (slice_get (nodes_at entries.now) at)
         (λ node. shown (nodes_at entries.now) result ≡ gathered_by (nodes_at entries.now) (shown_all (nodes_at entries.now) rows.now) name.now node) }
     ensures shallow { result.depth + 1 < 2 ^ 32 }
@@ -98,21 +109,36 @@ fn gathered(entries: &[Entry], rows: &[Row], name: &Name, at: usize) -> Row
     for (k, need) in needs.iter().enumerate() {
         row = joined(
             row,
-            seen(entries, rows, name, Place { node: at, need: k }, need),
+            seen(
+                rows,
+                name,
+                Place { node: at, need: k },
+                need,
+                links[start + k],
+            ),
         );
     }
     row
 }
 
 /// The row of a place by the rows of the round before.
-fn row_of(entries: &[Entry], rows: &[Row], name: &Name, at: usize) -> Row
-    requires rows_are { length rows.now ≡ length entries.now }
+fn row_of(
+    entries: &[Entry],
+    links: &[Option<usize>],
+    rows: &[Row],
+    name: &Name,
+    at: usize,
+    start: usize,
+) -> Row
     requires shallow { All (λ r. r.depth + 1 < 2 ^ 32) rows.now }
     requires within { at < length entries.now }
+    requires room { length (all_needs (nodes_at entries.now)) ≤ length links.now }
+    requires linked { IsLinkedFrom (nodes_at entries.now) 0 (all_needs (nodes_at entries.now)) links.now }
+    requires starts { start ≡ length (all_needs (take at (nodes_at entries.now))) }
     ensures { IfSome (slice_get (nodes_at entries.now) at)
         (λ node. shown (nodes_at entries.now) result ≡ step_of (nodes_at entries.now) (shown_all (nodes_at entries.now) rows.now) name.now node) }
 {
-    let row = gathered(entries, rows, name, at);
+    let row = gathered(entries, links, rows, name, at, start);
     if entries[at].is_flat() {
         return Row {
             depth: row.depth + 1,
@@ -123,25 +149,15 @@ fn row_of(entries: &[Entry], rows: &[Row], name: &Name, at: usize) -> Row
     row
 }
 
-/// The first place that has the name of a place.
-fn first_of(entries: &[Entry], at: usize) -> usize
-    requires { at < length entries.now }
-    ensures within { result < length entries.now }
-    ensures first { IsFirst (nodes_at entries.now) at result }
-{
-    match place_of(entries, entries[at].name()) {
-        None => at,
-        Some(first) => first,
-    }
-}
-
 /// The rows within one step.
-fn first_rows(entries: &[Entry], name: &Name, rows: &mut [Row])
-    requires { length rows.old ≡ length entries.now }
+fn first_rows(entries: &[Entry], firsts: &[usize], name: &Name, rows: &mut [Row])
+    requires rows_are { length rows.old ≡ length entries.now }
+    requires room { length entries.now ≤ length firsts.now }
+    requires firsts { IsFirstTo (nodes_at entries.now) (length entries.now) firsts.now }
     ensures { shown_all (nodes_at entries.now) rows.new ≡ table_at 0 (nodes_at entries.now) name.now }
 {
     for at in 0..entries.len() {
-        let entry = &entries[first_of(entries, at)];
+        let entry = &entries[firsts[at]];
         rows[at] = Row {
             depth: entry.first_depth(),
             lack: None,
@@ -151,42 +167,114 @@ fn first_rows(entries: &[Entry], name: &Name, rows: &mut [Row])
 }
 
 /// The rows within one step more.
-fn next_rows(entries: &[Entry], name: &Name, rows: &[Row], next: &mut [Row])
-    requires rows_are { length rows.now ≡ length entries.now }
+fn next_rows(
+    entries: &[Entry],
+    firsts: &[usize],
+    links: &[Option<usize>],
+    name: &Name,
+    rows: &[Row],
+    next: &mut [Row],
+)
     requires next_are { length next.old ≡ length entries.now }
     requires shallow { All (λ r. r.depth + 1 < 2 ^ 32) rows.now }
+    requires room { HasRoom (nodes_at entries.now) firsts.now links.now }
+    requires linked { IsLinked (nodes_at entries.now) firsts.now links.now }
     ensures { (k : ℕ) → shown_all (nodes_at entries.now) rows.now ≡ table_at k (nodes_at entries.now) name.now
         → shown_all (nodes_at entries.now) next.new ≡ table_at (suc k) (nodes_at entries.now) name.now }
 {
+    let mut start = 0;
     for at in 0..entries.len() {
-        next[at] = row_of(entries, rows, name, first_of(entries, at));
+        let first = firsts[at];
+        next[at] = if first < at {
+            next[first]
+        } else {
+            row_of(entries, links, rows, name, at, start)
+        };
+        start += entries[at].needs().len();
     }
 }
 
-/// The rows of all places, within as many steps as there are places; `spare` is room for a round.
-fn settle(entries: &[Entry], name: &Name, rows: &mut [Row], spare: &mut [Row])
+/// Whether two are one place, or both none.
+fn same_lack(one: Option<Place>, other: Option<Place>) -> bool
+    ensures { IsTrue result ↔ (one ≡ other) }
+{
+    match (one, other) {
+        (None, None) => true,
+        (Some(one), Some(other)) => one.node == other.node && one.need == other.need,
+        _ => false,
+    }
+}
+
+/// Whether a round changed nothing.
+fn are_same(rows: &[Row], next: &[Row]) -> bool
+    requires { length next.now ≡ length rows.now }
+    ensures { OnTrue result (next.now ≡ rows.now) }
+{
+    for at in 0..rows.len() {
+        let (row, then) = (rows[at], next[at]);
+        if row.depth != then.depth
+            || row.reached != then.reached
+            || !same_lack(row.lack, then.lack)
+        {
+            return false;
+        }
+    }
+    true
+}
+
+/// The rows of all places, within as many steps as there are places; `spare` is room for a round. A round that changes
+/// nothing is the last.
+fn settle(
+    entries: &[Entry],
+    firsts: &[usize],
+    links: &[Option<usize>],
+    name: &Name,
+    rows: &mut [Row],
+    spare: &mut [Row],
+)
     requires few { length entries.now + 1 < 2 ^ 32 }
     requires rows_are { length rows.old ≡ length entries.now }
     requires spare_are { length spare.old ≡ length entries.now }
+    requires room { HasRoom (nodes_at entries.now) firsts.now links.now }
+    requires linked { IsLinked (nodes_at entries.now) firsts.now links.now }
     ensures { shown_all (nodes_at entries.now) rows.new ≡ table_at (length entries.now) (nodes_at entries.now) name.now }
 {
-    first_rows(entries, name, rows);
+    first_rows(entries, firsts, name, rows);
     for _round in 0..entries.len() {
-        next_rows(entries, name, rows, spare);
+        next_rows(entries, firsts, links, name, rows, spare);
+        if are_same(rows, spare) {
+            return;
+        }
         rows.copy_from_slice(spare);
     }
 }
 
 /// Settles tables.
-pub(crate) fn resettle(entries: &[Entry], name: &Name, rows: &mut Vec<Row>, spare: &mut Vec<Row>)
+pub(crate) fn resettle(
+    entries: &[Entry],
+    name: &Name,
+    rows: &mut Vec<Row>,
+    spare: &mut Vec<Row>,
+    links: &mut Links,
+)
     requires few { length entries.now + 1 < 2 ^ 32 }
     requires rows_are { length rows.old.items ≡ length entries.now }
     requires spare_are { length spare.old.items ≡ length entries.now }
+    requires room { HasRoom (nodes_at entries.now) links.old.firsts.items links.old.needs.items }
     ensures table { shown_all (nodes_at entries.now) rows.new.items ≡ table_at (length entries.now) (nodes_at entries.now) name.now }
     ensures rows_are { length rows.new.items ≡ length entries.now }
     ensures spare_are { length spare.new.items ≡ length entries.now }
+    ensures room { HasRoom (nodes_at entries.now) links.new.firsts.items links.new.needs.items }
 {
-    settle(entries, name, rows.as_mut_slice(), spare.as_mut_slice());
+    links.relink(entries);
+    settle(
+        entries,
+        links.firsts.as_slice(),
+        links.needs.as_slice(),
+        name,
+        rows.as_mut_slice(),
+        spare.as_mut_slice(),
+    );
 }
 
 /// Whether the name is reached from a need.

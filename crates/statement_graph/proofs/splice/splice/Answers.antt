@@ -1,9 +1,33 @@
-use Rattle.std.proofs.Common.{◌≡◌, ◌+◌, ◌-◌, length, take, ap, sym, ◌∙◌, arith}
+use Rattle.std.proofs.Common.{◌≡◌, ◌+◌, ◌-◌, List, length, take, ap, sym, subst, ◌∙◌, arith}
 use Rattle.map_defs.specs.Depths.{is_looped}
+use Rattle.statement_graph.specs.declared.node.Entry.{Entry}
+use Rattle.statement_graph.specs.Links.{HasRoom}
 use Rattle.statement_graph.specs.Seats.{nodes_at}
 use Rattle.statement_graph.specs.Splices.{spliced}
 use Rattle.statement_graph.proofs.Exchanging.{put_in, put_back, put_in_is, length-spliced}
+use Rattle.statement_graph.proofs.Linking.{room_spliced}
 use Rattle.statement_graph.proofs.splice.splice.Goals as goal
+
+pub settle_front-requires-clause-room : goal.settle_front-requires-clause-room
+settle_front-requires-clause-room c =
+    let es = c.args.entries.now.items in
+    let fresh = c.args.fresh.items in
+    let start = c.args.span.start in
+    let end = c.args.span.end in
+    let count_is : c.len-count.result ≡ length fresh = c.len-count.ensures ∙ c.args.fresh.ok.0 in
+    let total_is : c.len-total.result + (end - start) ≡ length es + length fresh = omega (arith, c.len-total.ensures, c.args.rows.now.ok.0, c.requires.rows_are) in
+    let in_is = put_in es fresh start end c.requires.order c.requires.within c.append.new.self.items c.exchange_in.new.entries.items c.len-total.result c.in_ok-append.ensures.items total_is
+    (λ a o t n e la lo ln. c.exchange_in.ensures.turned a o t n e la lo (ln ∙ sym count_is)) in
+    let now = take c.len-total.result c.exchange_in.new.entries.items in
+    let len : length now ≡ length (spliced start end fresh es) = ap length in_is.1 in
+    let parts = length-spliced es fresh start end c.requires.order c.requires.within in
+    room_spliced es fresh now c.args.links.now.firsts.items c.args.links.now.needs.items start end c.requires.order in_is.1 (omega (arith, c.requires.firsts_are, c.requires.rows_are)) c.requires.needs_are
+
+pub returns-clause-room : goal.returns-clause-room
+returns-clause-room c =
+    let firsts = c.settle_front.new.links.firsts.items in
+    let needs = c.settle_front.new.links.needs.items in
+    subst (λ (l : List Entry). HasRoom (nodes_at l) firsts needs) (sym c.truncate-2.ensures.items) c.settle_front.ensures.room
 
 pub returns-then-settle_front-clause-spliced : goal.returns-then-settle_front-clause-spliced
 returns-then-settle_front-clause-spliced c =

@@ -8,4 +8,4 @@ pub returns : goal.returns
 returns c =
     let g = c.self.inside in
     c.nth_flat.ensures ∙ ap (λ es. slice_get (by_depth (nodes_at es)) c.args.k) c.as_slice.ensures.value
-    ∙ ap (λ ns. slice_get (by_depth ns) c.args.k) (seen_nodes g.entries.items g.rows.items g.spare.items c.args.self.now c.self.invariant c.self.view_is)
+    ∙ ap (λ ns. slice_get (by_depth ns) c.args.k) (seen_nodes g.entries.items g.rows.items g.spare.items c.args.self.now c.self.invariant.kept c.self.view_is)
