@@ -12,8 +12,6 @@ mod rounding;
 mod runs;
 mod statistics;
 mod sums;
-#[cfg(test)]
-mod tests;
 
 pub use numbers::{cmp_cross, in_range};
 pub use rounding::{floor_div, floor_root};
