@@ -5,7 +5,7 @@ use Rattle.std.proofs.lemmas.List.Folds.{list_any-append}
 use Rattle.std.proofs.lemmas.Option.{none-some}
 use Rattle.map_nums.specs.Grids.{Size, Cells, Grid}
 use Rattle.map_defs.specs.Sight.{most_viewers}
-use Rattle.map_defs.specs.Ops.{Name, Term, layer_term, number_term, Op, local_op, focal_op, zonal_op, form_op, direction_op, flow_op, spread_op, sight_op, region_op, terms_of, term_names}
+use Rattle.map_defs.specs.Ops.{Name, Term, layer_term, number_term, Op, sight_op, terms_of, term_names}
 use Rattle.map_defs.specs.Operate.{operate}
 use Rattle.map_defs.specs.Nodes.{Node, find_node, needs_in}
 use Rattle.map_defs.specs.Depths.{by_depth}
@@ -124,17 +124,10 @@ module _ (s t : EngineState) (none_s : HasNoCycle (nodes_of s.entries)) (none_t 
   -- ---- faults
 
   viewers_same : (op : Op) → map (term_cells t.size (value_of t)) (terms_of op) ≡ map (term_cells t.size (value_of s)) (terms_of op) → viewers_of t (Some (by_op op)) ≡ viewers_of s (Some (by_op op))
-  viewers_same (local_op o ts) e = refl
-  viewers_same (focal_op stat r u) e = refl
-  viewers_same (zonal_op stat u v) e = refl
-  viewers_same (form_op f u) e = refl
-  viewers_same (direction_op u) e = refl
-  viewers_same (flow_op u v) e = refl
-  viewers_same (spread_op limit u v) e = refl
   viewers_same (sight_op sight viewers surface) e =
       let first : term_cells t.size (value_of t) viewers ≡ term_cells t.size (value_of s) viewers = cc in
       ap viewers_among (first ∙ ap (λ q. term_cells q (value_of s) viewers) size)
-  viewers_same (region_op u) e = refl
+  viewers_same op e = refl
 
   fault_same : (n : Name) → viewers_of t (find_making (layers t.entries) n) ≡ viewers_of s (find_making (layers s.entries) n) → value_of t n ≡ value_of s n → fault_of_layer t n ≡ fault_of_layer s n
   fault_same n viewers value =
