@@ -3,7 +3,7 @@ use Rattle.std.proofs.Common.{◌≡◌, List, [], ◌∷◌, ◌++◌, Result, 
 use Rattle.std.specs.Prelude.{IfOk}
 use Rattle.std.proofs.lemmas.List.{append-nil}
 use Rattle.map_words.specs.Bytes.{Text}
-use Rattle.statement_parser.specs.Canonical.{spaced}
+use Rattle.statement_parser.specs.Spacing.{spaced}
 use Rattle.statement_parser.specs.Printing.{Adds}
 
 pub adds_none : (a : Text) → Adds a a []

@@ -8,8 +8,7 @@ use Rattle.std.specs.Ordering.{int_eq}
 use Rattle.std.proofs.lemmas.List.{append-nil, map-append}
 use Rattle.std.proofs.lemmas.List.Folds.{list_all-append}
 use Rattle.std.proofs.lemmas.Bool.Decides.{nat_tests}
-use Rattle.map_nums.specs.declared.Stat.{Stat}
-use Rattle.map_nums.specs.declared.Stat.TheVariants.{Sum, Product, Maximum, Minimum, Mean, Median, Majority, Minority, Variety}
+use Rattle.map_nums.specs.declared.Stat.TheVariants.{Sum}
 use Rattle.map_nums.specs.declared.Rate.{Rate}
 use Rattle.map_nums.specs.Numbers.{is_value}
 use Rattle.map_words.specs.Bytes.{Text, is_blank, is_mark, is_good, first_bad, is_silent}
@@ -19,8 +18,14 @@ use Rattle.map_defs.specs.Ops.{Term, layer_term, number_term, Op, local_op, diff
 use Rattle.map_defs.specs.Statements.{Written, plain, call}
 use Rattle.statement_parser.specs.Lines.{Manner, define, edit}
 use Rattle.statement_parser.specs.Grammar.{IsLine}
-use Rattle.statement_parser.specs.Formed.{Each, IsTerm, IsCell, IsRate, IsOp, IsWritten}
-use Rattle.statement_parser.specs.Canonical.{term_text, cell_text, stat_text, terms_after, terms_texts, to_texts, rates_texts, op_texts, written_tail, written_texts, spaced, joined, written_text}
+use Rattle.layer_tiles.specs.Cells.{IsCell}
+use Rattle.statement_parser.specs.Formed.{Each, IsTerm, IsRate, IsOp, IsWritten}
+use Rattle.statement_parser.specs.Canonical.{cell_text, optional_texts, rates_texts, op_texts, written_tail, written_texts, written_text}
+use Rattle.statement_parser.specs.TermTexts.{term_text, terms_after, terms_texts}
+use Rattle.statement_parser.specs.Spacing.{spaced, joined}
+use Rattle.statement_parser.specs.Operations.{operation_text}
+use Rattle.statement_parser.specs.declared.operation.Operation.{Operation}
+use Rattle.statement_parser.specs.declared.operation.Operation.TheVariants.{Local, Difference, Ratio, Rating}
 use Rattle.statement_parser.specs.Texts.{seen, is_short, LineText, worded}
 use Rattle.statement_parser.specs.Printing.{ReadsBack}
 use Rattle.statement_parser.proofs.Numerals.{is_run_byte, number_run, number_some}
@@ -204,16 +209,10 @@ cell_word : (c : Option ℤ) → IsCell c → IsWord (cell_text c)
 cell_word None h = inl (λ e. cc, refl)
 cell_word (Some z) h = number_word z h
 
-stat_word : (s : Stat) → IsWord (stat_text s)
-stat_word Sum = inl (λ e. cc, refl)
-stat_word Product = inl (λ e. cc, refl)
-stat_word Maximum = inl (λ e. cc, refl)
-stat_word Minimum = inl (λ e. cc, refl)
-stat_word Mean = inl (λ e. cc, refl)
-stat_word Median = inl (λ e. cc, refl)
-stat_word Majority = inl (λ e. cc, refl)
-stat_word Minority = inl (λ e. cc, refl)
-stat_word Variety = inl (λ e. cc, refl)
+-- the name of each operation, computed
+operation_word : (o : Operation) → IsWord (operation_text o)
+operation_word (Local Sum) = inl (λ e. cc, refl)
+operation_word o = inl (λ e. cc, refl)
 
 of_word : IsWord (codes "of")
 of_word = inl (λ e. cc, refl)
@@ -233,23 +232,23 @@ each-append : (ts us : List Text) → Each IsWord ts → Each IsWord us → Each
 each-append [] us h k = k
 each-append (t ∷ ts) us h k = (h.0, each-append ts us h.1 k)
 
-to_words : (low high : ℤ) → IsTrue (is_value high) → Each IsWord (to_texts low high)
-to_words low high h = go (int_eq high low)
+optional_words : (word : Text) (default z : ℤ) → IsWord word → IsTrue (is_value z) → Each IsWord (optional_texts word default z)
+optional_words word default z w h = go (int_eq z default)
   where
-    go : (b : Bool) → Each IsWord (cond b [] (codes "to" ∷ signed_decimal high ∷ []))
+    go : (b : Bool) → Each IsWord (cond b [] (word ∷ signed_decimal z ∷ []))
     go true = tt
-    go false = (inl (λ e. cc, refl), (number_word high h, tt))
+    go false = (w, (number_word z h, tt))
 
 rates_words : (rs : List Rate) → Each IsRate rs → Each IsWord (rates_texts rs)
 rates_words [] h = tt
 rates_words (r ∷ rs) h =
-    (inl (λ e. cc, refl), (cell_word r.give h.0.give, (inl (λ e. cc, refl), (number_word r.low h.0.low, each-append (to_texts r.low r.high) (rates_texts rs) (to_words r.low r.high h.0.high) (rates_words rs h.1)))))
+    (inl (λ e. cc, refl), (cell_word r.give h.0.give, (inl (λ e. cc, refl), (number_word r.low h.0.low, each-append (optional_texts (codes "to") r.low r.high) (rates_texts rs) (optional_words (codes "to") r.low r.high (inl (λ e. cc, refl)) h.0.high) (rates_words rs h.1)))))
 
 op_words : (o : Op) → IsOp o → Each IsWord (op_texts o)
-op_words (local_op s ts) h = (stat_word s, (of_word, terms_words ts h.2))
-op_words (difference_op l r) h = (inl (λ e. cc, refl), (of_word, (term_word l h.0, (and_word, (term_word r h.1, tt)))))
-op_words (ratio_op l r) h = (inl (λ e. cc, refl), (of_word, (term_word l h.0, (and_word, (term_word r h.1, tt)))))
-op_words (rating_op t rs) h = (inl (λ e. cc, refl), (of_word, (term_word t h.0, rates_words rs h.3)))
+op_words (local_op s ts) h = (operation_word (Local s), (of_word, terms_words ts h.2))
+op_words (difference_op l r) h = (operation_word Difference, (of_word, (term_word l h.0, (and_word, (term_word r h.1, tt)))))
+op_words (ratio_op l r) h = (operation_word Ratio, (of_word, (term_word l h.0, (and_word, (term_word r h.1, tt)))))
+op_words (rating_op t rs) h = (operation_word Rating, (of_word, (term_word t h.0, rates_words rs h.3)))
 op_words op h = absurd h
 
 equals_word : IsWord (codes "=")

@@ -9,10 +9,14 @@ use Rattle.grammar_core.proofs.FirstFault.{found_so, refused_so}
 use Rattle.statement_parser.specs.Lines.{Line, first_language}
 use Rattle.statement_parser.specs.Places.{tests}
 use Rattle.statement_parser.specs.Operations.{operation_named}
-use Rattle.statement_parser.specs.Grammar.{line_rule, command_named}
-use Rattle.statement_parser.specs.ReadLocal.{and_at, statistic_at, pair_at, difference_at, ratio_at, to_at, range_at, rate_at, with_at, rating_at, body_at}
-use Rattle.statement_parser.specs.ReadLine.{define_at, corners_at, paint_at, new_at, drop_at, value_at, grid_at, list_at, quit_at, line_at}
-use Rattle.statement_parser.specs.Texts.{seen, column, is_short, LineText, silent, worded, refusal_of, RefusedText, bad_byte, bad_word}
+use Rattle.statement_parser.specs.Commands.{command_named}
+use Rattle.statement_parser.specs.Grammar.{line_rule}
+use Rattle.statement_parser.specs.ReadBodies.{statistic_at, pair_at, difference_at, ratio_at, rating_at, body_at}
+use Rattle.statement_parser.specs.ReadParts.{term_after_at, further_at, optional_at, range_at, rate_at, with_at}
+use Rattle.statement_parser.specs.ReadLine.{define_at, line_at, quit_at}
+use Rattle.statement_parser.specs.ReadCommands.{corners_at, paint_at, new_at, drop_at, value_at, grid_at, list_at}
+use Rattle.statement_parser.specs.Texts.{seen, is_short, LineText, silent, worded, refusal_of, RefusedText, bad_byte, bad_word}
+use Rattle.statement_parser.specs.Columns.{column}
 use Rattle.statement_parser.specs.Rows.{Rows}
 use Rattle.statement_parser.proofs.SoundLines.{healthy_line}
 use Rattle.statement_parser.proofs.ReadsLines.{line_reads}
@@ -25,7 +29,7 @@ refused_row bytes f s e g h =
     bad_word f.kind f.left s e g (refused_so tests (line_rule first_language) (seen bytes) f (healthy_line first_language).sound refl (sym (line_reads first_language (seen bytes)) ∙ h))
 
 pub rows : Rows
-unfolding line_at define_at corners_at paint_at new_at drop_at value_at grid_at list_at quit_at and_at statistic_at pair_at difference_at ratio_at to_at range_at rate_at with_at rating_at body_at operation_named command_named is_plain is_dotted is_reserved is_among number_text
+unfolding line_at define_at corners_at paint_at new_at drop_at value_at grid_at list_at quit_at term_after_at further_at optional_at statistic_at pair_at difference_at ratio_at range_at rate_at with_at rating_at body_at operation_named command_named is_plain is_dotted is_reserved is_among number_text
 rows = record {
   empty = silent refl refl;
   note = silent refl refl;

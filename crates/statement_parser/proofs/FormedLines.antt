@@ -15,13 +15,15 @@ use Rattle.map_defs.specs.Statements.{plain}
 use Rattle.statement_parser.specs.Lines.{Manner, define, paint, new_layer, drop, ask_value, ask_grid, ask_list, Line, edit, ask, quit}
 use Rattle.statement_parser.specs.Operations.{operation_named}
 use Rattle.statement_parser.specs.Places.{the, name_of, any_of, value_of, side_of, term_of, cell_of}
-use Rattle.statement_parser.specs.Bodies.{and_terms, statistic_body, pair_body, to_part, rate_part, with_rates, rating_body, operation_body}
-use Rattle.statement_parser.specs.Grammar.{define_rule, command_named, command_rule, line_rule, IsLine}
+use Rattle.statement_parser.specs.Bodies.{term_after, further_terms, optional_part, statistic_body, pair_body, rate_part, with_rates, rating_body, operation_body}
+use Rattle.statement_parser.specs.Commands.{command_named}
+use Rattle.statement_parser.specs.Grammar.{define_rule, command_rule, line_rule, IsLine}
 use Rattle.std.specs.Prelude.{IfOk, Result, Ok, Err}
 use Rattle.statement_parser.specs.declared.refusal.LineRefusal.{LineRefusal}
 use Rattle.statement_parser.specs.Texts.{seen, LineText, silent, worded}
 use Rattle.statement_parser.specs.Parsed.{IsParsed}
-use Rattle.statement_parser.specs.Formed.{Each, IsTerm, IsCell, IsRate, IsOp, IsSide, IsAny, IsFormed}
+use Rattle.layer_tiles.specs.Cells.{IsCell}
+use Rattle.statement_parser.specs.Formed.{Each, IsTerm, IsRate, IsOp, IsSide, IsAny, IsFormed}
 use Rattle.statement_parser.specs.declared.operation.Operation.{Operation}
 use Rattle.statement_parser.specs.declared.operation.Operation.TheVariants.{Local, Difference, Ratio, Rating}
 use Rattle.statement_parser.specs.declared.command.Command.{Command}
@@ -121,28 +123,33 @@ IsRun P least most n xs = (least ≤ length xs) × (length xs + n ≤ most) × E
 run-push : {A : Type 0} (P : A → Type 0) (least most n : ℕ) (xs : List A) (y : A) → IsRun P least most (suc n) xs → P y → IsRun P least most n (xs ++ y ∷ [])
 run-push P least most n xs y r p = (omega (arith, length-append xs (y ∷ [])), omega (arith, length-append xs (y ∷ [])), all-push P xs y r.2 p)
 
-and_formed : (f : List Term → Rule Text Line) → Keeps (λ ts. (2 ≤ length ts) × (length ts ≤ 8) × Each IsTerm ts) f → (n : ℕ) (ts : List Term) → IsRun IsTerm 2 8 n ts → Formed (and_terms f n ts)
-and_formed f h zero ts r = h ts (r.0, omega arith, r.2)
-and_formed f h (suc n) ts r =
-    ends_also IsFormed (the (codes "and")) (λ _. next term_of (λ t. and_terms f n (ts ++ t ∷ []))) (f ts)
-    (λ w v e. then_term (λ t. and_terms f n (ts ++ t ∷ [])) (λ t p. and_formed f h n (ts ++ t ∷ []) (run-push IsTerm 2 8 n ts t r p))) (h ts (r.0, omega arith, r.2))
+after_formed : (word : Text) (f : Term → Rule Text Line) → Keeps IsTerm f → Formed (term_after word f)
+after_formed word f h = then_the word _ (then_term f h)
+
+further_formed : (word : Text) (least most : ℕ) (f : List Term → Rule Text Line) → Keeps (λ ts. (least ≤ length ts) × (length ts ≤ most) × Each IsTerm ts) f → (n : ℕ) (ts : List Term) → IsRun IsTerm least most n ts
+    → Formed (further_terms word f n ts)
+further_formed word least most f h zero ts r = h ts (r.0, omega arith, r.2)
+further_formed word least most f h (suc n) ts r =
+    ends_also IsFormed (the word) (λ _. next term_of (λ t. further_terms word f n (ts ++ t ∷ []))) (f ts)
+    (λ w v e. then_term (λ t. further_terms word f n (ts ++ t ∷ [])) (λ t p. further_formed word least most f h n (ts ++ t ∷ []) (run-push IsTerm least most n ts t r p))) (h ts (r.0, omega arith, r.2))
+
+optional_formed : {A : Type 0} (word : Text) (place : Text → Option A) (default : A) (f : A → Rule Text Line) → Formed (next place f) → Formed (f default) → Formed (optional_part word place default f)
+optional_formed word place default f there left_out = ends_also IsFormed (the word) (λ _. next place f) (f default) (λ w v e. there) left_out
 
 statistic_formed : (s : Stat) (f : Op → Rule Text Line) → Keeps IsOp f → Formed (statistic_body s f)
 statistic_formed s f h =
-    then_the (codes "of") _ (then_term _ (λ a p. then_the (codes "and") _ (then_term _ (λ b q.
-    and_formed (λ ts. f (local_op s ts)) (λ ts r. h (local_op s ts) r) 6 (a ∷ b ∷ []) (omega arith, omega arith, (p, (q, tt)))))))
+    after_formed (codes "of") _ (λ a p. after_formed (codes "and") _ (λ b q.
+    further_formed (codes "and") 2 8 (λ ts. f (local_op s ts)) (λ ts r. h (local_op s ts) r) 6 (a ∷ b ∷ []) (omega arith, omega arith, (p, (q, tt)))))
 
-pair_formed : (make : Term → Term → Op) (f : Op → Rule Text Line) → ((a b : Term) → IsTerm a → IsTerm b → Formed (f (make a b))) → Formed (pair_body make f)
-pair_formed make f h = then_the (codes "of") _ (then_term _ (λ a p. then_the (codes "and") _ (then_term _ (λ b q. h a b p q))))
-
-to_formed : (f : Rate → Rule Text Line) → Keeps IsRate f → (give : Option ℤ) (low : ℤ) → IsCell give → IsTrue (is_value low) → Formed (to_part f give low)
-to_formed f h give low g l =
-    ends_also IsFormed (the (codes "to")) (λ _. next value_of (λ high. f (record { low = low; high = high; give = give }))) (f (record { low = low; high = low; give = give }))
-    (λ w v e. then_value (λ high. f (record { low = low; high = high; give = give })) (λ high k. h (record { low = low; high = high; give = give }) (record { low = l; high = k; give = g })))
-    (h (record { low = low; high = low; give = give }) (record { low = l; high = l; give = g }))
+pair_formed : (word : Text) (make : Term → Term → Op) (f : Op → Rule Text Line) → ((a b : Term) → IsTerm a → IsTerm b → Formed (f (make a b))) → Formed (pair_body word make f)
+pair_formed word make f h = after_formed (codes "of") _ (λ a p. after_formed word _ (λ b q. h a b p q))
 
 rate_formed : (f : Rate → Rule Text Line) → Keeps IsRate f → Formed (rate_part f)
-rate_formed f h = then_cell _ (λ give g. then_the (codes "for") _ (then_value (to_part f give) (λ low l. to_formed f h give low g l)))
+rate_formed f h =
+    let made = λ (give : Option ℤ) (low high : ℤ). let x : Rate = record { low = low; high = high; give = give } in x in
+    then_cell _ (λ give g. then_the (codes "for") _ (then_value _ (λ low l.
+    optional_formed (codes "to") value_of low (λ high. f (made give low high)) (then_value (λ high. f (made give low high)) (λ high k. h (made give low high) (record { low = l; high = k; give = g })))
+    (h (made give low low) (record { low = l; high = l; give = g })))))
 
 with_formed : (f : List Rate → Rule Text Line) → Keeps (λ rs. (1 ≤ length rs) × (length rs ≤ 32) × Each IsRate rs) f → (n : ℕ) (rs : List Rate) → IsRun IsRate 1 32 n rs → Formed (with_rates f n rs)
 with_formed f h zero rs r = h rs (r.0, omega arith, r.2)
@@ -152,13 +159,13 @@ with_formed f h (suc n) rs r =
 
 rating_formed : (f : Op → Rule Text Line) → Keeps IsOp f → Formed (rating_body f)
 rating_formed f h =
-    then_the (codes "of") _ (then_term _ (λ a p. then_the (codes "with") _ (rate_formed (λ one. with_rates (λ rs. f (rating_op a rs)) 31 (one ∷ [])) (λ one q.
-    with_formed (λ rs. f (rating_op a rs)) (λ rs r. h (rating_op a rs) (p, r.0, r.1, r.2)) 31 (one ∷ []) (omega arith, omega arith, (q, tt))))))
+    after_formed (codes "of") _ (λ a p. then_the (codes "with") _ (rate_formed (λ one. with_rates (λ rs. f (rating_op a rs)) 31 (one ∷ [])) (λ one q.
+    with_formed (λ rs. f (rating_op a rs)) (λ rs r. h (rating_op a rs) (p, r.0, r.1, r.2)) 31 (one ∷ []) (omega arith, omega arith, (q, tt)))))
 
 operation_formed : (m : Manner) (f : Op → Rule Text Line) → Keeps IsOp f → (o : Operation) → Formed (operation_body m f o)
 operation_formed m f h (Local s) = statistic_formed s f h
-operation_formed m f h Difference = pair_formed difference_op f (λ a b p q. h (difference_op a b) (p, q))
-operation_formed m f h Ratio = pair_formed ratio_op f (λ a b p q. h (ratio_op a b) (p, q))
+operation_formed m f h Difference = pair_formed (codes "and") difference_op f (λ a b p q. h (difference_op a b) (p, q))
+operation_formed m f h Ratio = pair_formed (codes "and") ratio_op f (λ a b p q. h (ratio_op a b) (p, q))
 operation_formed m f h Rating = rating_formed f h
 
 -- ---- lines

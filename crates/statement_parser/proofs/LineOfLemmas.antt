@@ -1,16 +1,16 @@
 -- The program of lines gives the line that bytes are, or how they are refused.
 use Rattle.std.proofs.Common.{◌≡◌, ℕ, Bool, true, false, cond, length, Option, Some, None, Result, Ok, Err, refl, ap, subst}
+use Rattle.std.specs.Prelude.{IfSome}
 use Rattle.map_words.specs.Bytes.{Text, first_bad, is_silent}
 use Rattle.grammar_core.specs.declared.Fault.{Fault}
 use Rattle.grammar_core.specs.Run.{run}
 use Rattle.grammar_core.proofs.FirstFault.{found_so, refused_so}
 use Rattle.statement_parser.specs.declared.refusal.LineRefusal.{LineRefusal}
-use Rattle.statement_parser.specs.declared.refusal.LineRefusal.TheVariants as refusals
 use Rattle.statement_parser.specs.Lines.{Manner, Line, blank}
 use Rattle.statement_parser.specs.Places.{tests}
 use Rattle.statement_parser.specs.Grammar.{line_rule}
-use Rattle.statement_parser.specs.Texts.{seen, is_short, LineText, silent, worded, Refusal, long, syntax, operation, number, RefusedText, too_long, bad_byte, bad_word}
-use Rattle.statement_parser.specs.Parsed.{IsParsed}
+use Rattle.statement_parser.specs.Texts.{seen, is_short, LineText, silent, worded, Refusal, long, RefusedText, too_long, bad_byte, bad_word}
+use Rattle.statement_parser.specs.Parsed.{refusal_view, IsParsed}
 use Rattle.statement_parser.specs.LineOf.{of_words, of_bytes, line_of, IsLineOf, IsLineRead}
 use Rattle.statement_parser.proofs.SoundLines.{healthy_line}
 use Rattle.statement_parser.proofs.Whole.{settled_text}
@@ -55,8 +55,8 @@ line_of_is m bytes = record {
 -- what was parsed is what the program gives
 pub parsed_read : {V : Type 0} (m : Manner) (view : V → Line) (bytes : Text) (r : Result V LineRefusal) → IsParsed m view bytes r → IsLineRead (line_of m bytes) view r
 parsed_read m view bytes (Ok x) h = (line_of_is m bytes).line (view x) h
-parsed_read m view bytes (Err (refusals.Long n)) h = (line_of_is m bytes).refusal (long n) h
-parsed_read m view bytes (Err (refusals.Syntax at)) h = (line_of_is m bytes).refusal (syntax at) h
-parsed_read m view bytes (Err (refusals.Operation at)) h = (line_of_is m bytes).refusal (operation at) h
-parsed_read m view bytes (Err (refusals.Number at)) h = (line_of_is m bytes).refusal (number at) h
-parsed_read m view bytes (Err refusals.NoMemory) h = tt
+parsed_read m view bytes (Err e) h = go (refusal_view e) h
+  where
+    go : (o : Option Refusal) → IfSome o (RefusedText m bytes) → IfSome o (λ r. line_of m bytes ≡ Err r)
+    go (Some r) h = (line_of_is m bytes).refusal r h
+    go None h = tt

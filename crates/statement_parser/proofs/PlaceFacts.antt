@@ -9,7 +9,7 @@ use Rattle.grammar_core.proofs.Reading.{IsPlace}
 use Rattle.map_defs.specs.Ops.{number_term}
 use Rattle.statement_parser.specs.Operations.{operation_named}
 use Rattle.statement_parser.specs.Places.{the, name_of, any_of, value_of, side_of, term_of, cell_of, tests}
-use Rattle.statement_parser.specs.Grammar.{command_named}
+use Rattle.statement_parser.specs.Commands.{command_named}
 use Rattle.statement_parser.specs.declared.operation.Operation.TheVariants.{Local}
 
 -- each takes some word

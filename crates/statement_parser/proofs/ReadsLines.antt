@@ -10,9 +10,11 @@ use Rattle.map_defs.specs.Ops.{Op}
 use Rattle.map_defs.specs.Statements.{plain}
 use Rattle.statement_parser.specs.Lines.{Manner, define, paint, new_layer, drop, ask_value, ask_grid, ask_list, blank, edit, ask, quit}
 use Rattle.statement_parser.specs.Places.{the, name_of, any_of, side_of, cell_of, tests}
-use Rattle.statement_parser.specs.Grammar.{define_rule, paint_rule, new_rule, drop_rule, value_rule, grid_rule, command_named, command_rule, line_rule}
-use Rattle.statement_parser.specs.ReadLocal.{body_at}
-use Rattle.statement_parser.specs.ReadLine.{define_at, corners_at, paint_at, new_at, drop_at, value_at, grid_at, list_at, quit_at, command_at, statement_at, started_at, line_at}
+use Rattle.statement_parser.specs.Commands.{command_named}
+use Rattle.statement_parser.specs.Grammar.{define_rule, paint_rule, new_rule, drop_rule, value_rule, grid_rule, command_rule, line_rule}
+use Rattle.statement_parser.specs.ReadBodies.{body_at}
+use Rattle.statement_parser.specs.ReadLine.{define_at, command_at, statement_at, started_at, line_at, quit_at}
+use Rattle.statement_parser.specs.ReadCommands.{corners_at, paint_at, new_at, drop_at, value_at, grid_at, list_at}
 use Rattle.statement_parser.specs.declared.command.Command.{Command}
 use Rattle.statement_parser.specs.declared.command.Command.TheVariants.{Paint, New, Drop, Value, Grid, List as Listing, Quit}
 use Rattle.statement_parser.proofs.PlaceFacts.{the_place, name_place, any_place, side_place, cell_place, command_place}

@@ -15,7 +15,7 @@ use Rattle.map_defs.specs.Ops.{Term, Op, local_op, difference_op, ratio_op, rati
 use Rattle.statement_parser.specs.Lines.{Manner, Line}
 use Rattle.statement_parser.specs.Operations.{operation_named}
 use Rattle.statement_parser.specs.Places.{the, value_of, term_of, cell_of, tests}
-use Rattle.statement_parser.specs.Bodies.{and_terms, statistic_body, pair_body, to_part, rate_part, with_rates, rating_body, operation_body}
+use Rattle.statement_parser.specs.Bodies.{term_after, further_terms, optional_part, statistic_body, pair_body, rate_part, with_rates, rating_body, operation_body}
 use Rattle.statement_parser.specs.declared.operation.Operation.{Operation}
 use Rattle.statement_parser.specs.declared.operation.Operation.TheVariants.{Local, Difference, Ratio, Rating}
 use Rattle.statement_parser.proofs.PlaceFacts.{term_takes, term_place, value_takes, value_place, cell_takes, cell_place, operation_takes}
@@ -39,27 +39,36 @@ cell_tail r h = tail_next tests cell_of r (codes "null") _ cell_takes cell_place
 
 -- ---- operations
 
-tail_and : (f : List Term → Rule Text Line) (n : ℕ) (ts : List Term) → Tails f → Tail tests (and_terms f n ts)
-tail_and f zero ts h = h ts
-tail_and f (suc n) ts h =
-    tail_also tests (the (codes "and")) (λ _. next term_of (λ t. and_terms f n (ts ++ t ∷ []))) (f ts) (codes "and") tt refl refl
-    (λ u. term_tail (λ t. and_terms f n (ts ++ t ∷ [])) (λ t. (tail_and f n (ts ++ t ∷ []) h).healthy)) (h ts)
+-- a word that no operation is
+abbrev IsFree : Text → Type 0
+IsFree word = the word (codes "LocalSum") ≡ None
+
+tail_after : (word : Text) (f : Term → Rule Text Line) → the word word ≡ Some tt → IsFree word → ((t : Term) → Healthy tests (f t)) → Tail tests (term_after word f)
+tail_after word f same free h = the_tail word _ same free (term_tail f h).healthy
+
+tail_further : (word : Text) (f : List Term → Rule Text Line) (n : ℕ) (ts : List Term) → the word word ≡ Some tt → IsFree word → Tails f → Tail tests (further_terms word f n ts)
+tail_further word f zero ts same free h = h ts
+tail_further word f (suc n) ts same free h =
+    tail_also tests (the word) (λ _. next term_of (λ t. further_terms word f n (ts ++ t ∷ []))) (f ts) word tt same free
+    (λ u. term_tail (λ t. further_terms word f n (ts ++ t ∷ [])) (λ t. (tail_further word f n (ts ++ t ∷ []) same free h).healthy)) (h ts)
+
+tail_optional : {A : Type 0} (word : Text) (place : Text → Option A) (default : A) (f : A → Rule Text Line) → the word word ≡ Some tt → IsFree word → Tail tests (next place f) → Tail tests (f default)
+    → Tail tests (optional_part word place default f)
+tail_optional word place default f same free there left_out = tail_also tests (the word) (λ _. next place f) (f default) word tt same free (λ u. there) left_out
 
 tail_statistic : (s : Stat) (f : Op → Rule Text Line) → Tails f → Tail tests (statistic_body s f)
 tail_statistic s f h =
-    the_tail (codes "of") _ refl refl (term_tail _ (λ a. (the_tail (codes "and") _ refl refl (term_tail _ (λ b.
-    (tail_and (λ ts. f (local_op s ts)) 6 (a ∷ b ∷ []) (λ ts. h (local_op s ts))).healthy)).healthy).healthy)).healthy
+    tail_after (codes "of") _ refl refl (λ a. (tail_after (codes "and") _ refl refl (λ b.
+    (tail_further (codes "and") (λ ts. f (local_op s ts)) 6 (a ∷ b ∷ []) refl refl (λ ts. h (local_op s ts))).healthy)).healthy)
 
-tail_pair : (make : Term → Term → Op) (f : Op → Rule Text Line) → Tails f → Tail tests (pair_body make f)
-tail_pair make f h = the_tail (codes "of") _ refl refl (term_tail _ (λ a. (the_tail (codes "and") _ refl refl (term_tail _ (λ b. (h (make a b)).healthy)).healthy).healthy)).healthy
-
-tail_to : (f : Rate → Rule Text Line) (give : Option ℤ) (low : ℤ) → Tails f → Tail tests (to_part f give low)
-tail_to f give low h =
-    tail_also tests (the (codes "to")) (λ _. next value_of (λ high. f (record { low = low; high = high; give = give }))) (f (record { low = low; high = low; give = give })) (codes "to") tt refl refl
-    (λ u. value_tail (λ high. f (record { low = low; high = high; give = give })) (λ high. (h (record { low = low; high = high; give = give })).healthy)) (h (record { low = low; high = low; give = give }))
+tail_pair : (word : Text) (make : Term → Term → Op) (f : Op → Rule Text Line) → the word word ≡ Some tt → IsFree word → Tails f → Tail tests (pair_body word make f)
+tail_pair word make f same free h = tail_after (codes "of") _ refl refl (λ a. (tail_after word _ same free (λ b. (h (make a b)).healthy)).healthy)
 
 tail_rate : (f : Rate → Rule Text Line) → Tails f → Tail tests (rate_part f)
-tail_rate f h = cell_tail _ (λ give. (the_tail (codes "for") _ refl refl (value_tail (to_part f give) (λ low. (tail_to f give low h).healthy)).healthy).healthy)
+tail_rate f h =
+    let made = λ (give : Option ℤ) (low high : ℤ). let x : Rate = record { low = low; high = high; give = give } in x in
+    let range = λ (give : Option ℤ) (low : ℤ). tail_optional (codes "to") value_of low (λ high. f (made give low high)) refl refl (value_tail (λ high. f (made give low high)) (λ high. (h (made give low high)).healthy)) (h (made give low low)) in
+    cell_tail _ (λ give. (the_tail (codes "for") _ refl refl (value_tail _ (λ low. (range give low).healthy)).healthy).healthy)
 
 tail_with : (f : List Rate → Rule Text Line) (n : ℕ) (rs : List Rate) → Tails f → Tail tests (with_rates f n rs)
 tail_with f zero rs h = h rs
@@ -69,13 +78,13 @@ tail_with f (suc n) rs h =
 
 tail_rating : (f : Op → Rule Text Line) → Tails f → Tail tests (rating_body f)
 tail_rating f h =
-    the_tail (codes "of") _ refl refl (term_tail _ (λ a. (the_tail (codes "with") _ refl refl (tail_rate _ (λ r.
-    tail_with (λ rs. f (rating_op a rs)) 31 (r ∷ []) (λ rs. h (rating_op a rs)))).healthy).healthy)).healthy
+    tail_after (codes "of") _ refl refl (λ a. (the_tail (codes "with") _ refl refl (tail_rate _ (λ r.
+    tail_with (λ rs. f (rating_op a rs)) 31 (r ∷ []) (λ rs. h (rating_op a rs)))).healthy).healthy)
 
 pub tail_operation : (m : Manner) (f : Op → Rule Text Line) → Tails f → (o : Operation) → Tail tests (operation_body m f o)
 tail_operation m f h (Local s) = tail_statistic s f h
-tail_operation m f h Difference = tail_pair difference_op f h
-tail_operation m f h Ratio = tail_pair ratio_op f h
+tail_operation m f h Difference = tail_pair (codes "and") difference_op f refl refl h
+tail_operation m f h Ratio = tail_pair (codes "and") ratio_op f refl refl h
 tail_operation m f h Rating = tail_rating f h
 
 -- ---- bodies

@@ -7,7 +7,8 @@ use Rattle.grammar_core.proofs.Parts.{Healthy, NoBody, healthy_next, healthy_end
 use Rattle.map_defs.specs.Statements.{plain}
 use Rattle.statement_parser.specs.Lines.{Manner, define, paint, new_layer, drop, ask_value, ask_grid, ask_list, Line, blank, edit, ask, quit}
 use Rattle.statement_parser.specs.Places.{name_of, any_of, side_of, tests}
-use Rattle.statement_parser.specs.Grammar.{define_rule, command_named, command_rule, line_rule}
+use Rattle.statement_parser.specs.Commands.{command_named}
+use Rattle.statement_parser.specs.Grammar.{define_rule, command_rule, line_rule}
 use Rattle.statement_parser.specs.declared.command.Command.{Command}
 use Rattle.statement_parser.specs.declared.command.Command.TheVariants.{Paint, New, Drop, Value, Grid, List as Listing, Quit}
 use Rattle.statement_parser.proofs.PlaceFacts.{name_takes, name_place, any_takes, any_place, side_takes, side_place, command_place}

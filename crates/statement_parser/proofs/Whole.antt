@@ -1,6 +1,6 @@
 -- What reading words and bytes answers, by the grammar.
 use Rattle.std.proofs.Common.{◌≡◌, ◌⊎◌, inl, inr, ℕ, ◌-◌, ◌<◌, ◌≤◌, take, drop, arith, length-drop, Bool, true, false, List, [], ◌∷◌, map, length, Option, Some, None, Result, Ok, Err, refl, sym, ap, subst, ◌∙◌}
-use Rattle.std.specs.Prelude.{nat_le}
+use Rattle.std.specs.Prelude.{nat_le, IfSome}
 use Rattle.std.proofs.lemmas.Bool.Decides.{nat_tests}
 use Rattle.map_words.specs.Bytes.{Text, first_bad, is_silent}
 use Rattle.map_words.specs.Words.{Placed, words_of, text_of}
@@ -9,7 +9,6 @@ use Rattle.std.proofs.lemmas.List.{drop-map, length-map}
 use Rattle.map_words.specs.Cut.{placed, placed_all}
 use Rattle.map_words.specs.declared.cutting.Word.{Word}
 use Rattle.grammar_core.specs.declared.Kind.{Kind}
-use Rattle.grammar_core.specs.declared.Kind.TheVariants.{Syntax, Number, Operation}
 use Rattle.grammar_core.specs.declared.Fault.{Fault}
 use Rattle.grammar_core.specs.Refusals.{IsRefusedAt}
 use Rattle.grammar_core.specs.Run.{run}
@@ -24,8 +23,9 @@ use Rattle.statement_parser.specs.Grammar.{line_rule, IsLine}
 use Rattle.statement_parser.specs.Gives.{Gives}
 use Rattle.statement_parser.specs.ReadLine.{line_at}
 use Rattle.statement_parser.specs.Views.{texts_of}
-use Rattle.statement_parser.specs.Texts.{seen, column, first_column, column_among, is_short, LineText, silent, worded, Refusal, long, syntax, refusal_of, RefusedText, too_long, bad_byte, bad_word, IsSettledText}
-use Rattle.statement_parser.specs.Parsed.{IsWordsRead, IsParsed, IsRefusalAt}
+use Rattle.statement_parser.specs.Texts.{seen, is_short, LineText, silent, worded, Refusal, long, syntax, refusal_of, RefusedText, too_long, bad_byte, bad_word, IsSettledText}
+use Rattle.statement_parser.specs.Columns.{column, first_column, column_among}
+use Rattle.statement_parser.specs.Parsed.{IsWordsRead, refusal_view, IsParsed}
 use Rattle.statement_parser.proofs.SoundLines.{healthy_line}
 use Rattle.statement_parser.proofs.ReadsLines.{line_reads}
 
@@ -64,10 +64,9 @@ module _ (m : Manner) (bytes : Text) (ws : List Word) (short : is_short bytes �
   refused_is : (k : Kind) (left : ℕ) → IsRefusedAt tests (line_rule m) (texts_of ws) k left → RefusedText m bytes (refusal_of k (column_among (length bytes) (placed_all ws) left))
   refused_is k left d = subst (λ (ps : List Placed). RefusedText m bytes (refusal_of k (column_among (length bytes) ps left))) (sym cut) (bad_word k left short spoken good (subst (λ ts. IsRefusedAt tests (line_rule m) ts k left) same d))
 
-  pub refusal_is : {V : Type 0} (view : V → Line) (k : Kind) (left : ℕ) (r : LineRefusal) → IsRefusedAt tests (line_rule m) (texts_of ws) k left → IsRefusalAt k (column_among (length bytes) (placed_all ws) left) r → IsParsed m view bytes (Err r)
-  refusal_is view Syntax left r d e = subst (λ (s : LineRefusal). IsParsed m view bytes (Err s)) (sym e) (refused_is Syntax left d)
-  refusal_is view Operation left r d e = subst (λ (s : LineRefusal). IsParsed m view bytes (Err s)) (sym e) (refused_is Operation left d)
-  refusal_is view Number left r d e = subst (λ (s : LineRefusal). IsParsed m view bytes (Err s)) (sym e) (refused_is Number left d)
+  pub refusal_is : {V : Type 0} (view : V → Line) (k : Kind) (left : ℕ) (r : LineRefusal) → IsRefusedAt tests (line_rule m) (texts_of ws) k left
+      → refusal_view r ≡ Some (refusal_of k (column_among (length bytes) (placed_all ws) left)) → IsParsed m view bytes (Err r)
+  refusal_is view k left r d e = subst (λ o. IfSome o (RefusedText m bytes)) (sym e) (refused_is k left d)
 
 -- ---- lines and refusals of bytes
 

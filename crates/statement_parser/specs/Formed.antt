@@ -1,7 +1,8 @@
 -- What every line that is read keeps: names, ranges and counts.
-use Rattle.std.specs.Prelude.{ℕ, ℤ, ◌≤◌, ◌||◌, List, [], ◌∷◌, length, Option, IsTrue, IfSome}
+use Rattle.std.specs.Prelude.{ℕ, ◌≤◌, ◌||◌, List, [], ◌∷◌, length, IsTrue}
 use Rattle.map_nums.specs.declared.Rate.{Rate}
 use Rattle.map_nums.specs.Numbers.{is_value}
+use Rattle.layer_tiles.specs.Cells.{IsCell}
 use Rattle.map_words.specs.Bytes.{Text}
 use Rattle.map_words.specs.Names.{is_plain, is_dotted}
 use Rattle.map_defs.specs.Ops.{Term, layer_term, number_term, Op, local_op, difference_op, ratio_op, rating_op}
@@ -15,9 +16,6 @@ Each P (x ∷ xs) = P x × Each P xs
 abbrev pub IsTerm : Term → Type 0
 IsTerm (layer_term n) = IsTrue (is_plain n)
 IsTerm (number_term z) = IsTrue (is_value z)
-
-abbrev pub IsCell : Option ℤ → Type 0
-IsCell c = IfSome c (λ z. IsTrue (is_value z))
 
 pub record IsRate (r : Rate) : Type 0 where
   pub low : IsTrue (is_value r.low)

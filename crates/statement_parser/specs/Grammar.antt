@@ -1,10 +1,11 @@
 -- The grammar of lines.
-use Rattle.std.specs.Prelude.{List, [], ◌∷◌, Option, Some, codes}
+use Rattle.std.specs.Prelude.{List, Some, codes}
 use Rattle.map_words.specs.Bytes.{Text}
 use Rattle.grammar_core.specs.Rules.{Rule, Derives, node, ends, on, next, ◌<|>◌}
 use Rattle.map_defs.specs.Statements.{Written, plain}
 use Rattle.statement_parser.specs.Lines.{Manner, define, paint, new_layer, drop, ask_value, ask_grid, ask_list, Line, blank, edit, ask, quit}
-use Rattle.statement_parser.specs.Operations.{lookup, operation_named}
+use Rattle.statement_parser.specs.Operations.{operation_named}
+use Rattle.statement_parser.specs.Commands.{command_named}
 use Rattle.statement_parser.specs.Places.{the, name_of, any_of, side_of, cell_of}
 use Rattle.statement_parser.specs.Bodies.{operation_body}
 use Rattle.statement_parser.specs.declared.command.Command.{Command}
@@ -40,14 +41,7 @@ value_rule = next any_of (λ n. next side_of (λ r. next side_of (λ c. ends (as
 abbrev pub grid_rule : Rule Text Line
 grid_rule = next any_of (λ n. ends (ask (ask_grid n)))
 
--- the lines that begin with a word of their own
-abbrev pub commands : List (Text × Command)
-commands =
-    (codes "paint", Paint) ∷ (codes "new", New) ∷ (codes "drop", Drop) ∷ (codes "value", Value) ∷ (codes "grid", Grid) ∷ (codes "list", Listing) ∷ (codes "quit", Quit) ∷ []
-
-unfoldable pub command_named : Text → Option Command
-command_named t = lookup commands t
-
+-- what follows the word of each command
 abbrev pub command_rule : Command → Rule Text Line
 command_rule Paint = paint_rule
 command_rule New = new_rule

@@ -1,12 +1,13 @@
 -- What the bytes of a line are, as a program: the one line, or the one refusal.
-use Rattle.std.specs.Prelude.{◌≡◌, ℕ, length, Option, Some, None, Result, Ok, Err, if◌then◌else◌}
+use Rattle.std.specs.Prelude.{◌≡◌, ℕ, length, Option, Some, None, IfSome, Result, Ok, Err, if◌then◌else◌}
 use Rattle.map_words.specs.Bytes.{Text, first_bad, is_silent}
 use Rattle.grammar_core.specs.declared.Fault.{Fault}
 use Rattle.grammar_core.specs.Run.{run}
 use Rattle.statement_parser.specs.Lines.{Manner, Line, blank}
 use Rattle.statement_parser.specs.declared.refusal.LineRefusal.{LineRefusal}
-use Rattle.statement_parser.specs.declared.refusal.LineRefusal.TheVariants as refusals
-use Rattle.statement_parser.specs.Texts.{is_short, seen, column, LineText, Refusal, long, syntax, operation, number, refusal_of, RefusedText}
+use Rattle.statement_parser.specs.Texts.{is_short, seen, LineText, Refusal, long, syntax, refusal_of, RefusedText}
+use Rattle.statement_parser.specs.Columns.{column}
+use Rattle.statement_parser.specs.Parsed.{refusal_view}
 use Rattle.statement_parser.specs.Places.{tests}
 use Rattle.statement_parser.specs.Grammar.{line_rule}
 
@@ -31,8 +32,4 @@ pub record IsLineOf (m : Manner) (bytes : Text) : Type 0 where
 -- what reading answers is what the program gives; want of memory is free
 abbrev pub IsLineRead : {V : Type 0} → Result Line Refusal → (V → Line) → Result V LineRefusal → Type 0
 IsLineRead read view (Ok x) = read ≡ Ok (view x)
-IsLineRead read view (Err (refusals.Long n)) = read ≡ Err (long n)
-IsLineRead read view (Err (refusals.Syntax at)) = read ≡ Err (syntax at)
-IsLineRead read view (Err (refusals.Operation at)) = read ≡ Err (operation at)
-IsLineRead read view (Err (refusals.Number at)) = read ≡ Err (number at)
-IsLineRead read view (Err refusals.NoMemory) = Unit {0}
+IsLineRead read view (Err e) = IfSome (refusal_view e) (λ r. read ≡ Err r)

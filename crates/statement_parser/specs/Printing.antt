@@ -4,7 +4,7 @@ use Rattle.map_words.specs.Bytes.{Text}
 use Rattle.map_words.specs.Names.{is_plain}
 use Rattle.map_defs.specs.Statements.{Written}
 use Rattle.statement_parser.specs.Lines.{Manner, define, edit}
-use Rattle.statement_parser.specs.Canonical.{spaced}
+use Rattle.statement_parser.specs.Spacing.{spaced}
 use Rattle.statement_parser.specs.Formed.{IsWritten}
 use Rattle.statement_parser.specs.Texts.{is_short, LineText}
 

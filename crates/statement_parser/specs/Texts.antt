@@ -1,29 +1,18 @@
 -- The bytes of lines: which line they are, or how they are refused.
-use Rattle.std.specs.Prelude.{◌≡◌, ◌⊎◌, ℕ, suc, ◌-◌, nat_le, Bool, true, false, List, [], ◌∷◌, map, length, drop, Some, None}
+use Rattle.std.specs.Prelude.{◌≡◌, ◌⊎◌, ℕ, nat_le, Bool, true, false, List, map, length, Some, None}
 use Rattle.map_words.specs.Bytes.{Text, first_bad, is_silent}
-use Rattle.map_words.specs.Words.{Placed, words_of, text_of}
+use Rattle.map_words.specs.Words.{words_of, text_of}
 use Rattle.grammar_core.specs.declared.Kind.{Kind}
 use Rattle.grammar_core.specs.declared.Kind.TheVariants.{Syntax, Number, Operation}
 use Rattle.grammar_core.specs.Refusals.{IsRefusedAt}
 use Rattle.statement_parser.specs.Lines.{Manner, Line, blank}
 use Rattle.statement_parser.specs.Places.{tests}
+use Rattle.statement_parser.specs.Columns.{column}
 use Rattle.statement_parser.specs.Grammar.{line_rule, IsLine}
 
 -- the texts of a line's words
 abbrev pub seen : Text → List Text
 seen bytes = map text_of (words_of bytes)
-
--- the column of the first word, or the one after the line's last byte
-abbrev pub first_column : ℕ → List Placed → ℕ
-first_column len [] = suc len
-first_column len (w ∷ ws) = w.at
-
--- the column of the first of the last n words; the length plus 1 for none
-abbrev pub column_among : ℕ → List Placed → ℕ → ℕ
-column_among len ws n = first_column len (drop (length ws - n) ws)
-
-abbrev pub column : Text → ℕ → ℕ
-column bytes n = column_among (length bytes) (words_of bytes) n
 
 -- a line has at most 4,096 bytes
 abbrev pub is_short : Text → Bool

@@ -1,7 +1,7 @@
 //! The words that lines begin with, but for names.
 
-ghost use Rattle.std.specs.Prelude.{◌≡◌};
-ghost use Rattle.statement_parser.specs.Grammar.{command_named as command_of_name};
+ghost use Rattle.std.specs.Prelude.{◌≡◌, find, bytes_eq};
+ghost use Rattle.statement_parser.specs.Commands.{command_text, command_named as command_of_name};
 
 /// A line that begins with a word of its own.
 #[derive(Clone, Copy, Debug, PartialEq, Eq)]
@@ -15,31 +15,46 @@ pub enum Command {
     Quit,
 }
 
+/// All commands.
+const COMMANDS: [Command; 7] = [
+    Command::Paint,
+    Command::New,
+    Command::Drop,
+    Command::Value,
+    Command::Grid,
+    Command::List,
+    Command::Quit,
+];
+
+/// The word of a command.
+fn command_word(command: Command) -> &'static [u8]
+    ensures { result.now ≡ command_text command }
+{
+    match command {
+        Command::Paint => b"paint",
+        Command::New => b"new",
+        Command::Drop => b"drop",
+        Command::Value => b"value",
+        Command::Grid => b"grid",
+        Command::List => b"list",
+        Command::Quit => b"quit",
+    }
+}
+
+/// The first of these commands that has this word.
+fn named_among(commands: &[Command], word: &[u8]) -> Option<Command>
+    ensures { result ≡ find (λ c. bytes_eq (command_text c) word.now) commands.now }
+{
+    commands
+        .iter()
+        .copied()
+        .find(|command| command_word(*command) == word)
+}
+
 /// The command of a word.
-#[tactic(auto, unfolding(crate::specs::Grammar::command_named))]
+#[tactic(auto, unfolding(crate::specs::Commands::command_named))]
 pub fn command_named(word: &[u8]) -> Option<Command>
     ensures { result ≡ command_of_name word.now }
 {
-    if word == b"paint".as_slice() {
-        return Some(Command::Paint);
-    }
-    if word == b"new".as_slice() {
-        return Some(Command::New);
-    }
-    if word == b"drop".as_slice() {
-        return Some(Command::Drop);
-    }
-    if word == b"value".as_slice() {
-        return Some(Command::Value);
-    }
-    if word == b"grid".as_slice() {
-        return Some(Command::Grid);
-    }
-    if word == b"list".as_slice() {
-        return Some(Command::List);
-    }
-    if word == b"quit".as_slice() {
-        return Some(Command::Quit);
-    }
-    None
+    named_among(&COMMANDS, word)
 }

@@ -3,12 +3,12 @@
 //! [`parse_line`] gives the [`Line`] that a line of bytes is, or the first fault.
 #![tactic(auto)]
 
+mod bodies;
 mod command;
 mod fault;
 mod laws;
 mod line;
 mod line_text;
-mod local;
 mod op;
 mod operation;
 mod parsing;

@@ -1,14 +1,15 @@
 //! Reading the bytes of a line.
 
-ghost use Rattle.std.specs.Prelude.{◌≡◌, ◌<◌, ◌≤◌, ◌^◌, true, false, None, IfOk};
+ghost use Rattle.std.specs.Prelude.{◌≡◌, ◌<◌, ◌≤◌, ◌^◌, true, false, None, Some, IfOk};
 ghost use Rattle.map_words.specs.Bytes.{first_bad, is_silent as is_silent_text};
 ghost use Rattle.map_words.specs.Words.{words_of};
 ghost use Rattle.map_words.specs.Cut.{placed_all};
 ghost use Rattle.statement_parser.specs.LineOf.{line_of, IsLineRead};
 ghost use Rattle.statement_parser.specs.Lines.{first_language};
-ghost use Rattle.statement_parser.specs.Texts.{first_column as first_column_of, column_among, is_short};
+ghost use Rattle.statement_parser.specs.Texts.{is_short, refusal_of};
+ghost use Rattle.statement_parser.specs.Columns.{first_column as first_column_of, column_among};
 ghost use Rattle.statement_parser.specs.Formed.{IsFormed};
-ghost use Rattle.statement_parser.specs.Parsed.{IsParsed, IsRefusalAt};
+ghost use Rattle.statement_parser.specs.Parsed.{IsParsed, refusal_view};
 ghost use Rattle.statement_parser.specs.Views.{line_view};
 
 use crate::fault::ReadError;
@@ -45,7 +46,7 @@ fn column(len: usize, words: &[Word<'_>], left: usize) -> u32
 /// The refusal of a fault.
 fn refusal(len: usize, words: &[Word<'_>], fault: Fault) -> LineRefusal
     requires { len ≤ 4096 }
-    ensures { IsRefusalAt fault.kind (column_among len (placed_all words.now) fault.left) result }
+    ensures { refusal_view result ≡ Some (refusal_of fault.kind (column_among len (placed_all words.now) fault.left)) }
 {
     let at = column(len, words, fault.left);
     match fault.kind {

@@ -5,12 +5,13 @@ ghost use Rattle.statement_parser.specs.Views.{texts_of, line_view};
 ghost use Rattle.statement_parser.specs.Gives.{Gives};
 ghost use Rattle.statement_parser.specs.Lines.{first_language};
 ghost use Rattle.statement_parser.specs.Parsed.{IsWordsRead};
-ghost use Rattle.statement_parser.specs.ReadLine.{define_at, corners_at, paint_at, new_at, drop_at, value_at, grid_at, list_at, quit_at, line_at};
+ghost use Rattle.statement_parser.specs.ReadLine.{define_at, line_at, quit_at};
+ghost use Rattle.statement_parser.specs.ReadCommands.{corners_at, paint_at, new_at, drop_at, value_at, grid_at, list_at};
 
+use crate::bodies::body;
 use crate::command::{Command, command_named};
 use crate::fault::ReadError;
 use crate::line::{Line, LineEdit, Request, Written};
-use crate::local::body;
 use crate::places::{any, cell, end, misfit, name, side, the};
 use map_words::{Name, NameRefusal, Word};
 use std::alloc::Global;
@@ -35,7 +36,7 @@ struct Rectangle {
     c2: u32,
 }
 
-#[tactic(auto, unfolding(crate::specs::ReadLine::corners_at))]
+#[tactic(auto, unfolding(crate::specs::ReadCommands::corners_at))]
 fn corners<'t, 'a>(words: &'t [Word<'a>]) -> Result<(Rectangle, &'t [Word<'a>]), ReadError>
     ensures { Gives (λ x. ((x.0.r1, x.0.c1, x.0.r2, x.0.c2), texts_of x.1.now)) result (corners_at (texts_of words.now)) }
 {
@@ -46,7 +47,7 @@ fn corners<'t, 'a>(words: &'t [Word<'a>]) -> Result<(Rectangle, &'t [Word<'a>]),
     Ok((Rectangle { r1, c1, r2, c2 }, rest))
 }
 
-#[tactic(auto, unfolding(crate::specs::ReadLine::paint_at))]
+#[tactic(auto, unfolding(crate::specs::ReadCommands::paint_at))]
 fn paint(alloc: Global, words: &[Word<'_>]) -> Result<Line, ReadError>
     ensures { Gives line_view result (paint_at (texts_of words.now)) }
 {
@@ -68,7 +69,7 @@ fn paint(alloc: Global, words: &[Word<'_>]) -> Result<Line, ReadError>
     }
 }
 
-#[tactic(auto, unfolding(crate::specs::ReadLine::new_at))]
+#[tactic(auto, unfolding(crate::specs::ReadCommands::new_at))]
 fn new_layer(alloc: Global, words: &[Word<'_>]) -> Result<Line, ReadError>
     ensures { Gives line_view result (new_at (texts_of words.now)) }
 {
@@ -82,7 +83,7 @@ fn new_layer(alloc: Global, words: &[Word<'_>]) -> Result<Line, ReadError>
     }
 }
 
-#[tactic(auto, unfolding(crate::specs::ReadLine::drop_at))]
+#[tactic(auto, unfolding(crate::specs::ReadCommands::drop_at))]
 fn drop_line(alloc: Global, words: &[Word<'_>]) -> Result<Line, ReadError>
     ensures { Gives line_view result (drop_at (texts_of words.now)) }
 {
@@ -91,7 +92,7 @@ fn drop_line(alloc: Global, words: &[Word<'_>]) -> Result<Line, ReadError>
     Ok(Line::Edit(LineEdit::Drop { name }))
 }
 
-#[tactic(auto, unfolding(crate::specs::ReadLine::value_at))]
+#[tactic(auto, unfolding(crate::specs::ReadCommands::value_at))]
 fn value(alloc: Global, words: &[Word<'_>]) -> Result<Line, ReadError>
     ensures { Gives line_view result (value_at (texts_of words.now)) }
 {
@@ -102,7 +103,7 @@ fn value(alloc: Global, words: &[Word<'_>]) -> Result<Line, ReadError>
     Ok(Line::Ask(Request::Value { name, r, c }))
 }
 
-#[tactic(auto, unfolding(crate::specs::ReadLine::grid_at))]
+#[tactic(auto, unfolding(crate::specs::ReadCommands::grid_at))]
 fn grid(alloc: Global, words: &[Word<'_>]) -> Result<Line, ReadError>
     ensures { Gives line_view result (grid_at (texts_of words.now)) }
 {
@@ -111,7 +112,7 @@ fn grid(alloc: Global, words: &[Word<'_>]) -> Result<Line, ReadError>
     Ok(Line::Ask(Request::Grid(name)))
 }
 
-#[tactic(auto, unfolding(crate::specs::ReadLine::list_at))]
+#[tactic(auto, unfolding(crate::specs::ReadCommands::list_at))]
 fn list(words: &[Word<'_>]) -> Result<Line, ReadError>
     ensures { Gives line_view result (list_at (texts_of words.now)) }
 {

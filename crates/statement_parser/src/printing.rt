@@ -3,11 +3,15 @@
 ghost use Rattle.std.specs.Prelude.{◌≡◌, ◌∷◌, [], IfOk, Some, map, codes};
 ghost use Rattle.std.specs.Fmt.{signed_decimal};
 ghost use Rattle.statement_parser.specs.Views.{term_view, terms_view, op_view, written_view};
-ghost use Rattle.statement_parser.specs.Canonical.{term_text, cell_text, stat_text, terms_after, terms_texts, to_texts, rate_texts, rates_texts, op_texts, written_tail, written_text};
+ghost use Rattle.statement_parser.specs.Canonical.{cell_text, optional_texts, rate_texts, rates_texts, pair_texts, op_texts, written_tail, written_text};
+ghost use Rattle.statement_parser.specs.TermTexts.{term_text, terms_after, terms_texts};
+ghost use Rattle.statement_parser.specs.Operations.{operation_text};
+ghost use Rattle.statement_parser.specs.declared.operation.Operation.TheVariants.{Local};
 ghost use Rattle.statement_parser.specs.Printing.{Adds, ReadsBack};
 
 use crate::line::Written;
 use crate::op::{Op, Term};
+use crate::operation::{Operation, operation_name};
 use itoa::Buffer;
 use map_nums::{NoMemory, Rate, Stat, Value};
 use map_words::Name;
@@ -74,15 +78,20 @@ fn terms(text: &mut Vec<u8>, terms: &[Term]) -> Result<(), AllocError>
     }
 }
 
-/// The end of a range, where it is not its begin.
-fn range_end(text: &mut Vec<u8>, low: Value, high: Value) -> Result<(), AllocError>
-    ensures { IfOk result (λ _. Adds text.old.items text.new.items (to_texts low high)) }
+/// A word and a number, where the number is not the default.
+fn optional_number(
+    text: &mut Vec<u8>,
+    name: &[u8],
+    default: Value,
+    value: Value,
+) -> Result<(), AllocError>
+    ensures { IfOk result (λ _. Adds text.old.items text.new.items (optional_texts name.now default value)) }
 {
-    if high == low {
+    if value == default {
         return Ok(());
     }
-    word(text, b"to")?;
-    number(text, high)
+    word(text, name)?;
+    number(text, value)
 }
 
 fn rate(text: &mut Vec<u8>, rate: &Rate) -> Result<(), AllocError>
@@ -92,7 +101,7 @@ fn rate(text: &mut Vec<u8>, rate: &Rate) -> Result<(), AllocError>
     cell(text, rate.give)?;
     word(text, b"for")?;
     number(text, rate.low)?;
-    range_end(text, rate.low, rate.high)
+    optional_number(text, b"to", rate.low, rate.high)
 }
 
 fn rates(text: &mut Vec<u8>, rates: &[Rate]) -> Result<(), AllocError>
@@ -107,23 +116,6 @@ fn rates(text: &mut Vec<u8>, rates: &[Rate]) -> Result<(), AllocError>
     }
 }
 
-/// The name of a statistic.
-fn stat_name(stat: Stat) -> &'static [u8]
-    ensures { result.now ≡ stat_text stat }
-{
-    match stat {
-        Stat::Sum => b"LocalSum",
-        Stat::Product => b"LocalProduct",
-        Stat::Maximum => b"LocalMaximum",
-        Stat::Minimum => b"LocalMinimum",
-        Stat::Mean => b"LocalMean",
-        Stat::Median => b"LocalMedian",
-        Stat::Majority => b"LocalMajority",
-        Stat::Minority => b"LocalMinority",
-        Stat::Variety => b"LocalVariety",
-    }
-}
-
 /// An operation's name, `of` and a term.
 fn begin(text: &mut Vec<u8>, name: &[u8], of: &Term) -> Result<(), AllocError>
     ensures { IfOk result (λ _. Adds text.old.items text.new.items (name.now ∷ codes "of" ∷ term_text (term_view of.now) ∷ [])) }
@@ -133,27 +125,33 @@ fn begin(text: &mut Vec<u8>, name: &[u8], of: &Term) -> Result<(), AllocError>
     term(text, of)
 }
 
-/// An operation's name, `of`, a term, `and` and a term.
-fn pair(text: &mut Vec<u8>, name: &[u8], left: &Term, right: &Term) -> Result<(), AllocError>
-    ensures { IfOk result (λ _. Adds text.old.items text.new.items (name.now ∷ codes "of" ∷ term_text (term_view left.now) ∷ codes "and" ∷ term_text (term_view right.now) ∷ [])) }
+/// An operation's name, `of`, a term, a word and a term.
+fn pair(
+    text: &mut Vec<u8>,
+    name: &[u8],
+    between: &[u8],
+    left: &Term,
+    right: &Term,
+) -> Result<(), AllocError>
+    ensures { IfOk result (λ _. Adds text.old.items text.new.items (pair_texts name.now between.now (term_view left.now) (term_view right.now))) }
 {
     begin(text, name, left)?;
-    word(text, b"and")?;
+    word(text, between)?;
     term(text, right)
 }
 
 fn statistic(text: &mut Vec<u8>, stat: Stat, given: &[Term]) -> Result<(), AllocError>
-    ensures { IfOk result (λ _. Adds text.old.items text.new.items (stat_text stat ∷ codes "of" ∷ terms_texts (terms_view given.now))) }
+    ensures { IfOk result (λ _. Adds text.old.items text.new.items (operation_text (Local stat) ∷ codes "of" ∷ terms_texts (terms_view given.now))) }
 {
-    word(text, stat_name(stat))?;
+    word(text, operation_name(Operation::Local(stat)))?;
     word(text, b"of")?;
     terms(text, given)
 }
 
-fn rating(text: &mut Vec<u8>, of: &Term, given: &[Rate]) -> Result<(), AllocError>
-    ensures { IfOk result (λ _. Adds text.old.items text.new.items (codes "LocalRating" ∷ codes "of" ∷ term_text (term_view of.now) ∷ rates_texts given.now)) }
+fn rating(text: &mut Vec<u8>, name: &[u8], of: &Term, given: &[Rate]) -> Result<(), AllocError>
+    ensures { IfOk result (λ _. Adds text.old.items text.new.items (name.now ∷ codes "of" ∷ term_text (term_view of.now) ∷ rates_texts given.now)) }
 {
-    begin(text, b"LocalRating", of)?;
+    begin(text, name, of)?;
     rates(text, given)
 }
 
@@ -162,9 +160,18 @@ fn op(text: &mut Vec<u8>, op: &Op) -> Result<(), AllocError>
 {
     match op {
         Op::Local { stat, terms } => statistic(text, *stat, terms.as_slice()),
-        Op::Difference { left, right } => pair(text, b"LocalDifference", left, right),
-        Op::Ratio { left, right } => pair(text, b"LocalRatio", left, right),
-        Op::Rating { of, rates } => rating(text, of, rates.as_slice()),
+        Op::Difference { left, right } => {
+            let name = operation_name(Operation::Difference);
+            pair(text, name, b"and", left, right)
+        }
+        Op::Ratio { left, right } => {
+            let name = operation_name(Operation::Ratio);
+            pair(text, name, b"and", left, right)
+        }
+        Op::Rating { of, rates } => {
+            let name = operation_name(Operation::Rating);
+            rating(text, name, of, rates.as_slice())
+        }
     }
 }
 

@@ -1,6 +1,6 @@
 use Rattle.std.proofs.Common.{◌-◌, length, take, drop, ap, ◌∙◌}
 use Rattle.map_words.specs.Cut.{placed_all}
-use Rattle.statement_parser.specs.Texts.{first_column}
+use Rattle.statement_parser.specs.Columns.{first_column}
 use Rattle.statement_parser.proofs.Whole.{column_is}
 use Rattle.statement_parser.proofs.line_text.column.Goals as goal
 

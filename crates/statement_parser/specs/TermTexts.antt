@@ -1,0 +1,18 @@
+-- The texts of terms.
+use Rattle.std.specs.Prelude.{List, [], ◌∷◌, codes}
+use Rattle.std.specs.Fmt.{signed_decimal}
+use Rattle.map_words.specs.Bytes.{Text}
+use Rattle.map_defs.specs.Ops.{Term, layer_term, number_term}
+
+abbrev pub term_text : Term → Text
+term_text (layer_term n) = n
+term_text (number_term z) = signed_decimal z
+
+-- the terms with a word before each
+abbrev pub terms_after : Text → List Term → List Text
+terms_after word [] = []
+terms_after word (t ∷ ts) = word ∷ term_text t ∷ terms_after word ts
+
+abbrev pub terms_texts : List Term → List Text
+terms_texts [] = []
+terms_texts (t ∷ ts) = term_text t ∷ terms_after (codes "and") ts
