@@ -2,11 +2,12 @@
 use Rattle.std.proofs.Common.{◌≡◌, ℕ, suc, ◌+◌, ◌≤◌, Bool, true, false, cond, not, List, [], ◌∷◌, ◌++◌, map, find, length, ◌-◌, count_by, Option, Some, None, is_some, option_map, bytes_eq, refl, sym, ap, subst, ◌∙◌, arith}
 use Rattle.std.proofs.lemmas.List.Sums.{sum_by-cons, sum_by-append}
 use Rattle.map_defs.specs.Ops.{Name, Op}
-use Rattle.map_defs.specs.Statements.{Flat}
-use Rattle.statement_parser.specs.Lines as lines
-use Rattle.statement_parser.specs.Lines.{Written}
-use Rattle.statement_parser.specs.ToOps.{to_op}
-use Rattle.statement_parser.specs.Views.{written_view}
+use Rattle.map_defs.specs.Statements.{Flat, Written, plain, call}
+use Rattle.statement_parser.specs.Views.{op_view, written_view}
+use Rattle.statement_parser.specs.declared.op.Op as seen
+use Rattle.statement_parser.specs.declared.line.Written as writtens
+use Rattle.statement_parser.specs.declared.line.Written.TheVariants as a_written
+use Rattle.statement_parser.proofs.Viewed.{by_view}
 use Rattle.map_defs.specs.Expansion.{expansion_of}
 use Rattle.map_edits.specs.Entries.{Def, source, statement, Entry, find_def, put_entry, drop_entry, LayerDef, given_grid, by_op, flat_layer, layers, layers_of}
 use Rattle.map_edits.specs.Edits.{is_source, is_flat, is_zonal}
@@ -145,23 +146,17 @@ flats_drop (e ∷ es) n = go (bytes_eq e.name n) (flats_drop es n)
 
 -- ---- no operation that a line can write is Zonal
 
-not_zonal : (op : lines.Op) → is_zonal (record { name = []; making = by_op (to_op op) }) ≡ false
-not_zonal (lines.local s ts) = refl
-not_zonal (lines.difference l r) = refl
-not_zonal (lines.ratio l r) = refl
-not_zonal (lines.rating t rs) = refl
+not_zonal : (o : seen.Op) → is_zonal (record { name = []; making = by_op (op_view o) }) ≡ false
+not_zonal o = by_view (λ op. is_zonal (record { name = []; making = by_op op }) ≡ false) (λ stat ts. refl) (λ l r. refl) (λ l r. refl) (λ t rs. refl) o
 
--- a statement that is written is one flat statement
-pub flats_is : (n : Name) (op : lines.Op) → flats_of n (lines.plain op) ≡ record { name = n; op = to_op op } ∷ []
+-- a statement that is one operation is one flat statement
+pub flats_is : (n : Name) (op : Op) → flats_of n (plain op) ≡ record { name = n; op = op } ∷ []
 unfolding expansion_of
 flats_is n op = refl
 
 zonals_first : (n : Name) (item : Item) → count_by is_zonal (layers_of (record { name = n; def = def_of n item })) ≡ 0
 zonals_first n (Source layer) = refl
-zonals_first n (Statement written) = by_view (written_view written)
-  where
-    by_view : (w : Written) → count_by is_zonal (map flat_layer (flats_of n w)) ≡ 0
-    by_view (lines.plain op) = rw (flats_is n op) (count_first is_zonal (record { name = n; making = by_op (to_op op) }) [] ∙ ap (λ b. cond b 1 0 + 0) (not_zonal op))
+zonals_first n (Statement (a_written.Plain o)) = rw (flats_is n (op_view o)) (count_first is_zonal (record { name = n; making = by_op (op_view o) }) [] ∙ ap (λ b. cond b 1 0 + 0) (not_zonal o))
 
 pub no_zonals : (items : List (List ℕ × Item)) → count_by is_zonal (layers (entries_of items)) ≡ 0
 no_zonals [] = refl
@@ -200,9 +195,10 @@ flats_put es n written op (Some (statement w fs)) own is other =
     omega (arith, before, after, longer, same)
 
 -- the nodes of a statement that is written
-pub statement_nodes_is : (n : Name) (w : Written) → written_node n w ∷ [] ≡ statement_nodes (flats_of n w)
-statement_nodes_is n (lines.plain op) = ap statement_nodes (sym (flats_is n op))
+pub statement_nodes_is : (n : Name) (written : writtens.Written) → written_node n (written_view written) ∷ [] ≡ statement_nodes (flats_of n (written_view written))
+statement_nodes_is n (a_written.Plain o) = ap statement_nodes (sym (flats_is n (op_view o)))
 
 -- its last node has its name
 pub own_name_is : (n : Name) (w : Written) → own_name (written_node n w ∷ []) ≡ Some n
-own_name_is n (lines.plain op) = refl
+own_name_is n (plain op) = refl
+own_name_is n (call p ts) = refl

@@ -8,14 +8,12 @@ use Rattle.layer_tiles.specs.Patches.{PatchState, patched}
 use Rattle.map_nums.specs.Grids.{Size, Grid, constant}
 use Rattle.map_defs.specs.Ops.{Name, Op}
 use Rattle.map_defs.specs.Depths.{is_looped}
-use Rattle.map_defs.specs.Statements.{Flat}
+use Rattle.map_defs.specs.Statements.{Flat, Written, plain}
 use Rattle.map_defs.specs.Expansion.{expansion_of}
-use Rattle.statement_parser.specs.Lines as lines
-use Rattle.statement_parser.specs.Lines.{Written}
-use Rattle.statement_parser.specs.Views.{written_view}
+use Rattle.statement_parser.specs.Views.{op_view, written_view}
 use Rattle.statement_parser.specs.declared.line.Written as writtens
+use Rattle.statement_parser.specs.declared.line.Written.TheVariants as a_written
 use Rattle.indexmap.specs.IndexMap.{insert_entry}
-use Rattle.statement_parser.specs.ToOps.{to_op, to_written}
 use Rattle.statement_graph.specs.Groups.{Group, nodes_in, has_group, put_group, drop_group}
 use Rattle.statement_graph.specs.Puts.{source_node}
 use Rattle.map_edits.specs.Entries.{Def, source, statement, Entry, find_def, put_entry, drop_entry, layers, nodes_of}
@@ -142,9 +140,9 @@ module _ (s : EngineState) (n : Name) where
 abbrev defined : Name → Written → Def
 defined n w = statement w (flats_of n w)
 
-expansion_is : (n : Name) (w : Written) → expansion_of [] n (to_written w) ≡ Ok (flats_of n w)
+expansion_is : (n : Name) (written : writtens.Written) → expansion_of [] n (written_view written) ≡ Ok (flats_of n (written_view written))
 unfolding expansion_of
-expansion_is n (lines.plain op) = refl
+expansion_is n (a_written.Plain o) = refl
 
 module _ (s : EngineState) (n : Name) (w : Written) where
   pub define_exists : kinds.Source ≡ standing_of (find_def s.entries n) → entries_after s (define n w) ≡ Err (exists_already n)
@@ -156,10 +154,10 @@ module _ (s : EngineState) (n : Name) (w : Written) where
       go (Some (statement v flats)) is = absurd cc
 
   -- a name that is no source is put among the entries
-  define_puts : OtherThanSource (find_def s.entries n) → entries_after s (define n w) ≡ bounded n (put_entry s.entries n (defined n w))
-  define_puts other = go (find_def s.entries n) other ∙ ap (put_statement s.entries n w) (expansion_is n w)
+  define_puts : expansion_of [] n w ≡ Ok (flats_of n w) → OtherThanSource (find_def s.entries n) → entries_after s (define n w) ≡ bounded n (put_entry s.entries n (defined n w))
+  define_puts expands other = go (find_def s.entries n) other ∙ ap (put_statement s.entries n w) expands
     where
-      go : (o : Option Def) → OtherThanSource o → define_entry s.entries n w o ≡ put_statement s.entries n w (expansion_of [] n (to_written w))
+      go : (o : Option Def) → OtherThanSource o → define_entry s.entries n w o ≡ put_statement s.entries n w (expansion_of [] n w)
       go None other = refl
       go (Some (source grid)) other = absurd other
       go (Some (statement v flats)) other = refl
@@ -171,11 +169,11 @@ bounded_by n es many looped p q r =
     ∙ ap (λ z. cond many (Err (beyond statements)) (cond (nat_lt 24 z) (Err (beyond zonals)) (cond (is_looped (nodes_of es) n) (Err (cycle n)) (Ok es)))) q
     ∙ ap (λ l. cond many (Err (beyond statements)) (cond l (Err (cycle n)) (Ok es))) r
 
-pub own_defined : (n : Name) (w : Written) → IsOwnDef n (defined n w)
-own_defined n (lines.plain op) = (to_op op, flats_is n op)
+pub own_defined : (n : Name) (written : writtens.Written) → IsOwnDef n (defined n (written_view written))
+own_defined n (a_written.Plain o) = (op_view o, flats_is n (op_view o))
 
-pub count_defined : (k : ℕ) (es : List Entry) (n : Name) (w : Written) → ((v : Written) (op : Op) → k ≡ count_by is_flat (layers (put_entry es n (statement v (record { name = n; op = op } ∷ []))))) → k ≡ count_by is_flat (layers (put_entry es n (defined n w)))
-count_defined k es n (lines.plain op) all = all (lines.plain op) (to_op op) ∙ ap (λ fs. count_by is_flat (layers (put_entry es n (statement (lines.plain op) fs)))) (sym (flats_is n op))
+pub count_defined : (k : ℕ) (es : List Entry) (n : Name) (written : writtens.Written) → ((v : Written) (op : Op) → k ≡ count_by is_flat (layers (put_entry es n (statement v (record { name = n; op = op } ∷ []))))) → k ≡ count_by is_flat (layers (put_entry es n (defined n (written_view written))))
+count_defined k es n (a_written.Plain o) all = all (plain (op_view o)) (op_view o) ∙ ap (λ fs. count_by is_flat (layers (put_entry es n (statement (plain (op_view o)) fs)))) (sym (flats_is n (op_view o)))
 
 pub other_from : (o : Option Def) (k : Kind) → k ≡ standing_of o → (k ≡ kinds.Source → ⊥) → OtherThanSource o
 other_from None k is differs = tt
@@ -192,7 +190,7 @@ module _ (held : Held) (n : Name) (written : writtens.Written) (kept : IsKeptIn 
 
   define_by : (count : ℕ) (many looped : Bool) → count ≡ count_by is_flat (layers with_it) → nat_lt 64 count ≡ many → is_looped (nodes_of with_it) n ≡ looped
       → entries_after (seen_in held) (define n (written_view written)) ≡ cond many (Err (beyond statements)) (cond looped (Err (cycle n)) (Ok with_it))
-  define_by count many looped is p r = define_puts (seen_in held) n (written_view written) other ∙ bounded_by n with_it many looped (ap (nat_lt 64) (sym is) ∙ p) no_zonals_with r
+  define_by count many looped is p r = define_puts (seen_in held) n (written_view written) (expansion_is n written) other ∙ bounded_by n with_it many looped (ap (nat_lt 64) (sym is) ∙ p) no_zonals_with r
 
   pub define_many : (count : ℕ) → count ≡ count_by is_flat (layers with_it) → 64 < count → entries_after (seen_in held) (define n (written_view written)) ≡ Err (beyond statements)
   define_many count is many = define_by count true (is_looped (nodes_of with_it) n) is (lt-ltb 64 count many) refl
@@ -207,15 +205,15 @@ module _ (held : Held) (n : Name) (written : writtens.Written) (kept : IsKeptIn 
   pub groups_with : put_group held.graph n (written_node n (written_view written) ∷ []) ≡ groups_of with_it
   groups_with =
       ap (λ g. put_group g n (written_node n (written_view written) ∷ [])) kept.graph_is
-      ∙ ap (put_group (groups_of (entries_in held)) n) (statement_nodes_is n (written_view written))
+      ∙ ap (put_group (groups_of (entries_in held)) n) (statement_nodes_is n written)
       ∙ groups_put (entries_in held) n (written_view written) (flats_of n (written_view written))
 
   pub groups_few : length (nodes_in (put_group held.graph n (written_node n (written_view written) ∷ []))) + 1 < 2 ^ 32
   groups_few =
-      let few : length (nodes_in (put_group (groups_of (entries_in held)) n (statement_nodes (flats_of n (written_view written))))) ≤ 97 = nodes_put_few (entries_in held) n (written_view written) (flats_of n (written_view written)) kept.lawful (own_defined n (written_view written)) in
+      let few : length (nodes_in (put_group (groups_of (entries_in held)) n (statement_nodes (flats_of n (written_view written))))) ≤ 97 = nodes_put_few (entries_in held) n (written_view written) (flats_of n (written_view written)) kept.lawful (own_defined n written) in
       let same : length (nodes_in (put_group held.graph n (written_node n (written_view written) ∷ []))) ≡ length (nodes_in (put_group (groups_of (entries_in held)) n (statement_nodes (flats_of n (written_view written))))) =
       ap (λ (g : List Group). length (nodes_in (put_group g n (written_node n (written_view written) ∷ [])))) kept.graph_is
-      ∙ ap (λ ns. length (nodes_in (put_group (groups_of (entries_in held)) n ns))) (statement_nodes_is n (written_view written)) in
+      ∙ ap (λ ns. length (nodes_in (put_group (groups_of (entries_in held)) n ns))) (statement_nodes_is n written) in
       omega (arith, few, same)
 
   pub looped_with : (b : Bool) → is_looped (nodes_in (put_group held.graph n (written_node n (written_view written) ∷ []))) n ≡ b → is_looped (nodes_of with_it) n ≡ b
@@ -223,7 +221,7 @@ module _ (held : Held) (n : Name) (written : writtens.Written) (kept : IsKeptIn 
 
   pub lawful_with : (count : ℕ) → count ≡ count_by is_flat (layers with_it) → count ≤ 64 → is_looped (nodes_of with_it) n ≡ false → AreLawful with_it
   lawful_with count is few alone =
-      lawful_define (entries_in held) n kept.lawful (written_view written) (flats_of n (written_view written)) (own_defined n (written_view written)) other (subst (λ k. k ≤ 64) is few) alone
+      lawful_define (entries_in held) n kept.lawful (written_view written) (flats_of n (written_view written)) (own_defined n written) other (subst (λ k. k ≤ 64) is few) alone
 
 -- ---- sizes
 

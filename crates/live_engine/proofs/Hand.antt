@@ -6,12 +6,8 @@ use Rattle.std.proofs.lemmas.List.{take_all, take_more, map_push, length_push}
 use Rattle.std.proofs.lemmas.List.Elements.{All-head, All-tail, All-push}
 use Rattle.std.proofs.lemmas.Option.{none-some, same_Some, slice_get_within, get_or_from_slice_get, slice_get-get_or}
 use Rattle.map_nums.specs.Grids.{Size, Cells, Grid}
-use Rattle.map_defs.specs.Ops as ops
-use Rattle.map_defs.specs.Ops.{Name}
+use Rattle.map_defs.specs.Ops.{Name, Term, Op, terms_of}
 use Rattle.map_defs.specs.Operate.{operate}
-use Rattle.statement_parser.specs.Formed.{Each, IsTerm, IsOp}
-use Rattle.statement_parser.specs.Lines.{Term, value, Op, local, difference, ratio, rating, terms_of}
-use Rattle.statement_parser.specs.ToOps.{to_term, to_op}
 use Rattle.statement_parser.specs.Views.{term_view}
 use Rattle.statement_parser.specs.declared.op.Term as given
 use Rattle.statement_parser.specs.declared.op.Term.TheVariants as a_term
@@ -33,7 +29,7 @@ module _ (s : EngineState) (values : List Valued) (n : Name) where
   pub hand_source : (grid : Grid) → find_making (layers s.entries) n ≡ Some (given_grid grid) → at_hand s values n ≡ Some grid
   hand_source grid e = rw e refl
 
-  pub hand_kept : (op : ops.Op) → find_making (layers s.entries) n ≡ Some (by_op op) → at_hand s values n ≡ kept values n
+  pub hand_kept : (op : Op) → find_making (layers s.entries) n ≡ Some (by_op op) → at_hand s values n ≡ kept values n
   hand_kept op e = rw e refl
 
 pub kept_size : (size : Size) (stamp : ℕ) (values : List Valued) (n : Name) (grid : Grid) → All (IsOfStamp size stamp) values → kept values n ≡ Some grid → grid.size ≡ size
@@ -47,51 +43,13 @@ kept_size size stamp (v ∷ vs) n grid all e = go (bytes_eq v.name n) e (kept_si
 -- ---- one term
 
 module _ (size : Size) (f : Name → Option Grid) (t : given.Term) (n : Name) (is : t ≡ a_term.Layer n) where
-  pub cells_of_layer : (o : Option Grid) → f n ≡ o → term_cells size f (to_term (term_view t)) ≡ option_map (λ (g : Grid). g.cells) o
-  cells_of_layer o e = ap (λ u. term_cells size f (to_term (term_view u))) is ∙ ap (option_map (λ (g : Grid). g.cells)) e
+  pub cells_of_layer : (o : Option Grid) → f n ≡ o → term_cells size f (term_view t) ≡ option_map (λ (g : Grid). g.cells) o
+  cells_of_layer o e = ap (λ u. term_cells size f (term_view u)) is ∙ ap (option_map (λ (g : Grid). g.cells)) e
 
-  pub never_absent : f n ≡ None → is_some (term_cells size f (to_term (term_view t))) ≡ true → ⊥
+  pub never_absent : f n ≡ None → is_some (term_cells size f (term_view t)) ≡ true → ⊥
   never_absent e there = false≢true (sym (ap is_some (cells_of_layer None e)) ∙ there)
 
 -- ---- the terms of an operation
-
-pub few_terms : (o : Op) → IsOp o → length (terms_of o) ≤ 8
-few_terms (local s ts) formed = formed.1
-few_terms (difference l r) formed = omega arith
-few_terms (ratio l r) formed = omega arith
-few_terms (rating t rs) formed = omega arith
-
-each_at : (ts : List Term) (k : ℕ) (t : Term) → Each IsTerm ts → slice_get ts k ≡ Some t → IsTerm t
-each_at [] k t each e = absurd (none-some t e)
-each_at (x ∷ xs) zero t each e = subst IsTerm (same_Some x t e) each.0
-each_at (x ∷ xs) (suc k) t each e = each_at xs k t each.1 e
-
-each_term : (o : Op) → IsOp o → Each IsTerm (terms_of o)
-each_term (local s ts) formed = formed.2
-each_term (difference l r) formed = (formed.0, (formed.1, tt))
-each_term (ratio l r) formed = (formed.0, (formed.1, tt))
-each_term (rating t rs) formed = (formed.0, tt)
-
-pub term_formed : (o : Op) (k : ℕ) (t : Term) → IsOp o → slice_get (terms_of o) k ≡ Some t → IsTerm t
-term_formed o k t formed e = each_at (terms_of o) k t (each_term o formed) e
-
-terms_same : (o : Op) → ops.terms_of (to_op o) ≡ map to_term (terms_of o)
-terms_same (local s ts) = refl
-terms_same (difference l r) = refl
-terms_same (ratio l r) = refl
-terms_same (rating t rs) = refl
-
-map_twice : {A B C : Type 0} (f : A → B) (g : B → C) (xs : List A) → map g (map f xs) ≡ map (λ x. g (f x)) xs
-map_twice f g [] = refl
-map_twice f g (x ∷ xs) = ap (λ ys. g (f x) ∷ ys) (map_twice f g xs)
-
--- the cells of the operands, term by term
-abbrev pub operand_cells : Size → (Name → Option Grid) → Term → Option Cells
-operand_cells size f t = term_cells size f (to_term t)
-
-pub operands_same : (size : Size) (f : Name → Option Grid) (o : Op) → map (term_cells size f) (ops.terms_of (to_op o)) ≡ map (operand_cells size f) (terms_of o)
-operands_same size f o = ap (map (term_cells size f)) (terms_same o) ∙ map_twice to_term (term_cells size f) (terms_of o)
-
 some_at : (f : Term → Option Cells) (ts : List Term) (k : ℕ) (t : Term) → is_some (all_some (map f ts)) ≡ true → slice_get ts k ≡ Some t → is_some (f t) ≡ true
 some_at f [] k t there e = absurd (none-some t e)
 some_at f (x ∷ xs) k t there e = go (f x) refl k there e (λ j. some_at f xs j t)
@@ -106,16 +64,16 @@ some_at f (x ∷ xs) k t there e = go (f x) refl k there e (λ j. some_at f xs j
     go (Some cells) is zero there e rest = ap is_some (sym (ap f (same_Some x t e)) ∙ is)
     go (Some cells) is (suc i) there e rest = rest i (rest_there cells (all_some (map f xs)) there) e
 
-pub operand_there : (size : Size) (f : Name → Option Grid) (o : Op) (k : ℕ) (t : Term) → is_some (all_some (map (term_cells size f) (ops.terms_of (to_op o)))) ≡ true → slice_get (terms_of o) k ≡ Some t
-    → is_some (operand_cells size f t) ≡ true
-operand_there size f o k t there e = some_at (operand_cells size f) (terms_of o) k t (ap (λ os. is_some (all_some os)) (sym (operands_same size f o)) ∙ there) e
+pub operand_there : (size : Size) (f : Name → Option Grid) (o : Op) (k : ℕ) (t : Term) → is_some (all_some (map (term_cells size f) (terms_of o))) ≡ true → slice_get (terms_of o) k ≡ Some t
+    → is_some (term_cells size f t) ≡ true
+operand_there size f o k t there e = some_at (term_cells size f) (terms_of o) k t there e
 
 -- the operands so far are those of the first terms
 pub record AreOperands (size : Size) (f : Name → Option Grid) (ts : List Term) (k : ℕ) (changes : List ChangeState) : Type 0 where
   pub within : k ≤ length ts
   pub count : length changes ≡ k
   pub sizes : All (λ (c : ChangeState). c.size ≡ size) changes
-  pub cells : map (operand_cells size f) (take k ts) ≡ map (λ c. Some c) (cells_after changes)
+  pub cells : map (term_cells size f) (take k ts) ≡ map (λ c. Some c) (cells_after changes)
 
 all_some-map : (xs : List Cells) → all_some (map (λ c. Some c) xs) ≡ Some xs
 all_some-map [] = refl
@@ -126,7 +84,7 @@ some_push [] c = refl
 some_push (x ∷ xs) c = ap (λ os. Some x.cells ∷ os) (some_push xs c)
 
 pub operands_more : (size : Size) (f : Name → Option Grid) (ts : List Term) (k : ℕ) (changes after : List ChangeState) (t : Term) (c : ChangeState) → AreOperands size f ts k changes
-    → slice_get ts k ≡ Some t → operand_cells size f t ≡ Some c.cells → c.size ≡ size → after ≡ changes ++ c ∷ [] → AreOperands size f ts (k + 1) after
+    → slice_get ts k ≡ Some t → term_cells size f t ≡ Some c.cells → c.size ≡ size → after ≡ changes ++ c ∷ [] → AreOperands size f ts (k + 1) after
 operands_more size f ts k changes after t c so_far e cells sized is =
     let within = slice_get_within ts k t e in
     let here = get_or_from_slice_get ts k t t e in
@@ -135,45 +93,31 @@ operands_more size f ts k changes after t c so_far e cells sized is =
       count = ap length is ∙ length_push changes c ∙ ap (λ n. n + 1) so_far.count;
       sizes = subst (All (λ (x : ChangeState). x.size ≡ size)) (sym is) (All-push (λ (x : ChangeState). x.size ≡ size) changes c so_far.sizes sized);
       cells =
-          ap (map (operand_cells size f)) (take_more ts k t within)
-          ∙ map_push (operand_cells size f) (take k ts) _
-          ∙ ap (λ x. map (operand_cells size f) (take k ts) ++ operand_cells size f x ∷ []) here
-          ∙ ap (λ o. map (operand_cells size f) (take k ts) ++ o ∷ []) cells
+          ap (map (term_cells size f)) (take_more ts k t within)
+          ∙ map_push (term_cells size f) (take k ts) _
+          ∙ ap (λ x. map (term_cells size f) (take k ts) ++ term_cells size f x ∷ []) here
+          ∙ ap (λ o. map (term_cells size f) (take k ts) ++ o ∷ []) cells
           ∙ ap (λ os. os ++ Some c.cells ∷ []) so_far.cells
           ∙ sym (some_push changes c)
           ∙ ap (λ cs. map (λ x. Some x) (cells_after cs)) (sym is);
     }
 
 pub operands_all : (size : Size) (f : Name → Option Grid) (o : Op) (k : ℕ) (changes : List ChangeState) → AreOperands size f (terms_of o) k changes → length (terms_of o) ≤ k
-    → all_some (map (term_cells size f) (ops.terms_of (to_op o))) ≡ Some (cells_after changes)
+    → all_some (map (term_cells size f) (terms_of o)) ≡ Some (cells_after changes)
 operands_all size f o k changes so_far long =
-    ap all_some (operands_same size f o ∙ ap (map (operand_cells size f)) (sym (take_all k (terms_of o) long)) ∙ so_far.cells)
+    ap all_some (ap (map (term_cells size f)) (sym (take_all k (terms_of o) long)) ∙ so_far.cells)
     ∙ all_some-map (cells_after changes)
-
--- past the last term
-pub past_terms : (o : Op) (k : ℕ) (r : Option (Bor given.Term)) → option_map (λ t. term_view t.now) r ≡ slice_get (terms_of o) k → ((t : Bor given.Term) → r ≡ Some t → ⊥) → length (terms_of o) ≤ k
-past_terms o k r got none = go (cases_lt k (length (terms_of o)))
-  where
-    no_term : (r : Option (Bor given.Term)) → ((t : Bor given.Term) → r ≡ Some t → ⊥) → option_map (λ t. term_view t.now) r ≡ None
-    no_term None e = refl
-    no_term (Some t) e = absurd (e t refl)
-
-    go : (k < length (terms_of o)) ⊎ (length (terms_of o) ≤ k) → length (terms_of o) ≤ k
-    go (inl h) =
-        let there : slice_get (terms_of o) k ≡ Some (get_or (terms_of o) k (value (pos 0))) = slice_get-get_or (terms_of o) k (value (pos 0)) h in
-        absurd (none-some _ (sym (no_term r none) ∙ got ∙ there))
-    go (inr h) = h
 
 -- ---- a statement
 
-pub never_made : (es : List Entry) (n : Name) (op : ops.Op) → find_making (layers es) n ≡ Some (by_op op) → find_making (layers es) n ≡ None → ⊥
+pub never_made : (es : List Entry) (n : Name) (op : Op) → find_making (layers es) n ≡ Some (by_op op) → find_making (layers es) n ≡ None → ⊥
 never_made es n op e none = none-some (by_op op) (sym none ∙ e)
 
-pub never_given : (es : List Entry) (n : Name) (op : ops.Op) (grid : Grid) → find_making (layers es) n ≡ Some (by_op op) → find_making (layers es) n ≡ Some (given_grid grid) → ⊥
+pub never_given : (es : List Entry) (n : Name) (op : Op) (grid : Grid) → find_making (layers es) n ≡ Some (by_op op) → find_making (layers es) n ≡ Some (given_grid grid) → ⊥
 never_given es n op grid e is = let both : Some (given_grid grid) ≡ Some (by_op op) = sym is ∙ e in absurd cc
 
-pub operands_there : (size : Size) (f : Name → Option Grid) (m : Option Making) (op : ops.Op) → m ≡ Some (by_op op) → is_some (made size f m) ≡ true → is_some (all_some (map (term_cells size f) (ops.terms_of op))) ≡ true
-operands_there size f m op is there = go (all_some (map (term_cells size f) (ops.terms_of op))) (ap (λ x. is_some (made size f x)) (sym is) ∙ there)
+pub operands_there : (size : Size) (f : Name → Option Grid) (m : Option Making) (op : Op) → m ≡ Some (by_op op) → is_some (made size f m) ≡ true → is_some (all_some (map (term_cells size f) (terms_of op))) ≡ true
+operands_there size f m op is there = go (all_some (map (term_cells size f) (terms_of op))) (ap (λ x. is_some (made size f x)) (sym is) ∙ there)
   where
     go : (cells : Option (List Cells)) → is_some (option_map (operate size op) cells) ≡ true → is_some cells ≡ true
     go None h = h

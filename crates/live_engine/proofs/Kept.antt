@@ -10,11 +10,13 @@ use Rattle.map_nums.specs.Grids.{Size, Grid}
 use Rattle.map_defs.specs.Ops.{Name}
 use Rattle.map_defs.specs.Nodes.{Node}
 use Rattle.map_defs.specs.Sight.{most_viewers}
-use Rattle.statement_parser.specs.Lines.{Op, local, difference, ratio, rating}
-use Rattle.statement_parser.specs.ToOps.{to_op}
+use Rattle.statement_parser.specs.Views.{op_view}
+use Rattle.statement_parser.specs.declared.op.Op.{Op}
+use Rattle.statement_parser.proofs.Viewed.{by_view}
 use Rattle.map_edits.specs.Entries.{by_op, layers, find_making}
 use Rattle.map_edits.specs.EngineStates.{EngineState, value_of}
-use Rattle.map_edits.specs.Faults.{Fault, too_many_viewers, viewers_of, wide_place, overflow_at, fault_of_layer, first_fault}
+use Rattle.map_edits.specs.Faults.{Fault, too_many_viewers, viewers_of, wide_place, overflow_at, fault_of_layer}
+use Rattle.map_nums.specs.Options.{first_some}
 use Rattle.map_edits.specs.Laws.{is_named_in}
 use Rattle.map_edits.proofs.Among.{same_name}
 use Rattle.live_engine.specs.Held.{grid_of}
@@ -49,12 +51,12 @@ kept_push (x ∷ xs) v n = go (bytes_eq x.name n) (kept_push xs v n)
 abbrev pub faults_in : EngineState → List Node → List (Option Fault)
 faults_in s nodes = map (λ (node : Node). fault_of_layer s node.name) nodes
 
-first_push : (os : List (Option Fault)) (o : Option Fault) → first_fault os ≡ None → first_fault (os ++ o ∷ []) ≡ first_fault (o ∷ [])
+first_push : (os : List (Option Fault)) (o : Option Fault) → first_some os ≡ None → first_some (os ++ o ∷ []) ≡ first_some (o ∷ [])
 first_push [] o e = refl
 first_push (None ∷ os) o e = first_push os o e
 first_push (Some f ∷ os) o e = absurd (none-some f (sym e))
 
-pub first_then : (os more : List (Option Fault)) (f : Fault) → first_fault os ≡ None → first_fault (os ++ Some f ∷ more) ≡ Some f
+pub first_then : (os more : List (Option Fault)) (f : Fault) → first_some os ≡ None → first_some (os ++ Some f ∷ more) ≡ Some f
 first_then [] more f e = refl
 first_then (None ∷ os) more f e = first_then os more f e
 first_then (Some g ∷ os) more f e = absurd (none-some g (sym e))
@@ -72,7 +74,7 @@ names_kept values = map (λ (v : Valued). v.name) values
 
 -- no fault so far; what is kept is a value, and each value of a statement so far is kept, in order
 pub record IsUpTo (s : EngineState) (stamp : ℕ) (before : List Node) (values : List Valued) : Type 0 where
-  pub faultless : first_fault (faults_in s before) ≡ None
+  pub faultless : first_some (faults_in s before) ≡ None
   pub sound : (n : Name) (grid : Grid) → kept values n ≡ Some grid → value_of s n ≡ Some grid
   pub whole : (n : Name) → is_named_in n before ≡ true → is_some (value_of s n) ≡ true → is_some (kept values n) ≡ true
   pub stamped : All (IsOfStamp s.size stamp) values
@@ -81,11 +83,8 @@ pub record IsUpTo (s : EngineState) (stamp : ℕ) (before : List Node) (values :
 -- ---- a statement's fault
 
 -- the viewers of a line's operation are none
-no_viewers : (s : EngineState) (o : Op) → viewers_of s (Some (by_op (to_op o))) ≡ 0
-no_viewers s (local stat ts) = refl
-no_viewers s (difference l r) = refl
-no_viewers s (ratio l r) = refl
-no_viewers s (rating t rs) = refl
+no_viewers : (s : EngineState) (o : Op) → viewers_of s (Some (by_op (op_view o))) ≡ 0
+no_viewers s o = by_view (λ op. viewers_of s (Some (by_op op)) ≡ 0) (λ stat ts. refl) (λ l r. refl) (λ l r. refl) (λ t rs. refl) o
 
 abbrev faulty : ℕ → Size → Name → Option Grid → Option Fault
 faulty v size n o = if nat_lt most_viewers v && is_some o then Some (too_many_viewers n v) else overflow_at size n (wide_place o)
@@ -100,7 +99,7 @@ undefined_faultless s n e = ap (faulty v s.size n) e ∙ go (nat_lt most_viewers
     go true = refl
     go false = refl
 
-pub line_fault : (s : EngineState) (n : Name) (o : Op) → find_making (layers s.entries) n ≡ Some (by_op (to_op o)) → fault_of_layer s n ≡ overflow_at s.size n (wide_place (value_of s n))
+pub line_fault : (s : EngineState) (n : Name) (o : Op) → find_making (layers s.entries) n ≡ Some (by_op (op_view o)) → fault_of_layer s n ≡ overflow_at s.size n (wide_place (value_of s n))
 line_fault s n o e = ap (λ v. faulty v s.size n (value_of s n)) (ap (viewers_of s) e ∙ no_viewers s o)
 
 -- ---- one statement more
@@ -117,11 +116,11 @@ named_push before node m e = go (or_cases (is_named_in m before) (bytes_eq node.
     go (inr h) = inr (last (or_cases (bytes_eq node.name m) false h))
 
 module _ (s : EngineState) (stamp : ℕ) (before : List Node) (values : List Valued) (up : IsUpTo s stamp before values) (node : Node) where
-  faultless_more : fault_of_layer s node.name ≡ None → first_fault (faults_in s (before ++ node ∷ [])) ≡ None
+  faultless_more : fault_of_layer s node.name ≡ None → first_some (faults_in s (before ++ node ∷ [])) ≡ None
   faultless_more e =
-      ap first_fault (map-append (λ (x : Node). fault_of_layer s x.name) before (node ∷ []))
+      ap first_some (map-append (λ (x : Node). fault_of_layer s x.name) before (node ∷ []))
       ∙ first_push (faults_in s before) (fault_of_layer s node.name) up.faultless
-      ∙ ap (λ o. first_fault (o ∷ [])) e
+      ∙ ap (λ o. first_some (o ∷ [])) e
 
   names_more : (b : Bool) → is_some (value_of s node.name) ≡ b → names_of (defined_in s (before ++ node ∷ [])) ≡ names_of (defined_in s before) ++ names_of (cond b (node ∷ []) [])
   names_more b e =

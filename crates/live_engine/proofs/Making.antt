@@ -4,13 +4,13 @@ use Rattle.std.specs.Bool.{⊤}
 use Rattle.std.specs.Map.{keys_of}
 use Rattle.std.specs.List.{IsDistinct}
 use Rattle.std.proofs.lemmas.Option.{none-some, same_Some}
-use Rattle.map_defs.specs.Ops as ops
-use Rattle.map_defs.specs.Ops.{Name}
+use Rattle.map_defs.specs.Ops.{Name, Op}
+use Rattle.map_defs.specs.Statements.{Written, plain}
 use Rattle.map_defs.specs.Expansion.{expansion_of}
-use Rattle.statement_parser.specs.Lines.{Op, Written, plain}
-use Rattle.statement_parser.specs.ToOps.{to_op}
-use Rattle.statement_parser.specs.Views.{written_view}
+use Rattle.statement_parser.specs.Views.{op_view, written_view}
+use Rattle.statement_parser.specs.declared.op.Op as seen
 use Rattle.statement_parser.specs.declared.line.Written as writtens
+use Rattle.statement_parser.specs.declared.line.Written.TheVariants as a_written
 use Rattle.layer_tiles.specs.Changes.{ChangeState}
 use Rattle.map_edits.specs.Entries.{Def, source, statement, Entry, find_def, put_entry, drop_entry, given_grid, by_op, layers, find_making}
 use Rattle.map_edits.specs.Laws.{IsOwnDef, IsOwn, IsApart}
@@ -25,26 +25,30 @@ use Rattle.live_engine.specs.declared.scene.Shift.{Shift}
 use Rattle.live_engine.specs.declared.scene.Shift.TheVariants.{Loaded, Painted, Defined, Dropped}
 use Rattle.live_engine.specs.declared.scene.Found.{Found}
 use Rattle.live_engine.specs.declared.scene.Found.TheVariants.{Source, Statement}
+use Rattle.statement_parser.proofs.Viewed.{plain_view}
 use Rattle.live_engine.proofs.Lookups.{find_entry, its_def, apart_items}
 
-pub flats_plain : (n : Name) (o : Op) → flats_of n (plain o) ≡ record { name = n; op = to_op o } ∷ []
+pub flats_plain : (n : Name) (o : Op) → flats_of n (plain o) ≡ record { name = n; op = o } ∷ []
 unfolding expansion_of
 flats_plain n o = refl
 
 -- ---- statements as they were written
 
--- a statement has the flat statements of what was written
+-- a statement is one operation that a line wrote
 abbrev pub IsLinedDef : Name → Def → Type 0
 IsLinedDef n (source grid) = ⊤
-IsLinedDef n (statement w flats) = flats ≡ flats_of n w
+IsLinedDef n (statement w flats) = (o : seen.Op) × (flats ≡ record { name = n; op = op_view o } ∷ [])
 
 abbrev pub AreLined : List Entry → Type 0
 AreLined [] = ⊤
 AreLined (e ∷ es) = IsLinedDef e.name e.def × AreLined es
 
+lined_written : (n : Name) (written : writtens.Written) → IsLinedDef n (statement (written_view written) (flats_of n (written_view written)))
+lined_written n (a_written.Plain o) = (o, flats_plain n (op_view o))
+
 lined_item : (n : Name) (item : Item) → IsLinedDef n (def_of n item)
 lined_item n (an_item.Source layer) = tt
-lined_item n (an_item.Statement written) = refl
+lined_item n (an_item.Statement written) = lined_written n written
 
 lined_items : (items : List (List ℕ × Item)) → AreLined (entries_of items)
 lined_items [] = tt
@@ -69,7 +73,7 @@ lined_drop (e ∷ es) n lined = go (bytes_eq e.name n) (lined_drop es n lined.1)
 lined_shifted : (es : List Entry) (shift : Shift) → AreLined es → AreLined (shifted es shift)
 lined_shifted es (Loaded n layer) lined = lined_put es n.now _ lined tt
 lined_shifted es (Painted n layer patch) lined = lined_put es n.now _ lined tt
-lined_shifted es (Defined n written) lined = lined_put es n.now _ lined refl
+lined_shifted es (Defined n written) lined = lined_put es n.now _ lined (lined_written n.now written.now)
 lined_shifted es (Dropped n) lined = lined_drop es n.now lined
 
 pub lined_scene : (scene : Scene) → AreLined (after_scene scene)
@@ -85,12 +89,9 @@ lined_found (x ∷ xs) n d lined e = go (bytes_eq x.name n) refl e (lined_found 
 
 -- ---- one flat statement each
 
-own_written : (n : Name) (w : Written) (flats : _) → flats ≡ flats_of n w → IsOwnDef n (statement w flats)
-own_written n (plain o) flats is = (to_op o, is ∙ flats_plain n o)
-
 own_def : (n : Name) (d : Def) → IsLinedDef n d → IsOwnDef n d
 own_def n (source grid) lined = tt
-own_def n (statement w flats) lined = own_written n w flats lined
+own_def n (statement w flats) lined = (op_view lined.0, lined.1)
 
 pub own_lined : (es : List Entry) → AreLined es → IsOwn es
 own_lined [] lined = tt
@@ -112,21 +113,15 @@ apart_scene scene distinct = apart_shifted (entries_of scene.names.now.entries) 
 
 -- ---- how a layer is made, by what is found
 
--- the operation of a statement is that of a line
-pub IsLineOp : ops.Op → Type 0
-IsLineOp op = (o : Op) × (op ≡ to_op o)
+written_op : (n : Name) (w : Written) (flats : _) (op : Op) (o : seen.Op) → flats ≡ record { name = n; op = op_view o } ∷ [] → def_making (Some (statement w flats)) ≡ Some (by_op op) → op ≡ op_view o
+written_op n w flats op o is e = let made : Some (by_op (op_view o)) ≡ Some (by_op op) = sym (ap (λ fs. def_making (Some (statement w fs))) is) ∙ e in cc
 
-written_op : (n : Name) (w : Written) (flats : _) (op : ops.Op) → flats ≡ flats_of n w → def_making (Some (statement w flats)) ≡ Some (by_op op) → (o : Op) × (op ≡ to_op o)
-written_op n (plain o) flats op is e =
-    let made : Some (by_op (to_op o)) ≡ Some (by_op op) = sym (ap (λ fs. def_making (Some (statement (plain o) fs))) (is ∙ flats_plain n o)) ∙ e in
-    (o, cc)
-
-def_op : (n : Name) (d : Option Def) (op : ops.Op) → ((x : Def) → d ≡ Some x → IsLinedDef n x) → def_making d ≡ Some (by_op op) → (o : Op) × (op ≡ to_op o)
+def_op : (n : Name) (d : Option Def) (op : Op) → ((x : Def) → d ≡ Some x → IsLinedDef n x) → def_making d ≡ Some (by_op op) → (o : seen.Op) × (op ≡ op_view o)
 def_op n None op lined e = absurd cc
 def_op n (Some (source grid)) op lined e = absurd cc
-def_op n (Some (statement w flats)) op lined e = written_op n w flats op (lined (statement w flats) refl) e
+def_op n (Some (statement w flats)) op lined e = let l = lined (statement w flats) refl in (l.0, written_op n w flats op l.0 l.1 e)
 
-pub line_op : (es : List Entry) (n : Name) (op : ops.Op) → AreLined es → find_making (layers es) n ≡ Some (by_op op) → (o : Op) × (op ≡ to_op o)
+pub line_op : (es : List Entry) (n : Name) (op : Op) → AreLined es → find_making (layers es) n ≡ Some (by_op op) → (o : seen.Op) × (op ≡ op_view o)
 line_op es n op lined e = def_op n (find_def es n) op (λ x is. lined_found es n x lined is) (sym (making_by_entry es n (own_lined es lined)) ∙ e)
 
 module _ (es : List Entry) (n : Name) (o : Option Found) (own : IsOwn es) (def : option_map (found_def n) o ≡ find_def es n) where
@@ -139,14 +134,11 @@ module _ (es : List Entry) (n : Name) (o : Option Found) (own : IsOwn es) (def :
   pub making_source : (change : ChangeState) → o ≡ Some (Source change) → find_making (layers es) n ≡ Some (given_grid (record { size = change.size; cells = change.cells }))
   making_source change is = making_found (Some (Source change)) is
 
-  pub making_plain : (b : Bor writtens.Written) (op : Op) → o ≡ Some (Statement b) → written_view b.now ≡ plain op → find_making (layers es) n ≡ Some (by_op (to_op op))
+  pub making_plain : (b : Bor writtens.Written) (op : Op) → o ≡ Some (Statement b) → written_view b.now ≡ plain op → find_making (layers es) n ≡ Some (by_op op)
   making_plain b op is plain_is =
       making_found (Some (Statement b)) is
       ∙ ap (λ w. def_making (Some (statement w (flats_of n w)))) plain_is
       ∙ ap (λ fs. def_making (Some (statement (plain op) fs))) (flats_plain n op)
 
-  pub making_statement : (b : Bor writtens.Written) → o ≡ Some (Statement b) → (op : ops.Op) × (find_making (layers es) n ≡ Some (by_op op))
-  making_statement b is = go (written_view b.now) refl
-    where
-      go : (w : Written) → written_view b.now ≡ w → (op : ops.Op) × (find_making (layers es) n ≡ Some (by_op op))
-      go (plain op) e = (to_op op, making_plain b op is e)
+  pub making_statement : (b : Bor writtens.Written) → o ≡ Some (Statement b) → (op : Op) × (find_making (layers es) n ≡ Some (by_op op))
+  making_statement b is = let p = plain_view b.now in (op_view p.0, making_plain b (op_view p.0) is p.1)

@@ -2,14 +2,14 @@
 use Rattle.std.proofs.Common.{◌≡◌, List, [], ◌∷◌, map, Option, Some, None, is_some, option_map, option_copied, bytes_eq, Bor, if◌then◌else◌, refl, sym, ap, ◌∙◌}
 use Rattle.std.specs.Map.{lookup}
 use Rattle.map_nums.specs.Grids.{Size, Cells, Grid}
-use Rattle.map_defs.specs.Ops.{Name, terms_of}
+use Rattle.map_defs.specs.Ops.{Name, Op, terms_of}
 use Rattle.map_defs.specs.Operate.{operate}
 use Rattle.map_defs.specs.Nodes.{Node, find_node, lacks, missing}
-use Rattle.statement_parser.specs.Lines as lines
-use Rattle.statement_parser.specs.Lines.{Written}
-use Rattle.statement_parser.specs.Views.{written_view}
-use Rattle.statement_parser.specs.ToOps.{to_op}
+use Rattle.map_defs.specs.Statements.{Written, plain}
+use Rattle.statement_parser.specs.Views.{op_view, written_view}
+use Rattle.statement_parser.specs.declared.op.Op as seen
 use Rattle.statement_parser.specs.declared.line.Written as writtens
+use Rattle.statement_parser.specs.declared.line.Written.TheVariants as a_written
 use Rattle.layer_tiles.specs.Layers.{LayerState}
 use Rattle.statement_graph.specs.Groups.{nodes_in}
 use Rattle.map_edits.specs.Entries.{statement, find_def, nodes_of}
@@ -31,10 +31,10 @@ missing_none : (nodes : List Node) (n : Name) → find_node nodes n ≡ None →
 unfolding missing
 missing_none nodes n none = ap (λ o. if is_some o then lacks nodes n else None) none
 
-grid_size : (size : Size) (op : lines.Op) (o : Option (List Cells)) (grid : Grid) → option_map (operate size (to_op op)) o ≡ Some grid → grid.size ≡ size
+grid_size : (size : Size) (op : seen.Op) (o : Option (List Cells)) (grid : Grid) → option_map (operate size (op_view op)) o ≡ Some grid → grid.size ≡ size
 grid_size size op None grid e = absurd cc
 grid_size size op (Some cells) grid e =
-    let same : operate size (to_op op) cells ≡ grid = cc in
+    let same : operate size (op_view op) cells ≡ grid = cc in
     ap (λ (g : Grid). g.size) (sym same) ∙ operate_size size op cells
 
 module _ (held : Held) (n : Name) (keeps : IsKeptIn held) where
@@ -52,27 +52,27 @@ module _ (held : Held) (n : Name) (keeps : IsKeptIn held) where
   pub source_value : (layer : LayerState) → lookup (bytes_eq n) held.names.entries ≡ Some (Source layer) → value_of (seen_in held) n ≡ Some (grid_of layer)
   source_value layer there = value_of_source (seen_in held) keeps.lawful.well n (grid_of layer) (item_def held.names.entries n (Some (Source layer)) there)
 
-  found_statement : (w : Written) (op : lines.Op) → w ≡ lines.plain op → find_def (entries_in held) n ≡ Some (statement w (flats_of n w)) → find_def (entries_in held) n ≡ Some (statement w (record { name = n; op = to_op op } ∷ []))
-  found_statement w op is there = there ∙ ap (λ fs. Some (statement w fs)) (ap (flats_of n) is ∙ flats_is n op)
+  found_statement : (op : Op) → find_def (entries_in held) n ≡ Some (statement (plain op) (flats_of n (plain op))) → find_def (entries_in held) n ≡ Some (statement (plain op) (record { name = n; op = op } ∷ []))
+  found_statement op there = there ∙ ap (λ fs. Some (statement (plain op) fs)) (flats_is n op)
 
-  statement_kept_by : (w : Written) → find_def (entries_in held) n ≡ Some (statement w (flats_of n w)) → kept held.values.items n ≡ value_of (seen_in held) n
-  statement_kept_by (lines.plain op) there =
-      keeps.values_are n (to_op op) (making_by_entry (entries_in held) n keeps.lawful.well.own ∙ ap def_making (found_statement (lines.plain op) op refl there))
+  statement_kept_by : (w : writtens.Written) → find_def (entries_in held) n ≡ Some (statement (written_view w) (flats_of n (written_view w))) → kept held.values.items n ≡ value_of (seen_in held) n
+  statement_kept_by (a_written.Plain o) there =
+      keeps.values_are n (op_view o) (making_by_entry (entries_in held) n keeps.lawful.well.own ∙ ap def_making (found_statement (op_view o) there))
 
-  statement_size_by : (w : Written) (grid : Grid) → find_def (entries_in held) n ≡ Some (statement w (flats_of n w)) → value_of (seen_in held) n ≡ Some grid → grid.size ≡ held.extent
-  statement_size_by (lines.plain op) grid there e =
-      grid_size held.extent op (all_some (map (term_cells held.extent (value_of (seen_in held))) (terms_of (to_op op)))) grid
-      (sym (value_of_statement (seen_in held) keeps.lawful.well n (lines.plain op) (to_op op) (found_statement (lines.plain op) op refl there)) ∙ e)
+  statement_size_by : (w : writtens.Written) (grid : Grid) → find_def (entries_in held) n ≡ Some (statement (written_view w) (flats_of n (written_view w))) → value_of (seen_in held) n ≡ Some grid → grid.size ≡ held.extent
+  statement_size_by (a_written.Plain o) grid there e =
+      grid_size held.extent o (all_some (map (term_cells held.extent (value_of (seen_in held))) (terms_of (op_view o)))) grid
+      (sym (value_of_statement (seen_in held) keeps.lawful.well n (plain (op_view o)) (op_view o) (found_statement (op_view o) there)) ∙ e)
 
   module _ (written : writtens.Written) (there : lookup (bytes_eq n) held.names.entries ≡ Some (Statement written)) where
     statement_def : find_def (entries_in held) n ≡ Some (statement (written_view written) (flats_of n (written_view written)))
     statement_def = item_def held.names.entries n (Some (Statement written)) there
 
     pub statement_kept : kept held.values.items n ≡ value_of (seen_in held) n
-    statement_kept = statement_kept_by (written_view written) statement_def
+    statement_kept = statement_kept_by written statement_def
 
     pub statement_size : (grid : Grid) → value_of (seen_in held) n ≡ Some grid → grid.size ≡ held.extent
-    statement_size grid e = statement_size_by (written_view written) grid statement_def e
+    statement_size grid e = statement_size_by written grid statement_def e
 
   pub graph_nodes : nodes_in held.graph ≡ nodes_of (entries_in held)
   graph_nodes = ap nodes_in keeps.graph_is ∙ nodes_in_groups (entries_in held)

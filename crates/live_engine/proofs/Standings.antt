@@ -2,7 +2,7 @@
 use Rattle.std.proofs.Common.{◌≡◌, ℕ, ◌+◌, ◌-◌, List, [], ◌∷◌, length, count_by, Option, Some, None, is_some, option_map, bytes_eq, refl, sym, ap, ◌∙◌}
 use Rattle.std.specs.Map.{lookup}
 use Rattle.map_defs.specs.Ops.{Name, Op}
-use Rattle.statement_parser.specs.Lines.{Written}
+use Rattle.map_defs.specs.Statements.{Written}
 use Rattle.map_edits.specs.Entries.{Def, source, statement, Entry, find_def, put_entry, layers}
 use Rattle.map_edits.specs.Edits.{is_source, is_flat}
 use Rattle.map_edits.specs.Laws.{IsOwn}

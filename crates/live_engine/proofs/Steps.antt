@@ -12,7 +12,8 @@ use Rattle.map_defs.specs.Nodes.{Node, lacks, missing}
 use Rattle.map_defs.specs.Depths.{by_depth}
 use Rattle.map_edits.specs.Entries.{Entry, Making, given_grid, by_op, layers, find_making, nodes_of}
 use Rattle.map_edits.specs.EngineStates.{EngineState, made, value_of}
-use Rattle.map_edits.specs.Faults.{overflow, wide_place, overflow_at, fault_of_layer, first_fault, fault_of}
+use Rattle.map_edits.specs.Faults.{overflow, wide_place, overflow_at, fault_of_layer, fault_of}
+use Rattle.map_nums.specs.Options.{first_some}
 use Rattle.map_edits.specs.Laws.{is_among, is_named_in, HasNoCycle, IsApart}
 use Rattle.map_edits.proofs.Looks.{making_needs, needs_in-layers, made_node, find_node-making}
 use Rattle.map_edits.proofs.Unfolds.{made_agree, value_unfolds}
@@ -152,9 +153,9 @@ module _ (s : EngineState) (stamp : ℕ) (settled : IsSettled s.entries) (k : �
     unfolding fault_of
     step_halted NoMemory valued = tt
     step_halted (Overflow m r c) valued =
-        ap (λ ns. first_fault (faults_in s ns)) (cut_at (by_depth nodes) k node here)
-        ∙ ap first_fault (map-append (λ (x : Node). fault_of_layer s x.name) so_far (node ∷ drop (suc k) (by_depth nodes)))
-        ∙ ap (λ o. first_fault (faults_in s so_far ++ o ∷ faults_in s (drop (suc k) (by_depth nodes)))) (fault_here ∙ valued)
+        ap (λ ns. first_some (faults_in s ns)) (cut_at (by_depth nodes) k node here)
+        ∙ ap first_some (map-append (λ (x : Node). fault_of_layer s x.name) so_far (node ∷ drop (suc k) (by_depth nodes)))
+        ∙ ap (λ o. first_some (faults_in s so_far ++ o ∷ faults_in s (drop (suc k) (by_depth nodes)))) (fault_here ∙ valued)
         ∙ first_then (faults_in s so_far) (faults_in s (drop (suc k) (by_depth nodes))) (overflow m r c) up.faultless
 
   -- ---- all of them
@@ -171,7 +172,7 @@ module _ (s : EngineState) (stamp : ℕ) (settled : IsSettled s.entries) (k : �
 
     pub all_done : AreValues s values × (fault_of s ≡ None)
     unfolding fault_of
-    all_done = (all_kept, ap (λ ns. first_fault (faults_in s ns)) (sym (take_all k (by_depth nodes) long)) ∙ up.faultless)
+    all_done = (all_kept, ap (λ ns. first_some (faults_in s ns)) (sym (take_all k (by_depth nodes) long)) ∙ up.faultless)
 
 -- a name lacks another where the graph tells so
 pub lacks_as_told : (ns nodes : List Node) (n : Name) (b c : Bool) → b ≡ is_none (missing ns n) → ns ≡ nodes → b ≡ c → is_some (missing nodes n) ≡ not c

@@ -7,8 +7,9 @@ use Rattle.map_defs.specs.Ops as ops
 use Rattle.map_defs.specs.Ops.{Name}
 use Rattle.map_defs.specs.Local.{local_grid}
 use Rattle.map_defs.specs.Operate.{operate}
-use Rattle.statement_parser.specs.Lines.{Op, local, difference, ratio, rating}
-use Rattle.statement_parser.specs.ToOps.{to_op}
+use Rattle.statement_parser.specs.Views.{op_view}
+use Rattle.statement_parser.specs.declared.op.Op.{Op}
+use Rattle.statement_parser.proofs.Viewed.{by_view}
 use Rattle.layer_tiles.specs.Layers.{LayerState, layer_of}
 use Rattle.layer_tiles.specs.Tallies.{TallyState, RisesBy}
 use Rattle.layer_tiles.specs.declared.kernels.KernelRefusal.TheVariants as refusals
@@ -24,29 +25,26 @@ use Rattle.live_engine.specs.declared.values.Halt.{Halt}
 use Rattle.live_engine.specs.declared.values.Halt.TheVariants.{Overflow, NoMemory}
 
 -- an operation of a line gives a grid of its size
-pub operate_size : (size : Size) (o : Op) (cells : List Cells) → (operate size (to_op o) cells).size ≡ size
+pub operate_size : (size : Size) (o : Op) (cells : List Cells) → (operate size (op_view o) cells).size ≡ size
 unfolding operate local_grid
-operate_size size (local s ts) cells = refl
-operate_size size (difference l r) cells = refl
-operate_size size (ratio l r) cells = refl
-operate_size size (rating t rs) cells = refl
+operate_size size o cells = by_view (λ op. (operate size op cells).size ≡ size) (λ stat ts. refl) (λ l r. refl) (λ l r. refl) (λ t rs. refl) o
 
 module _ (size : Size) (f : Name → Option Grid) (o : Op) (m : Option Making) (cells : List Cells)
-    (is : m ≡ Some (by_op (to_op o))) (operands : all_some (map (term_cells size f) (ops.terms_of (to_op o))) ≡ Some cells) where
-  pub made_grid : made size f m ≡ Some (operate size (to_op o) cells)
-  made_grid = ap (made size f) is ∙ ap (option_map (operate size (to_op o))) operands
+    (is : m ≡ Some (by_op (op_view o))) (operands : all_some (map (term_cells size f) (ops.terms_of (op_view o))) ≡ Some cells) where
+  pub made_grid : made size f m ≡ Some (operate size (op_view o) cells)
+  made_grid = ap (made size f) is ∙ ap (option_map (operate size (op_view o))) operands
 
-  made_place : wide_place (made size f m) ≡ position is_wide (operate size (to_op o) cells).cells
+  made_place : wide_place (made size f m) ≡ position is_wide (operate size (op_view o) cells).cells
   made_place = ap wide_place made_grid
 
   module _ (stamp : ℕ) where
-    pub valued_layer : (n : Name) (v : Valued) → v.name ≡ n → IsEvaluated size (operate size (to_op o) cells) stamp (Ok v.layer) → IsValued size n (made size f m) (Ok v)
+    pub valued_layer : (n : Name) (v : Valued) → v.name ≡ n → IsEvaluated size (operate size (op_view o) cells) stamp (Ok v.layer) → IsValued size n (made size f m) (Ok v)
     valued_layer n v named done =
-        let grid = operate size (to_op o) cells in
+        let grid = operate size (op_view o) cells in
         let same : grid_of v.layer ≡ grid = ap grid_of done.0 ∙ ap (λ (s : Size). record { size = s; cells = grid.cells }) (sym (operate_size size o cells)) in
         (named, made_grid ∙ ap (λ g. Some g) (sym same), ap (overflow_at size n) (made_place ∙ done.1))
 
-    pub valued_halt : (n : Name) (at : ℕ) (halt : Halt) → IsEvaluated size (operate size (to_op o) cells) stamp (Err (refusals.Overflow at)) → IsHalt size n at halt → IsValued size n (made size f m) (Err halt)
+    pub valued_halt : (n : Name) (at : ℕ) (halt : Halt) → IsEvaluated size (operate size (op_view o) cells) stamp (Err (refusals.Overflow at)) → IsHalt size n at halt → IsValued size n (made size f m) (Err halt)
     valued_halt n at (Overflow k r c) done halts = ap (overflow_at size n) (made_place ∙ done) ∙ halts
     valued_halt n at NoMemory done halts = tt
 

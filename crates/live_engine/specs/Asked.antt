@@ -3,7 +3,7 @@ use Rattle.std.specs.Prelude.{◌≡◌, Some, None, option_map, Result, Ok, Err
 use Rattle.std.specs.Borrow.{Bor}
 use Rattle.map_defs.specs.Ops.{Name}
 use Rattle.map_defs.specs.Nodes.{missing}
-use Rattle.statement_parser.specs.Lines.{Written}
+use Rattle.map_defs.specs.Statements.{Written}
 use Rattle.statement_parser.specs.Views.{written_view}
 use Rattle.map_edits.specs.Entries.{Def, source, statement, Entry as StateEntry, nodes_of}
 use Rattle.map_edits.specs.EngineStates.{EngineState, value_of}

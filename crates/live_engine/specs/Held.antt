@@ -2,11 +2,9 @@
 use Rattle.std.specs.Prelude.{ℕ, List, [], map, Result, Ok, Err}
 use Rattle.map_nums.specs.Grids.{Grid}
 use Rattle.map_defs.specs.Ops.{Name}
-use Rattle.map_defs.specs.Statements.{Flat}
+use Rattle.map_defs.specs.Statements.{Flat, Written}
 use Rattle.map_defs.specs.Expansion.{WrongCall, expansion_of}
-use Rattle.statement_parser.specs.Lines.{Written}
 use Rattle.statement_parser.specs.Views.{written_view}
-use Rattle.statement_parser.specs.ToOps.{to_written}
 use Rattle.layer_tiles.specs.Layers.{LayerState}
 use Rattle.map_edits.specs.Entries.{Def, source, statement, Entry}
 use Rattle.live_engine.specs.declared.held.Item.{Item}
@@ -17,7 +15,7 @@ grid_of l = record { size = l.size; cells = l.cells }
 
 -- the flat statements of a statement that calls no procedure which isn't there
 abbrev pub flats_of : Name → Written → List Flat
-flats_of n w = of_result (expansion_of [] n (to_written w))
+flats_of n w = of_result (expansion_of [] n w)
   where
     of_result : Result (List Flat) WrongCall → List Flat
     of_result (Ok flats) = flats

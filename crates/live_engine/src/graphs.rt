@@ -2,10 +2,9 @@
 
 ghost use Rattle.std.specs.Prelude.{◌≡◌, ◌+◌, ◌^◌, ◌<◌, ◌++◌, ◌∷◌, [], length, IfOk, OnOk, IsFalse};
 ghost use Rattle.map_defs.specs.Ops.{term_names, needs_of as needs_of_op};
-ghost use Rattle.statement_parser.specs.Lines.{plain};
+ghost use Rattle.map_defs.specs.Statements.{plain};
 ghost use Rattle.statement_parser.specs.Views.{term_view, terms_view, op_view, written_view};
-ghost use Rattle.statement_parser.specs.ToOps.{to_term, to_op};
-ghost use Rattle.std.specs.Prelude.{map, flat_map};
+ghost use Rattle.std.specs.Prelude.{flat_map};
 ghost use Rattle.statement_graph.specs.Groups.{nodes_in, has_group, put_group, drop_group};
 ghost use Rattle.statement_graph.specs.Puts.{flat_nodes, source_node};
 ghost use Rattle.live_engine.specs.Groups.{written_node, IsGraphWith};
@@ -18,7 +17,7 @@ use std::alloc::Global;
 
 /// Adds the name of a term that is a layer.
 fn push_name(needs: &mut Vec<Name>, alloc: Global, term: &Term) -> Result<(), NoMemory>
-    ensures { OnOk result (needs.new.items ≡ needs.old.items ++ term_names (to_term (term_view term.now))) }
+    ensures { OnOk result (needs.new.items ≡ needs.old.items ++ term_names (term_view term.now)) }
 {
     if let Term::Layer(name) = term {
         needs.push(name.copy(alloc)?)?;
@@ -28,7 +27,7 @@ fn push_name(needs: &mut Vec<Name>, alloc: Global, term: &Term) -> Result<(), No
 
 /// The names of terms that are layers, in order.
 fn names_among(alloc: Global, terms: &[Term]) -> Result<Vec<Name>, NoMemory>
-    ensures { IfOk result (λ names. names.items ≡ flat_map term_names (map to_term (terms_view terms.now))) }
+    ensures { IfOk result (λ names. names.items ≡ flat_map term_names (terms_view terms.now)) }
 {
     let mut names = Vec::new(alloc);
     for term in terms {
@@ -39,7 +38,7 @@ fn names_among(alloc: Global, terms: &[Term]) -> Result<Vec<Name>, NoMemory>
 
 /// The names of two terms that are layers, in order.
 fn names_of_both(alloc: Global, left: &Term, right: &Term) -> Result<Vec<Name>, NoMemory>
-    ensures { IfOk result (λ names. names.items ≡ flat_map term_names (to_term (term_view left.now) ∷ to_term (term_view right.now) ∷ [])) }
+    ensures { IfOk result (λ names. names.items ≡ flat_map term_names (term_view left.now ∷ term_view right.now ∷ [])) }
 {
     let mut names = Vec::new(alloc);
     push_name(&mut names, alloc, left)?;
@@ -49,7 +48,7 @@ fn names_of_both(alloc: Global, left: &Term, right: &Term) -> Result<Vec<Name>, 
 
 /// The names that an operation needs, in order.
 fn needs_of(alloc: Global, op: &Op) -> Result<Vec<Name>, NoMemory>
-    ensures { IfOk result (λ names. names.items ≡ needs_of_op (to_op (op_view op.now))) }
+    ensures { IfOk result (λ names. names.items ≡ needs_of_op (op_view op.now)) }
 {
     match op {
         Op::Local { terms, .. } => names_among(alloc, terms.as_slice()),

@@ -3,7 +3,7 @@
 ghost use Rattle.std.specs.Prelude.{◌≡◌, ◌≤◌, ◌-◌, ◌∷◌, [], count_by, is_some};
 ghost use Rattle.indexmap.specs.IndexMap.{values};
 ghost use Rattle.map_defs.specs.Ops.{Op};
-ghost use Rattle.statement_parser.specs.Lines.{Written};
+ghost use Rattle.map_defs.specs.Statements.{Written};
 ghost use Rattle.map_edits.specs.Entries.{statement, find_def, put_entry, layers};
 ghost use Rattle.map_edits.specs.Edits.{is_source, is_flat};
 ghost use Rattle.map_edits.specs.Laws.{IsOwn};

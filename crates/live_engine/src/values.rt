@@ -6,8 +6,7 @@ ghost use Rattle.map_defs.specs.Ops as ops;
 ghost use Rattle.map_defs.specs.Nodes.{missing};
 ghost use Rattle.statement_graph.specs.Groups.{nodes_in};
 ghost use Rattle.statement_parser.specs.Formed.{IsOp, IsTerm};
-ghost use Rattle.statement_parser.specs.Lines.{plain, terms_of};
-ghost use Rattle.statement_parser.specs.ToOps.{to_op, to_term};
+ghost use Rattle.map_defs.specs.Statements.{plain};
 ghost use Rattle.statement_parser.specs.Views.{op_view, term_view, written_view};
 ghost use Rattle.local_ops.specs.Operands.{cells_after};
 ghost use Rattle.map_edits.specs.Entries.{by_op, find_making, layers, nodes_of};
@@ -130,9 +129,9 @@ fn evaluate_op<M: Tally>(
 ) -> Result<Valued, Halt>
     requires scene { IsScene scene.now }
     requires stamped { All (IsOfStamp scene.now.extent stamp) values.now }
-    requires statement { find_making (layers (after_scene scene.now)) name.now ≡ Some (by_op (to_op (op_view op.now))) }
+    requires statement { find_making (layers (after_scene scene.now)) name.now ≡ Some (by_op (op_view op.now)) }
     requires formed { IsOp (op_view op.now) }
-    requires there { IsSome (all_some (map (term_cells scene.now.extent (at_hand (state_of scene.now) values.now)) (ops.terms_of (to_op (op_view op.now))))) }
+    requires there { IsSome (all_some (map (term_cells scene.now.extent (at_hand (state_of scene.now) values.now)) (ops.terms_of (op_view op.now)))) }
     ensures value { IsValued scene.now.extent name.now (made scene.now.extent (at_hand (state_of scene.now) values.now) (find_making (layers (after_scene scene.now)) name.now)) result }
     ensures stamped { IfOk result (IsOfStamp scene.now.extent stamp) }
     ensures parts { KeepsParts (M.counts tally.old) (M.counts tally.new) }
@@ -167,10 +166,10 @@ fn operands_of<'a>(scene: &Scene<'a>, values: &'a [Valued], stamp: u64, op: &Op)
     requires scene { IsScene scene.now }
     requires stamped { All (IsOfStamp scene.now.extent stamp) values.now }
     requires formed { IsOp (op_view op.now) }
-    requires there { IsSome (all_some (map (term_cells scene.now.extent (at_hand (state_of scene.now) values.now)) (ops.terms_of (to_op (op_view op.now))))) }
-    ensures count { length result ≡ length (terms_of (op_view op.now)) }
+    requires there { IsSome (all_some (map (term_cells scene.now.extent (at_hand (state_of scene.now) values.now)) (ops.terms_of (op_view op.now)))) }
+    ensures count { length result ≡ length (ops.terms_of (op_view op.now)) }
     ensures size { All (λ c. c.size ≡ scene.now.extent) result }
-    ensures cells { all_some (map (term_cells scene.now.extent (at_hand (state_of scene.now) values.now)) (ops.terms_of (to_op (op_view op.now)))) ≡ Some (cells_after result) }
+    ensures cells { all_some (map (term_cells scene.now.extent (at_hand (state_of scene.now) values.now)) (ops.terms_of (op_view op.now))) ≡ Some (cells_after result) }
 {
     let mut operands = Operands::new();
     let mut k = 0;
@@ -186,9 +185,9 @@ fn operand_of<'a>(scene: &Scene<'a>, values: &'a [Valued], stamp: u64, term: &Te
     requires scene { IsScene scene.now }
     requires stamped { All (IsOfStamp scene.now.extent stamp) values.now }
     requires formed { IsTerm (term_view term.now) }
-    requires there { IsSome (term_cells scene.now.extent (at_hand (state_of scene.now) values.now) (to_term (term_view term.now))) }
+    requires there { IsSome (term_cells scene.now.extent (at_hand (state_of scene.now) values.now) (term_view term.now)) }
     ensures size { result.size ≡ scene.now.extent }
-    ensures cells { term_cells scene.now.extent (at_hand (state_of scene.now) values.now) (to_term (term_view term.now)) ≡ Some result.cells }
+    ensures cells { term_cells scene.now.extent (at_hand (state_of scene.now) values.now) (term_view term.now) ≡ Some result.cells }
 {
     match term {
         Term::Number(value) => match Cell::of(*value) {

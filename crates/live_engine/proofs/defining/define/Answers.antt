@@ -27,7 +27,7 @@ returns-then-statements_with-gt-MOST_STATEMENTS g c =
     record {
       accepts = (
         accept_err (seen_in old) (edits.define n w) (edits.beyond edits.statements)
-            (define_many old n c.args.written c.requires.kept other c.statements_with.result (count_defined c.statements_with.result (entries_in old) n w c.statements_with.ensures) c.if-statements_with-gt-MOST_STATEMENTS.true),
+            (define_many old n c.args.written c.requires.kept other c.statements_with.result (count_defined c.statements_with.result (entries_in old) n c.args.written c.statements_with.ensures) c.if-statements_with-gt-MOST_STATEMENTS.true),
         refl,
       );
       kept = c.requires.kept;
@@ -49,7 +49,7 @@ returns-in-Err-Cycle g c =
     record {
       accepts = (
         accept_err (seen_in old) (edits.define n w) (edits.cycle n)
-            (define_cycle old n c.args.written c.requires.kept other c.statements_with.result (count_defined c.statements_with.result (entries_in old) n w c.statements_with.ensures) c.if-statements_with-gt-MOST_STATEMENTS.false
+            (define_cycle old n c.args.written c.requires.kept other c.statements_with.result (count_defined c.statements_with.result (entries_in old) n c.args.written c.statements_with.ensures) c.if-statements_with-gt-MOST_STATEMENTS.false
             (looped_with old n c.args.written c.requires.kept other true looped)),
         refl,
       );
@@ -68,7 +68,7 @@ evaluated-requires g c =
       kept = c.requires.kept;
       shift = (c.requires.plain, c.requires.formed);
       graph = put.0 ∙ groups_with old n c.args.written c.requires.kept other;
-      lawful = lawful_with old n c.args.written c.requires.kept other c.statements_with.result (count_defined c.statements_with.result (entries_in old) n w c.statements_with.ensures) c.if-statements_with-gt-MOST_STATEMENTS.false
+      lawful = lawful_with old n c.args.written c.requires.kept other c.statements_with.result (count_defined c.statements_with.result (entries_in old) n c.args.written c.statements_with.ensures) c.if-statements_with-gt-MOST_STATEMENTS.false
           (looped_with old n c.args.written c.requires.kept other false put.1);
     }
 
@@ -79,7 +79,7 @@ returns-in-Ok-evaluated g c =
     let w = written_view c.args.written in
     let other : OtherThanSource (find_def (entries_in old) n) = other_from (find_def (entries_in old) n) c.kind_of.result c.kind_of.ensures c.in_default.not-Source in
     let put = subst (IsGraphWith old.graph n (written_node n w ∷ [])) c.in-Ok.is c.with_statement.ensures in
-    let count = count_defined c.statements_with.result (entries_in old) n w c.statements_with.ensures in
+    let count = count_defined c.statements_with.result (entries_in old) n c.args.written c.statements_with.ensures in
     let few = c.if-statements_with-gt-MOST_STATEMENTS.false in
     let alone = looped_with old n c.args.written c.requires.kept other false put.1 in
     let items = insert_entry bytes_eq old.names.entries n (Statement c.args.written) in
@@ -100,7 +100,7 @@ returns-in-Err g c =
     let w = written_view c.args.written in
     let other : OtherThanSource (find_def (entries_in old) n) = other_from (find_def (entries_in old) n) c.kind_of.result c.kind_of.ensures c.in_default.not-Source in
     let put = subst (IsGraphWith old.graph n (written_node n w ∷ [])) c.in-Ok.is c.with_statement.ensures in
-    let count = count_defined c.statements_with.result (entries_in old) n w c.statements_with.ensures in
+    let count = count_defined c.statements_with.result (entries_in old) n c.args.written c.statements_with.ensures in
     let alone = looped_with old n c.args.written c.requires.kept other false put.1 in
     record {
       accepts = subst (Refuses (seen_in old) (seen_in old) (edits.define n w)) (sym c.refused.ensures)

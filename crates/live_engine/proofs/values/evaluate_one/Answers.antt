@@ -1,5 +1,4 @@
 use Rattle.std.proofs.Common.{Some, ap, ◌∙◌}
-use Rattle.statement_parser.specs.ToOps.{to_op}
 use Rattle.statement_parser.specs.Views.{op_view}
 use Rattle.live_engine.specs.Scenes.{after_scene, state_of}
 use Rattle.live_engine.specs.Values.{at_hand}
@@ -32,4 +31,4 @@ evaluate_op-requires-clause-there g c =
     let a = c.in-Some-Statement in
     let op = op_view c.plain_op-op.result.now in
     let making = making_plain (after_scene scene) c.args.name.now c.find.result (own_scene scene) c.find.ensures.def a.written op (a.is ∙ ap (λ f. Some f) a.field-0-is) c.plain_op-op.ensures in
-    operands_there scene.extent (at_hand (state_of scene) c.args.values.now) _ (to_op op) making c.requires.there
+    operands_there scene.extent (at_hand (state_of scene) c.args.values.now) _ op making c.requires.there

@@ -1,10 +1,11 @@
 use Rattle.std.proofs.Common.{◌≡◌, sym, ap, ◌∙◌, arith, Some, slice_get, option_map}
 use Rattle.std.proofs.lemmas.Option.{slice_get_within}
-use Rattle.statement_parser.specs.Lines.{terms_of}
+use Rattle.map_defs.specs.Ops.{terms_of}
 use Rattle.statement_parser.specs.Views.{op_view, term_view}
 use Rattle.live_engine.specs.Scenes.{state_of}
 use Rattle.live_engine.specs.Values.{at_hand}
-use Rattle.live_engine.proofs.Hand.{term_formed, operand_there, operands_more, operands_all, past_terms}
+use Rattle.statement_parser.proofs.TermLemmas.{term_formed, past_last}
+use Rattle.live_engine.proofs.Hand.{operand_there, operands_more, operands_all}
 use Rattle.live_engine.proofs.values.operands_of.Goals as goal
 
 pub operand_of-requires-clause-formed : goal.operand_of-requires-clause-formed
@@ -31,12 +32,12 @@ loop-term-preserved c =
 
 pub returns-clause-count : goal.returns-clause-count
 returns-clause-count c =
-    let long = past_terms (op_view c.args.op.now) c.loop-term.k c.term.result c.term.ensures c.in_default.not-Some in
+    let long = past_last (λ t. term_view t.now) (terms_of (op_view c.args.op.now)) c.loop-term.k c.term.result c.term.ensures c.in_default.not-Some in
     let within = c.loop-term.invariant.within in
     let count = c.loop-term.invariant.count in
     omega arith
 
 pub returns-clause-cells : goal.returns-clause-cells
 returns-clause-cells c =
-    let long = past_terms (op_view c.args.op.now) c.loop-term.k c.term.result c.term.ensures c.in_default.not-Some in
+    let long = past_last (λ t. term_view t.now) (terms_of (op_view c.args.op.now)) c.loop-term.k c.term.result c.term.ensures c.in_default.not-Some in
     operands_all c.args.scene.now.extent (at_hand (state_of c.args.scene.now) c.args.values.now) (op_view c.args.op.now) c.loop-term.k c.loop-term.operands c.loop-term.invariant long

@@ -1,5 +1,5 @@
 use Rattle.std.proofs.Common.{length, ◌-◌}
-use Rattle.statement_parser.specs.Lines.{terms_of}
+use Rattle.map_defs.specs.Ops.{terms_of}
 use Rattle.statement_parser.specs.Views.{op_view}
 use Rattle.live_engine.specs.Scenes.{state_of}
 use Rattle.live_engine.specs.Values.{at_hand}
