@@ -292,9 +292,7 @@ impl<'a> Change<'a> {
             Body::Constant(..) => false,
         }
     }
-}
 
-impl<'a> Change<'a> {
     /// The least touched tile that is not below `from`.
     pub fn next_touched(&self, from: u32) -> Option<u32>
         ensures next { IfSome result (IsNext self.now.touched from) }

@@ -1,4 +1,4 @@
 pub mod Numbers
 pub mod Twos
 pub mod Lending
-pub mod Rows
+pub mod LentRows

@@ -24,7 +24,7 @@ pub(crate) struct LocalTile<'a, 'b> {
 }
 
 impl<'a, 'b> TileMaker for LocalTile<'a, 'b> {
-    ghost use Rattle.std.specs.Prelude.{◌×◌, length};
+    ghost use Rattle.std.specs.Prelude.{length};
     ghost use Rattle.layer_tiles.specs.Tiles.{tile_height, tile_width};
     ghost use Rattle.local_ops.specs.Operations.{op_of, Takes};
     ghost use Rattle.local_ops.specs.Operands.{cell_by, HaveSize};
@@ -50,7 +50,7 @@ struct RowOfTwo<'a> {
 }
 
 impl<'a> RowMaker for RowOfTwo<'a> {
-    ghost use Rattle.std.specs.Prelude.{◌×◌, ◌<◌, [], ◌∷◌, length};
+    ghost use Rattle.std.specs.Prelude.{◌<◌, [], ◌∷◌, length};
     ghost use Rattle.map_nums.specs.Grids.{cell_at};
     ghost use Rattle.map_defs.specs.Local.{local_cell};
     ghost use Rattle.local_ops.specs.Operations.{op_of, Takes};
@@ -72,7 +72,7 @@ struct RowOfAny<'a, 'b> {
 }
 
 impl<'a, 'b> RowMaker for RowOfAny<'a, 'b> {
-    ghost use Rattle.std.specs.Prelude.{◌×◌, ◌<◌, length, map};
+    ghost use Rattle.std.specs.Prelude.{◌<◌, length, map};
     ghost use Rattle.std.specs.List.{All};
     ghost use Rattle.map_nums.specs.Grids.{cell_at};
     ghost use Rattle.map_defs.specs.Local.{local_cell};

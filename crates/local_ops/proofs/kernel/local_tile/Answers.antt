@@ -7,7 +7,7 @@ use Rattle.tile_frame.specs.Frames.{by_row}
 use Rattle.local_ops.specs.Operations.{op_of}
 use Rattle.local_ops.specs.Operands.{blocks_of, cell_by, HaveSize}
 use Rattle.local_ops.proofs.Lending.{size_first, blocks_sizes}
-use Rattle.local_ops.proofs.Rows.{local_answer}
+use Rattle.local_ops.proofs.LentRows.{local_answer}
 use Rattle.local_ops.proofs.kernel.local_tile.Goals as goal
 use Rattle.local_ops.proofs.kernel.local_tile.Goals.{After-deref}
 

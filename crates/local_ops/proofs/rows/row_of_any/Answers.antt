@@ -6,7 +6,7 @@ use Rattle.layer_tiles.specs.Tiles.{Block, tile_height, tile_width}
 use Rattle.tile_frame.proofs.Framing.{row_as}
 use Rattle.local_ops.specs.Operations.{op_of, Takes}
 use Rattle.local_ops.specs.Operands.{cell_by}
-use Rattle.local_ops.proofs.Rows.{rows-column, rows-wide}
+use Rattle.local_ops.proofs.LentRows.{rows-column, rows-wide}
 use Rattle.local_ops.proofs.rows.row_of_any.Goals as goal
 
 pub make_row-requires-clause-columns : goal.make_row-requires-clause-columns

@@ -5,7 +5,7 @@ use Rattle.layer_tiles.specs.Tiles.{tile_height, tile_width}
 use Rattle.tile_frame.proofs.Framing.{row_as}
 use Rattle.local_ops.specs.Operations.{op_of}
 use Rattle.local_ops.specs.Operands.{cell_by}
-use Rattle.local_ops.proofs.Rows.{row_cells-two, width_at}
+use Rattle.local_ops.proofs.LentRows.{row_cells-two, width_at}
 use Rattle.local_ops.proofs.rows.row_of_two.Goals as goal
 
 pub make_row-requires-clause-columns : goal.make_row-requires-clause-columns

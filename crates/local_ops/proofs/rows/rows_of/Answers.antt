@@ -1,7 +1,7 @@
 use Rattle.std.proofs.Common.{◌≡◌, ◌+◌, ◌∷◌, [], ◌++◌, arith, length, take, set, ◌∙◌}
 use Rattle.std.proofs.lemmas.List.{take_more_set, length-set}
 use Rattle.layer_tiles.specs.Tiles.{block_row}
-use Rattle.local_ops.proofs.Rows.{rows-more}
+use Rattle.local_ops.proofs.LentRows.{rows-more}
 use Rattle.local_ops.proofs.rows.rows_of.Goals as goal
 
 pub loop-k-preserved : goal.loop-k-preserved

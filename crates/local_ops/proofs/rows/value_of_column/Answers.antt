@@ -4,7 +4,7 @@ use Rattle.std.proofs.lemmas.Int.{to_z-of_z}
 use Rattle.map_nums.specs.Grids.{Cells}
 use Rattle.map_defs.specs.Local.{all_numbers}
 use Rattle.local_ops.proofs.Numbers.{all_numbers-push, all_numbers-null, takes_some}
-use Rattle.local_ops.proofs.Rows.{column-more, column-get}
+use Rattle.local_ops.proofs.LentRows.{column-more, column-get}
 use Rattle.local_ops.proofs.rows.value_of_column.Goals as goal
 
 pub returns-in-None : goal.returns-in-None
