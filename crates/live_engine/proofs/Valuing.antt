@@ -11,14 +11,13 @@ use Rattle.statement_parser.specs.Views.{op_view}
 use Rattle.statement_parser.specs.declared.op.Op.{Op}
 use Rattle.statement_parser.proofs.Viewed.{by_view}
 use Rattle.layer_tiles.specs.Layers.{LayerState, layer_of}
-use Rattle.layer_tiles.specs.Tallies.{TallyState, RisesBy}
+use Rattle.layer_tiles.specs.Tallies.{TallyState, RisesBy, KeepsParts}
 use Rattle.layer_tiles.specs.declared.kernels.KernelRefusal.TheVariants as refusals
 use Rattle.op_jobs.specs.Evaluated.{IsEvaluated}
 use Rattle.map_edits.specs.Entries.{Making, by_op}
 use Rattle.map_edits.specs.EngineStates.{all_some, term_cells, made}
 use Rattle.map_edits.specs.Faults.{wide_place, overflow_at}
 use Rattle.live_engine.specs.Held.{grid_of}
-use Rattle.live_engine.specs.Parts.{KeepsParts}
 use Rattle.live_engine.specs.Values.{IsOfStamp, IsValued, IsHalt}
 use Rattle.live_engine.specs.declared.values.Valued.{Valued}
 use Rattle.live_engine.specs.declared.values.Halt.{Halt}

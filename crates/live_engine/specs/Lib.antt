@@ -1,4 +1,3 @@
-pub mod Parts
 pub mod Held
 pub mod Groups
 pub mod Scenes

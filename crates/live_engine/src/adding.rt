@@ -8,7 +8,7 @@ ghost use Rattle.map_edits.specs.Edits as edits;
 ghost use Rattle.live_engine.specs.Accepts.{Accepts};
 ghost use Rattle.live_engine.specs.Held.{grid_of};
 ghost use Rattle.live_engine.specs.Holdings.{entries_in, seen_in, IsKeptIn};
-ghost use Rattle.live_engine.specs.Parts.{KeepsParts};
+ghost use Rattle.layer_tiles.specs.Tallies.{KeepsParts};
 
 use crate::edits::{Accepted, Refusal, Which};
 use crate::evaluating::{evaluated, refused};

@@ -8,7 +8,7 @@ ghost use Rattle.map_edits.specs.EngineStates.{no_entries};
 ghost use Rattle.map_edits.specs.LineEdits.{line_edit};
 ghost use Rattle.live_engine.specs.Accepts.{Accepts, edit_of, IsFormedEdit};
 ghost use Rattle.live_engine.specs.Holdings.{seen_in, IsKeptIn};
-ghost use Rattle.live_engine.specs.Parts.{KeepsParts};
+ghost use Rattle.layer_tiles.specs.Tallies.{KeepsParts};
 ghost use Rattle.live_engine.specs.Asked.{TellsLayer, listed, listed_of};
 
 use crate::adding::{load, new_layer};

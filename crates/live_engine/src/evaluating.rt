@@ -4,7 +4,7 @@ ghost use Rattle.std.specs.Prelude.{◌≡◌};
 ghost use Rattle.live_engine.specs.Holdings.{entries_in, IsKeptIn};
 ghost use Rattle.live_engine.specs.Engines.{AreLawful};
 ghost use Rattle.live_engine.specs.Groups.{groups_of};
-ghost use Rattle.live_engine.specs.Parts.{KeepsParts};
+ghost use Rattle.layer_tiles.specs.Tallies.{KeepsParts};
 ghost use Rattle.live_engine.specs.Refusals.{refusal_of};
 ghost use Rattle.live_engine.specs.Scenes.{shifted, state_with, IsShift};
 ghost use Rattle.live_engine.specs.Values.{IsEvaluation};

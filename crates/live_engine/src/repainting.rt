@@ -5,7 +5,7 @@ ghost use Rattle.map_edits.specs.Edits as edits;
 ghost use Rattle.live_engine.specs.Accepts.{Accepts};
 ghost use Rattle.live_engine.specs.Holdings.{seen_in, IsKeptIn};
 ghost use Rattle.live_engine.specs.Painting.{rectangle_of};
-ghost use Rattle.live_engine.specs.Parts.{KeepsParts};
+ghost use Rattle.layer_tiles.specs.Tallies.{KeepsParts};
 
 use crate::edits::{Accepted, Refusal};
 use crate::evaluating::{evaluated, refused};

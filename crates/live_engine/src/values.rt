@@ -8,12 +8,12 @@ ghost use Rattle.statement_graph.specs.Groups.{nodes_in};
 ghost use Rattle.statement_parser.specs.Formed.{IsOp, IsTerm};
 ghost use Rattle.map_defs.specs.Statements.{plain};
 ghost use Rattle.statement_parser.specs.Views.{op_view, term_view, written_view};
-ghost use Rattle.local_ops.specs.Operands.{cells_after};
+ghost use Rattle.layer_tiles.specs.Operands.{cells_after};
 ghost use Rattle.map_edits.specs.Entries.{by_op, find_making, layers, nodes_of};
 ghost use Rattle.map_edits.specs.EngineStates.{all_some, made, term_cells};
 ghost use Rattle.map_edits.specs.Laws.{HasNoCycle};
 ghost use Rattle.live_engine.specs.Held.{grid_of};
-ghost use Rattle.live_engine.specs.Parts.{KeepsParts};
+ghost use Rattle.layer_tiles.specs.Tallies.{KeepsParts};
 ghost use Rattle.live_engine.specs.Scenes.{IsScene, after_scene, state_of};
 ghost use Rattle.live_engine.specs.Values.{IsEvaluation, IsOfStamp, IsValued, IsHalt, at_hand, defined_names, kept};
 

@@ -6,7 +6,7 @@ ghost use Rattle.statement_parser.specs.Lines.{ask_value, ask_grid, ask_list};
 ghost use Rattle.statement_parser.specs.Views.{request_view};
 ghost use Rattle.live_engine.specs.Asked.{listed_of};
 ghost use Rattle.live_engine.specs.Held.{grid_of};
-ghost use Rattle.live_engine.specs.Parts.{KeepsParts};
+ghost use Rattle.layer_tiles.specs.Tallies.{KeepsParts};
 ghost use Rattle.map_machine.specs.Answers.{is_on, cell_told, entry_line, answer_to};
 ghost use Rattle.map_session.specs.Said.{Says, listed_line};
 

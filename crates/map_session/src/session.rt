@@ -6,7 +6,7 @@ ghost use Rattle.statement_parser.specs.Formed.{IsEdit};
 ghost use Rattle.statement_parser.specs.Views.{edit_view};
 ghost use Rattle.map_edits.specs.Edits.{accept};
 ghost use Rattle.map_edits.specs.LineEdits.{line_edit};
-ghost use Rattle.live_engine.specs.Parts.{KeepsParts};
+ghost use Rattle.layer_tiles.specs.Tallies.{KeepsParts};
 ghost use Rattle.map_machine.specs.Loads.{first_read, next_read};
 ghost use Rattle.map_machine.specs.Steps.{edited};
 

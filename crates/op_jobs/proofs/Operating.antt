@@ -11,7 +11,7 @@ use Rattle.layer_tiles.specs.Answers.{IsTileAnswer, IsLeastWide}
 use Rattle.layer_tiles.specs.declared.kernels.KernelRefusal.{KernelRefusal}
 use Rattle.layer_tiles.specs.declared.kernels.KernelRefusal.TheVariants.{Overflow}
 use Rattle.local_ops.specs.Operations.{Takes}
-use Rattle.local_ops.specs.Operands.{size_of, cells_after}
+use Rattle.layer_tiles.specs.Operands.{size_of, cells_after}
 use Rattle.local_ops.proofs.Numbers.{takes_some}
 
 -- it has as many cells as its size

@@ -6,7 +6,7 @@ ghost use Rattle.map_defs.specs.Ops.{terms_of};
 ghost use Rattle.layer_tiles.specs.Tiles.{tiles_in};
 ghost use Rattle.layer_tiles.specs.Tallies.{RisesBy};
 ghost use Rattle.local_ops.specs.Operations.{op_of, Takes};
-ghost use Rattle.local_ops.specs.Operands.{cells_after};
+ghost use Rattle.layer_tiles.specs.Operands.{cells_after};
 ghost use Rattle.statement_parser.specs.Formed.{IsOp};
 ghost use Rattle.statement_parser.specs.Views.{op_view};
 ghost use Rattle.op_jobs.specs.Evaluated.{IsEvaluated};

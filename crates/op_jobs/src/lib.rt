@@ -8,5 +8,3 @@ mod tiling;
 
 pub use evaluation::evaluate;
 
-#[cfg(test)]
-mod tests;

@@ -6,7 +6,7 @@ ghost use Rattle.map_defs.specs.Local.{local_grid};
 ghost use Rattle.layer_tiles.specs.Tiles.{tiles_in};
 ghost use Rattle.layer_tiles.specs.Tallies.{RisesBy};
 ghost use Rattle.local_ops.specs.Operations.{op_of, Takes};
-ghost use Rattle.local_ops.specs.Operands.{cells_after};
+ghost use Rattle.layer_tiles.specs.Operands.{cells_after};
 ghost use Rattle.op_jobs.specs.Tiling.{IsTilesAnswer, IsLeastUpTo, IsOverflow};
 
 use layer_tiles::{Extent, KernelRefusal, Operands, Patch, Tally};

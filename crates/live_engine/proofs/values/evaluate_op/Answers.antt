@@ -1,7 +1,7 @@
 use Rattle.std.proofs.Common.{◌≡◌, Err, subst}
 use Rattle.map_defs.specs.Operate.{operate}
 use Rattle.statement_parser.specs.Views.{op_view}
-use Rattle.local_ops.specs.Operands.{cells_after}
+use Rattle.layer_tiles.specs.Operands.{cells_after}
 use Rattle.layer_tiles.specs.declared.kernels.KernelRefusal.{KernelRefusal}
 use Rattle.layer_tiles.specs.declared.kernels.KernelRefusal.TheVariants.{Overflow}
 use Rattle.op_jobs.specs.Evaluated.{IsEvaluated}

@@ -1,7 +1,7 @@
 use Rattle.std.proofs.lemmas.Result.{err_from_is_err_and}
 use Rattle.map_defs.specs.Local.{local_grid}
 use Rattle.local_ops.specs.Operations.{op_of}
-use Rattle.local_ops.specs.Operands.{cells_after}
+use Rattle.layer_tiles.specs.Operands.{cells_after}
 use Rattle.statement_parser.specs.Views.{op_view}
 use Rattle.op_jobs.proofs.Evaluating.{evaluated_layer, evaluated_refusal}
 use Rattle.op_jobs.proofs.Tiled.{tiled_all}

@@ -1,7 +1,7 @@
 use Rattle.std.proofs.Common.{length, Ok, arith}
 use Rattle.map_defs.specs.Local.{local_grid}
 use Rattle.local_ops.specs.Operations.{op_of}
-use Rattle.local_ops.specs.Operands.{cells_after}
+use Rattle.layer_tiles.specs.Operands.{cells_after}
 use Rattle.op_jobs.proofs.Operating.{size_first, size_each, answer_at, wide_at}
 use Rattle.op_jobs.proofs.Narrow.{least_keep, least_min}
 use Rattle.op_jobs.proofs.Rising.{rises_from}

@@ -2,7 +2,7 @@ use Rattle.std.proofs.Common.{length, Ok, arith}
 use Rattle.map_defs.specs.Local.{local_grid}
 use Rattle.layer_tiles.specs.Tiles.{tiles_in}
 use Rattle.local_ops.specs.Operations.{op_of}
-use Rattle.local_ops.specs.Operands.{cells_after}
+use Rattle.layer_tiles.specs.Operands.{cells_after}
 use Rattle.op_jobs.proofs.Operating.{size_first, answer_at, wide_at}
 use Rattle.op_jobs.proofs.Narrow.{least_first}
 use Rattle.op_jobs.proofs.Rising.{rises_tile, rises_rest}

@@ -2,7 +2,7 @@ use Rattle.std.proofs.Common.{◌*◌, length}
 use Rattle.map_defs.specs.Local.{local_grid}
 use Rattle.layer_tiles.specs.Tallies.{RisesBy}
 use Rattle.local_ops.specs.Operations.{op_of}
-use Rattle.local_ops.specs.Operands.{cells_after}
+use Rattle.layer_tiles.specs.Operands.{cells_after}
 use Rattle.op_jobs.specs.Tiling.{IsTiled}
 use Rattle.op_jobs.proofs.tiling.make_tiles.Given as goal
 
