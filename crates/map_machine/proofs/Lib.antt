@@ -5,6 +5,3 @@ pub mod OpeningLemmas
 pub mod WordsLemmas
 pub mod PairsLemmas
 pub mod WorkersLemmas
-mod LinesRows
-mod WordsRows
-mod RunRows

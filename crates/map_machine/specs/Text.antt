@@ -2,13 +2,10 @@
 use Rattle.std.specs.Prelude.{ℕ, Bool, List, [], ◌∷◌, ◌++◌, length, take, if◌then◌else◌, nat_lt}
 use Rattle.map_machine.specs.declared.Kind.{Kind}
 use Rattle.map_machine.specs.declared.Kind.TheVariants.{Refused}
+use Rattle.map_machine.specs.Limits.{longest_line}
 use Rattle.map_machine.specs.Lines.{ended_lines, lines_of}
 use Rattle.map_machine.specs.States.{MapState}
 use Rattle.map_machine.specs.Steps.{step_of, is_quit, long_reply}
-
--- the most bytes of a line
-abbrev pub longest_line : ℕ
-longest_line = 4096
 
 abbrev pub is_long : List ℕ → Bool
 is_long line = nat_lt longest_line (length line)

@@ -3,6 +3,7 @@ use Rattle.std.specs.Prelude.{ℕ, nat_lt, nat_le, ◌==◌, not, Bool, true, �
 use Rattle.std.specs.List.{list_any, range_with_len}
 use Rattle.std.specs.declared.alloc.Global.{Global}
 use Rattle.map_words.specs.Names.{is_plain}
+use Rattle.map_machine.specs.Limits.{most_pairs, most_workers}
 
 -- NAME=FILE
 pub record Pair : Type 0 where
@@ -41,9 +42,6 @@ abbrev pub are_apart : List Pair → Bool
 are_apart [] = true
 are_apart (p ∷ ps) = not (list_any (λ (q : Pair). bytes_eq q.name p.name) ps) && are_apart ps
 
-abbrev pub most_pairs : ℕ
-most_pairs = 32
-
 -- one to 32 pairs of distinct names
 abbrev pub pairs_of : Option (List Pair) → Option (List Pair)
 pairs_of None = None
@@ -51,7 +49,7 @@ pairs_of (Some ps) = if nat_lt 0 (length ps) && nat_le (length ps) most_pairs &&
 
 -- 1 to 64, in digits without a sign or a leading nought
 abbrev pub is_workers : List ℕ → Bool
-is_workers word = list_any (λ n. bytes_eq word (decimal n)) (range_with_len 1 64)
+is_workers word = list_any (λ n. bytes_eq word (decimal n)) (range_with_len 1 most_workers)
 
 -- the pairs of words of the form `run WORKERS - NAME=FILE {NAME=FILE}`
 abbrev pub run_pairs : List (String Global) → Option (List Pair)

@@ -1,6 +1,6 @@
 pub mod Calls
 pub mod Causes
 pub mod Contents
-pub mod Endings
+pub mod Takings
 pub mod Forms
 pub mod Writers

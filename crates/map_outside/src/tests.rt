@@ -1,140 +1,94 @@
-//! Each form once, where all goes well and where it fails.
+//! All that a reader has left, taken up to a limit.
 
-ghost use Rattle.std.specs.Prelude.{◌≡◌};
-
-use crate::{
-    Counts, Failed, FetchFault, FileShelf, MemoryShelf, MemorySink, MemorySource, PutFault,
-    ReadSource, Shelf, Sink, Source, WriteSink,
-};
-use layer_tiles::Tally;
+use crate::{FetchFault, ReadSource};
 use std::alloc::{AllocError, Global};
-use std::fs;
+use std::io;
+use std::io::Read;
 use std::test::Fail;
 
-fn named(alloc: Global, name: &str, bytes: &[u8]) -> Result<(String, Vec<u8>), AllocError> {
-    Ok((String::from_str(alloc, name)?, bytes.to_vec(alloc)?))
+/// Gives bytes in pieces, and fails once it has given so many.
+struct Pieces<'a> {
+    bytes: &'a [u8],
+    at: usize,
+    step: usize,
+    fails_at: usize,
+}
+
+impl Read for Pieces<'_> {
+    fn read(&mut self, buf: &mut [u8]) -> io::Result<usize> {
+        if self.at >= self.fails_at || self.at > self.bytes.len() {
+            return Err(io::Error::from(io::ErrorKind::Other));
+        }
+        let count = buf.len().min(self.step).min(self.bytes.len() - self.at);
+        buf[..count].copy_from_slice(&self.bytes[self.at..self.at + count]);
+        self.at += count;
+        Ok(count)
+    }
+}
+
+// So many bytes, of which neighbours differ.
+fn bytes_of(alloc: Global, count: usize) -> Result<Vec<u8>, AllocError> {
+    let mut bytes = Vec::new(alloc);
+    for at in 0..count {
+        bytes.push((at % 251) as u8)?;
+    }
+    Ok(bytes)
 }
 
 #[test]
-fn memory_shelf(rt: HostRuntime) -> Result<(), Fail> {
+fn takes_all_of_a_reader(rt: HostRuntime) -> Result<(), Fail> {
     let alloc = rt.alloc();
-    let files = vec![in alloc;
-        named(alloc, "a", b"one")?,
-        named(alloc, "b", b"three")?,
-        named(alloc, "a", b"two")?,
-    ]?;
-    let mut shelf = MemoryShelf::new(files, vec![in alloc; 2, 6]?);
-    for (name, limit, want) in [
-        ("a", 3, Ok(b"one".as_slice())),
-        ("b", 5, Err(FetchFault::Failed)),
-        ("b", 4, Err(FetchFault::Long)),
-        ("c", 4, Err(FetchFault::Failed)),
-        ("b", 5, Ok(b"three".as_slice())),
-        ("a", 3, Err(FetchFault::Failed)),
-    ] {
-        let got = shelf.fetch(alloc, name, limit);
-        match (got, want) {
-            (Ok(bytes), Ok(wanted)) => assert_eq!(rt; bytes.as_slice(), wanted),
-            (Err(fault), Err(wanted)) => assert_eq!(rt; fault, wanted),
-            _ => assert!(rt; false, "{name} {limit}"),
+    for (count, step) in [(0, 1), (1, 1), (4097, 1000), (65_536, 65_536), (70_000, 65_536)] {
+        let bytes = bytes_of(alloc, count)?;
+        for (limit, fits) in [(count as u64, true), (count as u64 + 1, true)] {
+            let mut source = ReadSource::new(Pieces {
+                bytes: &bytes,
+                at: 0,
+                step,
+                fails_at: usize::MAX,
+            });
+            match source.take_all(alloc, limit) {
+                Ok(taken) => assert!(rt; fits && taken.as_slice() == bytes.as_slice(), "{count} {limit}"),
+                Err(_) => assert!(rt; false, "{count} {limit}"),
+            }
+            assert_eq!(rt; source.faults(), 0);
         }
     }
     Ok(())
 }
 
 #[test]
-fn memory_source(rt: HostRuntime) -> Result<(), Fail> {
+fn stops_past_the_limit(rt: HostRuntime) -> Result<(), Fail> {
     let alloc = rt.alloc();
-    let bytes = b"abcdef".as_slice().to_vec(alloc)?;
-    let mut source = MemorySource::new(bytes, 2, vec![in alloc; 1, 3]?);
-    let mut into = [b'.'; 3];
-    assert_eq!(rt; source.take(&mut into), Err(Failed));
-    assert_eq!(rt; source.take(&mut into), Ok(2));
-    assert_eq!(rt; into, *b"ab.");
-    assert_eq!(rt; source.take(&mut into), Err(Failed));
-    assert_eq!(rt; source.take(&mut into[..1]), Ok(1));
-    assert_eq!(rt; source.take(&mut into), Ok(2));
-    assert_eq!(rt; into, *b"de.");
-    assert_eq!(rt; source.take(&mut into), Ok(1));
-    assert_eq!(rt; into, *b"fe.");
-    assert_eq!(rt; source.take(&mut into), Ok(0));
+    let bytes = bytes_of(alloc, 70_000)?;
+    for limit in [0, 1, 4096, 69_999] {
+        let mut source = ReadSource::new(Pieces {
+            bytes: &bytes,
+            at: 0,
+            step: 1000,
+            fails_at: limit as usize + 1,
+        });
+        let taken = source.take_all(alloc, limit);
+        assert!(rt; matches!(taken, Err(FetchFault::Long)), "{limit}");
+        assert_eq!(rt; source.faults(), 0);
+    }
     Ok(())
 }
 
 #[test]
-fn memory_sink(rt: HostRuntime) -> Result<(), Fail> {
+fn a_read_that_fails_is_a_fault(rt: HostRuntime) -> Result<(), Fail> {
     let alloc = rt.alloc();
-    let mut sink = MemorySink::new(alloc, vec![in alloc; 2]?);
-    assert_eq!(rt; sink.put(b"ab"), Ok(()));
-    assert_eq!(rt; sink.put(b"cd"), Err(PutFault::Failed));
-    assert_eq!(rt; sink.put(b"ef"), Ok(()));
-    assert_eq!(rt; sink.bytes(), b"abef".as_slice());
-    Ok(())
-}
-
-/// A tally as the engine's calls take it.
-fn engine_tally<M: Tally + Send>(tally: M) -> M
-    ensures { result ≡ tally }
-{
-    tally
-}
-
-#[test]
-fn counts(rt: HostRuntime) {
-    let mut tally = engine_tally(Counts::new());
-    tally.look();
-    let mut part = tally.fork();
-    part.look();
-    part.pick();
-    tally.pick();
-    tally.absorb(part);
-    assert_eq!(rt; (tally.looks(), tally.picks()), (2, 2));
-}
-
-#[test]
-fn read_source(rt: HostRuntime) {
-    let mut source = ReadSource::new(b"abc".as_slice());
-    let mut into = [b'.'; 2];
-    assert_eq!(rt; source.take(&mut into), Ok(2));
-    assert_eq!(rt; into, *b"ab");
-    assert_eq!(rt; source.take(&mut into), Ok(1));
-    assert_eq!(rt; into, *b"cb");
-    assert_eq!(rt; source.take(&mut into), Ok(0));
-}
-
-#[test]
-fn write_sink(rt: HostRuntime) {
-    let mut bytes = Vec::new(rt.alloc());
-    {
-        let mut sink = WriteSink::new(&mut bytes);
-        assert_eq!(rt; sink.put(b"ab"), Ok(()));
-        assert_eq!(rt; sink.put(b"c"), Ok(()));
+    let bytes = bytes_of(alloc, 70_000)?;
+    for fails_at in [0, 1, 65_536, 70_000] {
+        let mut source = ReadSource::new(Pieces {
+            bytes: &bytes,
+            at: 0,
+            step: 1,
+            fails_at,
+        });
+        let taken = source.take_all(alloc, 70_000);
+        assert!(rt; matches!(taken, Err(FetchFault::Failed)), "{fails_at}");
+        assert_eq!(rt; source.faults(), 1);
     }
-    assert_eq!(rt; bytes.as_slice(), b"abc".as_slice());
-}
-
-#[test]
-fn full_writer(rt: HostRuntime) {
-    let mut room = [b'.'; 3];
-    {
-        let mut sink = WriteSink::new(room.as_mut_slice());
-        assert_eq!(rt; sink.put(b"ab"), Ok(()));
-        assert_eq!(rt; sink.put(b"cd"), Err(PutFault::Failed));
-    }
-    assert_eq!(rt; room, *b"abc");
-}
-
-#[test]
-fn file_shelf(rt: HostRuntime) -> Result<(), Fail> {
-    const NAME: &str = "map_outside_test_file";
-    fs::write(&rt, NAME, b"three".as_slice())?;
-    let mut shelf = FileShelf::new(&rt);
-    let whole = shelf.fetch(rt.alloc(), NAME, 5);
-    assert!(rt; matches!(&whole, Ok(bytes) if bytes.as_slice() == b"three".as_slice()));
-    let long = shelf.fetch(rt.alloc(), NAME, 4);
-    assert!(rt; matches!(long, Err(FetchFault::Long)));
-    fs::remove_file(&rt, NAME)?;
-    let missing = shelf.fetch(rt.alloc(), NAME, 5);
-    assert!(rt; matches!(missing, Err(FetchFault::Failed)));
     Ok(())
 }

@@ -19,6 +19,7 @@ use Rattle.statement_parser.specs.LineOf.{line_of}
 use Rattle.map_edits.specs.EngineStates.{value_of}
 use Rattle.map_edits.specs.Faults.{fault_of}
 use Rattle.map_edits.specs.Edits.{accept}
+use Rattle.map_machine.specs.Limits.{longest_file, too_many_bytes}
 use Rattle.map_machine.specs.Loads.{first_load, next_load, long_file_reply}
 use Rattle.map_machine.specs.Play.{Files, Opening, goes_on, turned_back, run_text, run_opening}
 use Rattle.map_machine.specs.Steps.{step_of, is_quit, long_reply}
@@ -32,7 +33,7 @@ two_files first second name = if bytes_eq name (codes "a") then Some first else 
 
 -- the text of a run over these files, and how its loads come out
 abbrev Comes : List (String Global) → Files → List ℕ → List ℕ → Opening → Type 0
-Comes words files session text opening = (run_text 67108864 1073741824 words files session ≡ text) × (run_opening 67108864 words files ≡ opening)
+Comes words files session text opening = (run_text longest_file too_many_bytes words files session ≡ text) × (run_opening longest_file words files ≡ opening)
 
 -- a run of the words `run 1 - PAIR`
 abbrev RunsOne : List ℕ → List ℕ → List ℕ → List ℕ → Opening → Type 0

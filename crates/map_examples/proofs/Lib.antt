@@ -1,0 +1,3 @@
+mod LineTexts
+mod RunWords
+mod RunTexts
