@@ -16,6 +16,3 @@ pub use name::Name;
 pub use naming::{NameRefusal, has_name_form, is_dotted, is_plain};
 pub use numbers::{is_number, number_in};
 pub use reserved::is_reserved;
-
-#[cfg(test)]
-mod tests;

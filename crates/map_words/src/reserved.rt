@@ -95,18 +95,21 @@ fn is_among_words(words: &[&[u8]], text: &[u8]) -> bool
     words.iter().any(|word| *word == text)
 }
 
+#[tactic(auto, unfolding(crate::specs::Names::is_among))]
 fn is_line_word(text: &[u8]) -> bool
     ensures { result ≡ is_among line_words text.now }
 {
     is_among_words(&LINE_WORDS, text)
 }
 
+#[tactic(auto, unfolding(crate::specs::Names::is_among))]
 fn is_part_word(text: &[u8]) -> bool
     ensures { result ≡ is_among part_words text.now }
 {
     is_among_words(&PART_WORDS, text)
 }
 
+#[tactic(auto, unfolding(crate::specs::Names::is_among))]
 fn is_operation_word(text: &[u8]) -> bool
     ensures { result ≡ is_among operation_words text.now }
 {
