@@ -14,7 +14,7 @@ use Rattle.grid_text.specs.Contents.{grid_in}
 use Rattle.grid_text.specs.Printed.{grid_text}
 use Rattle.grammar_core.specs.Run.{run}
 use Rattle.statement_parser.specs.Operations.{operation_named}
-use Rattle.statement_parser.specs.Grammar.{command_named}
+use Rattle.statement_parser.specs.Commands.{command_named}
 use Rattle.statement_parser.specs.LineOf.{line_of}
 use Rattle.map_edits.specs.EngineStates.{value_of}
 use Rattle.map_edits.specs.Faults.{fault_of}
