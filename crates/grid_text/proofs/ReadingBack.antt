@@ -25,7 +25,7 @@ use Rattle.grid_text.proofs.WordTexts.{IsWord, word_first}
 -- ---- the cells
 
 -- each is null or in the range
-AreInRange : Cells → Type 0
+abbrev AreInRange : Cells → Type 0
 AreInRange [] = Unit {0}
 AreInRange (c ∷ cells) = IsCell c × AreInRange cells
 

@@ -15,7 +15,7 @@ use Rattle.live_engine.specs.Held.{entries_of}
 use Rattle.live_engine.specs.Groups.{groups_of}
 use Rattle.live_engine.specs.Engines.{IsHeld, seen, AreLawful, IsKept}
 use Rattle.live_engine.specs.Scenes.{state_with}
-use Rattle.live_engine.specs.Values.{AreValues, IsEvaluation}
+use Rattle.live_engine.specs.Values.{AreValues, IsEvaluation, IsOfStamp}
 use Rattle.live_engine.specs.Refusals.{refusal_of}
 use Rattle.live_engine.specs.Accepts.{Refuses, Accepts}
 use Rattle.live_engine.specs.Holdings.{seen_in, IsKeptIn, IsPlaced}
@@ -82,14 +82,14 @@ kept_at size size' items items' graph graph' values values' k k' p q g v r kept 
     (subst (λ x. IsKept size' x graph values k) (sym q)
     (subst (λ x. IsKept x items graph values k) (sym p) kept))))
 
-module _ (old new : Held) (edit : Edit) (items : List (List ℕ × Item)) (graph : List Group) (values : List Valued) (accepted : Accepted) (placed : IsPlaced old new items graph values accepted)
+module _ (old new : Held) (items : List (List ℕ × Item)) (graph : List Group) (values : List Valued) (accepted : Accepted) (placed : IsPlaced old new items graph values accepted)
     (is : AreValues (state_with old.extent (entries_of items)) values × (fault_of (state_with old.extent (entries_of items)) ≡ None)) where
-  pub placed_accepts : entries_after (seen_in old) edit ≡ Ok (entries_of items) → Accepts (seen_in old) (seen_in new) edit (Ok accepted)
-  placed_accepts after =
+  pub placed_accepts : (edit : Edit) → entries_after (seen_in old) edit ≡ Ok (entries_of items) → Accepts (seen_in old) (seen_in new) edit (Ok accepted)
+  placed_accepts edit after =
       (accept_ok (seen_in old) edit (entries_of items) after is.1 ∙ ap (λ s. Ok s) (same_state old.extent new.extent items new.names.entries (raised old.number 1) new.number placed.extent_stays placed.items_are placed.number_rises), placed.told)
 
-  pub placed_kept : All (IsHeld old.extent) items → AreLawful (entries_of items) → graph ≡ groups_of (entries_of items) → IsKeptIn new
-  placed_kept held law groups =
+  pub placed_kept : All (IsOfStamp old.extent (raised old.number 1)) values → All (IsHeld old.extent) items → AreLawful (entries_of items) → graph ≡ groups_of (entries_of items) → IsKeptIn new
+  placed_kept stamped held law groups =
       kept_at old.extent new.extent items new.names.entries graph new.graph values new.values.items (raised old.number 1) new.number
       placed.extent_stays placed.items_are placed.graph_is placed.values_are placed.number_rises
       (record {
@@ -97,6 +97,7 @@ module _ (old new : Held) (edit : Edit) (items : List (List ℕ × Item)) (graph
         lawful = law;
         graph_is = groups;
         values_are = values_with old.extent (entries_of items) (raised old.number 1) values is.0;
+        stamped = stamped;
         faultless = fault_with old.extent (entries_of items) (raised old.number 1) ∙ is.1;
       })
 
@@ -109,5 +110,6 @@ nothing_kept size = record {
   lawful = record { well = record { none_looped = λ n. refl; own = tt; apart = tt }; sources = omega arith; flats = omega arith };
   graph_is = refl;
   values_are = λ n op is. absurd cc;
+  stamped = All-nil (IsOfStamp size 0);
   faultless = refl;
 }

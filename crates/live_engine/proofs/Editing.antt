@@ -5,6 +5,7 @@ use Rattle.std.proofs.lemmas.Bool.{lt-ltb, le-ltb, and_parts, eqb-true}
 use Rattle.std.specs.Map.{lookup, set_value}
 use Rattle.layer_tiles.specs.Layers.{LayerState, IsCommitted}
 use Rattle.layer_tiles.specs.Patches.{PatchState, patched}
+use Rattle.map_nums.specs.Counts.{raised}
 use Rattle.map_nums.specs.Grids.{Size, Grid, constant}
 use Rattle.map_defs.specs.Ops.{Name, Op}
 use Rattle.map_defs.specs.Depths.{is_looped}
@@ -29,7 +30,7 @@ use Rattle.live_engine.specs.Groups.{groups_of, statement_nodes, written_node}
 use Rattle.live_engine.specs.Engines.{IsHeld, AreLawful}
 use Rattle.live_engine.specs.Scenes.{state_with}
 use Rattle.live_engine.specs.Standing.{standing_of, OtherThanSource}
-use Rattle.live_engine.specs.Values.{AreValues, IsEvaluation}
+use Rattle.live_engine.specs.Values.{AreValues, IsEvaluation, IsOfStamp}
 use Rattle.live_engine.specs.Accepts.{Refuses, Accepts}
 use Rattle.live_engine.specs.Holdings.{entries_in, seen_in, IsKeptIn, IsPlaced}
 use Rattle.live_engine.specs.declared.edits.Accepted.{Accepted}
@@ -59,10 +60,10 @@ module _ (old new : Held) (items : List (List ℕ × Item)) (es : List Entry) (g
   values_are = subst (λ x. AreValues (state_with old.extent x) values × (fault_of (state_with old.extent x) ≡ None)) (sym e) is
 
   pub accepts_after : (edit : Edit) → entries_after (seen_in old) edit ≡ Ok es → Accepts (seen_in old) (seen_in new) edit (Ok accepted)
-  accepts_after edit after = placed_accepts old new edit items graph values accepted placed values_are (after ∙ ap (λ x. Ok x) (sym e))
+  accepts_after edit after = placed_accepts old new items graph values accepted placed values_are edit (after ∙ ap (λ x. Ok x) (sym e))
 
-  pub kept_after : (edit : Edit) → All (IsHeld old.extent) items → AreLawful es → graph ≡ groups_of es → IsKeptIn new
-  kept_after edit held law groups = placed_kept old new edit items graph values accepted placed values_are held (subst AreLawful (sym e) law) (groups ∙ ap groups_of (sym e))
+  pub kept_after : All (IsOfStamp old.extent (raised old.number 1)) values → All (IsHeld old.extent) items → AreLawful es → graph ≡ groups_of es → IsKeptIn new
+  kept_after stamped held law groups = placed_kept old new items graph values accepted placed values_are stamped held (subst AreLawful (sym e) law) (groups ∙ ap groups_of (sym e))
 
 -- ---- a source is added
 

@@ -16,3 +16,4 @@ mod Lawful
 mod Accepting
 mod Editing
 mod Reading
+pub mod Sounds

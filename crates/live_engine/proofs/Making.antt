@@ -5,7 +5,7 @@ use Rattle.std.specs.Map.{keys_of}
 use Rattle.std.specs.List.{IsDistinct}
 use Rattle.std.proofs.lemmas.Option.{none-some, same_Some}
 use Rattle.map_defs.specs.Ops.{Name, Op}
-use Rattle.map_defs.specs.Statements.{Written, plain}
+use Rattle.map_defs.specs.Statements.{Flat, Written, plain}
 use Rattle.map_defs.specs.Expansion.{expansion_of}
 use Rattle.statement_parser.specs.Views.{op_view, written_view}
 use Rattle.statement_parser.specs.declared.op.Op as seen
@@ -113,7 +113,7 @@ apart_scene scene distinct = apart_shifted (entries_of scene.names.now.entries) 
 
 -- ---- how a layer is made, by what is found
 
-written_op : (n : Name) (w : Written) (flats : _) (op : Op) (o : seen.Op) → flats ≡ record { name = n; op = op_view o } ∷ [] → def_making (Some (statement w flats)) ≡ Some (by_op op) → op ≡ op_view o
+written_op : (n : Name) (w : Written) (flats : List Flat) (op : Op) (o : seen.Op) → flats ≡ record { name = n; op = op_view o } ∷ [] → def_making (Some (statement w flats)) ≡ Some (by_op op) → op ≡ op_view o
 written_op n w flats op o is e = let made : Some (by_op (op_view o)) ≡ Some (by_op op) = sym (ap (λ fs. def_making (Some (statement w fs))) is) ∙ e in cc
 
 def_op : (n : Name) (d : Option Def) (op : Op) → ((x : Def) → d ≡ Some x → IsLinedDef n x) → def_making d ≡ Some (by_op op) → (o : seen.Op) × (op ≡ op_view o)

@@ -13,7 +13,7 @@ use Rattle.map_edits.specs.Edits.{is_source, is_flat, most_sources, most_flats}
 use Rattle.map_edits.specs.Laws.{IsWellMade}
 use Rattle.live_engine.specs.Groups.{groups_of}
 use Rattle.live_engine.specs.Held.{entries_of}
-use Rattle.live_engine.specs.Values.{AreValues}
+use Rattle.live_engine.specs.Values.{AreValues, IsOfStamp}
 use Rattle.live_engine.specs.declared.held.Item.{Item}
 use Rattle.live_engine.specs.declared.held.Item.TheVariants.{Source, Statement}
 use Rattle.live_engine.specs.declared.values.Valued.{Valued}
@@ -36,10 +36,11 @@ pub record AreLawful (entries : List Entry) : Type 0 where
   pub sources : count_by is_source entries ≤ most_sources
   pub flats : count_by is_flat (layers entries) ≤ most_flats
 
--- the graph has the entries' names, the layers are the statements' grids, and no statement has a fault
+-- the graph has the entries' names, the layers are the statements' grids with the last edit's stamp, and no statement has a fault
 pub record IsKept (size : Size) (items : List (List ℕ × Item)) (graph : List Group) (values : List Valued) (number : ℕ) : Type 0 where
   pub held : All (IsHeld size) items
   pub lawful : AreLawful (entries_of items)
   pub graph_is : graph ≡ groups_of (entries_of items)
   pub values_are : AreValues (seen size items number) values
+  pub stamped : All (IsOfStamp size number) values
   pub faultless : fault_of (seen size items number) ≡ None

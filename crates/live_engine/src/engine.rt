@@ -5,6 +5,7 @@ ghost use Rattle.indexmap.specs.IndexMap.{spare};
 ghost use Rattle.statement_parser.specs.Views.{edit_view};
 ghost use Rattle.statement_parser.specs.Formed.{IsEdit};
 ghost use Rattle.map_edits.specs.EngineStates.{no_entries};
+ghost use Rattle.map_edits.specs.Sound.{IsSound};
 ghost use Rattle.map_edits.specs.LineEdits.{line_edit};
 ghost use Rattle.live_engine.specs.Accepts.{Accepts, edit_of, IsFormedEdit};
 ghost use Rattle.live_engine.specs.Holdings.{seen_in, IsKeptIn};
@@ -136,8 +137,10 @@ impl Engine {
     }
 
     /// How many edits were accepted; at most 2^64-1.
+    #[tactic(auto, using(crate::proofs::Sounds::kept_sound))]
     pub fn number(&self) -> u64
-        ensures { result ≡ self.now.number }
+        ensures number { result ≡ self.now.number }
+        ensures sound { IsSound self.now }
     {
         self.held.number
     }

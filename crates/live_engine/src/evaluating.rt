@@ -1,13 +1,15 @@
 //! The statements after an edit that is not put in place yet.
 
-ghost use Rattle.std.specs.Prelude.{◌≡◌};
+ghost use Rattle.std.specs.Prelude.{◌≡◌, IfOk};
+ghost use Rattle.std.specs.List.{All};
+ghost use Rattle.map_nums.specs.Counts.{raised};
 ghost use Rattle.live_engine.specs.Holdings.{entries_in, IsKeptIn};
 ghost use Rattle.live_engine.specs.Engines.{AreLawful};
 ghost use Rattle.live_engine.specs.Groups.{groups_of};
 ghost use Rattle.layer_tiles.specs.Tallies.{KeepsParts};
 ghost use Rattle.live_engine.specs.Refusals.{refusal_of};
 ghost use Rattle.live_engine.specs.Scenes.{shifted, state_with, IsShift};
-ghost use Rattle.live_engine.specs.Values.{IsEvaluation};
+ghost use Rattle.live_engine.specs.Values.{IsEvaluation, IsOfStamp};
 
 use crate::edits::Refusal;
 use crate::held::Held;
@@ -30,6 +32,7 @@ pub(crate) fn evaluated<M: Tally>(
     requires graph { graph.now ≡ groups_of (shifted (entries_in held.now) shift) }
     requires lawful { AreLawful (shifted (entries_in held.now) shift) }
     ensures values { IsEvaluation (state_with held.now.extent (shifted (entries_in held.now) shift.entry)) result }
+    ensures stamped { IfOk result (λ values. All (IsOfStamp held.now.extent (raised held.now.number 1)) values.items) }
     ensures parts { KeepsParts (M.counts tally.old) (M.counts tally.new) }
 {
     let scene = Scene {

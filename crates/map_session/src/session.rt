@@ -6,6 +6,7 @@ ghost use Rattle.statement_parser.specs.Formed.{IsEdit};
 ghost use Rattle.statement_parser.specs.Views.{edit_view};
 ghost use Rattle.map_edits.specs.Edits.{accept};
 ghost use Rattle.map_edits.specs.LineEdits.{line_edit};
+ghost use Rattle.map_edits.specs.Sound.{IsSound};
 ghost use Rattle.layer_tiles.specs.Tallies.{KeepsParts};
 ghost use Rattle.map_machine.specs.Loads.{first_read, next_read};
 ghost use Rattle.map_machine.specs.Steps.{edited};
@@ -165,6 +166,14 @@ impl Session {
                 Reply::load_refused(alloc, &name, &cause)
             }
         }
+    }
+
+    /// How many edits were accepted. No state that is reached has a cycle, or a value that no cell may hold.
+    pub fn number(&self) -> u64
+        ensures number { result ≡ self.now.engine.number }
+        ensures sound { IsSound self.now.engine }
+    {
+        self.engine.number()
     }
 
     /// Answers a line without its line end, of any length.

@@ -43,7 +43,7 @@ returns-in-Ok-clause-kept g c =
     let old = c.args.held.now in
     kept_after old c.place.new.held (insert_entry bytes_eq old.names.entries c.args.name (Source c.args.layer)) (put_entry (entries_in old) c.args.name (source (grid_of c.args.layer)))
     c.in_ok-graph.graph c.in-Ok.values.items c.place.result c.place.ensures (entries_insert old.names.entries c.args.name (Source c.args.layer)) c.in-Ok.ensures.values
-    (edits.drop_name c.args.name) (held_insert old.extent old.names.entries c.args.name c.requires.kept.held (Source c.args.layer) c.requires.plain c.requires.size)
+    c.in-Ok.ensures.stamped (held_insert old.extent old.names.entries c.args.name c.requires.kept.held (Source c.args.layer) c.requires.plain c.requires.size)
     (lawful_add (entries_in old) c.args.name c.requires.kept.lawful (grid_of c.args.layer) c.requires.new (subst (λ k. k < 32) c.sources.ensures c.if-sources-ge-MOST_SOURCES.false))
     (added_groups old c.args.name c.requires.kept c.in_ok-graph.graph (grid_of c.args.layer) c.requires.new c.in_ok-graph.ensures)
 

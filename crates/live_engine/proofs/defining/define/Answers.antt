@@ -88,7 +88,7 @@ returns-in-Ok-evaluated g c =
       accepts = accepts_after old c.place.new.held items es c.in-Ok.graph c.in-Ok-evaluated.values.items c.place.result c.place.ensures (entries_insert old.names.entries n (Statement c.args.written)) c.in-Ok-evaluated.ensures.values
           (edits.define n w) (define_puts_it old n c.args.written c.requires.kept other c.statements_with.result count few alone);
       kept = kept_after old c.place.new.held items es c.in-Ok.graph c.in-Ok-evaluated.values.items c.place.result c.place.ensures (entries_insert old.names.entries n (Statement c.args.written)) c.in-Ok-evaluated.ensures.values
-          (edits.define n w) (held_insert old.extent old.names.entries n c.requires.kept.held (Statement c.args.written) c.requires.plain c.requires.formed)
+          c.in-Ok-evaluated.ensures.stamped (held_insert old.extent old.names.entries n c.requires.kept.held (Statement c.args.written) c.requires.plain c.requires.formed)
           (lawful_with old n c.args.written c.requires.kept other c.statements_with.result count few alone) (put.0 ∙ groups_with old n c.args.written c.requires.kept other);
       parts = c.evaluated.ensures.parts;
     }

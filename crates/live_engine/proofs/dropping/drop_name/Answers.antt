@@ -33,7 +33,7 @@ returns-in-Ok-clause-kept g c =
     let old = c.args.held.now in
     kept_after old c.take_out.new.held (shift_remove_entry (bytes_eq c.args.name) old.names.entries) (drop_entry (entries_in old) c.args.name)
     c.in_ok-graph.graph c.in-Ok.values.items c.take_out.result c.take_out.ensures (entries_remove old.names.entries c.args.name c.requires.lawful.well.apart) c.in-Ok.ensures.values
-    (edits.drop_name c.args.name) (held_remove old.extent old.names.entries c.args.name c.requires.held)
+    c.in-Ok.ensures.stamped (held_remove old.extent old.names.entries c.args.name c.requires.held)
     (lawful_drop (entries_in old) c.args.name c.requires.lawful) (dropped_groups old c.args.name c.in_ok-graph.graph c.requires c.in_ok-graph.ensures)
 
 pub returns-clause-accepts : goal.returns-clause-accepts

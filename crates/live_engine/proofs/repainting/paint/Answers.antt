@@ -119,7 +119,7 @@ returns-in-Ok-clause-kept g c =
     let new = c.put_painted.new.held in
     kept_after old new new.names.entries (put_entry (entries_in old) n (source (tiles_grid layer patch))) old.graph c.in-Ok.values.items c.put_painted.result c.put_painted.ensures.placed
     (painted_entries old.names.entries n layer there patch (raised old.number 1) new.names.entries c.put_painted.ensures.tiles) c.in-Ok.ensures.values
-    (edits.paint n r c.args.cell) (painted_held old.names.entries n layer there patch (raised old.number 1) new.names.entries c.put_painted.ensures.tiles old.extent size c.requires.held)
+    c.in-Ok.ensures.stamped (painted_held old.names.entries n layer there patch (raised old.number 1) new.names.entries c.put_painted.ensures.tiles old.extent size c.requires.held)
     (lawful_repaint (entries_in old) n c.requires.lawful (grid_of layer) (tiles_grid layer patch) (def_there old.names.entries n layer there))
     (c.requires.graph_is ∙ groups_repaint (entries_in old) n (grid_of layer) (tiles_grid layer patch) (def_there old.names.entries n layer there))
 
