@@ -12,5 +12,3 @@ mod session;
 pub use replies::Reply;
 pub use session::{Begun, Session};
 
-#[cfg(test)]
-mod tests;
