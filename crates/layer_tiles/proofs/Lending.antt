@@ -1,5 +1,5 @@
 -- Tiles that are lent, and rectangles that are compared and copied row by row.
-use Rattle.std.proofs.Common.{◌≡◌, ℕ, ◌+◌, ◌*◌, ◌<◌, ◌≤◌, ◌++◌, length, take, drop, refl, sym, ◌∙◌, ap, subst, arith}
+use Rattle.std.proofs.Common.{◌≡◌, ℕ, ◌+◌, ◌*◌, ◌<◌, ◌++◌, length, take, refl, sym, ◌∙◌, ap, arith}
 use Rattle.std.proofs.Math.Seq.{take-add}
 use Rattle.map_nums.specs.Grids.{Size, IsSize, Cells, cells_in}
 use Rattle.layer_tiles.specs.Cells.{AreCells}

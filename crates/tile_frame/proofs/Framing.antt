@@ -1,5 +1,5 @@
 -- Rows that are made cell by cell, and tiles that are made row by row.
-use Rattle.std.proofs.Common.{◌≡◌, ◌≢◌, ℕ, ◌+◌, ◌-◌, ◌*◌, ◌/◌, ◌%◌, ◌<◌, ◌≤◌, length, get_or, set, IsTrue, IsFalse, Option, None, ℤ, Result, Ok, Err, IfOk, refl, sym, ◌∙◌, ap, subst, arith, below_more, ⊎_elim}
+use Rattle.std.proofs.Common.{◌≡◌, ◌≢◌, ℕ, ◌+◌, ◌-◌, ◌*◌, ◌<◌, ◌≤◌, length, get_or, set, IsTrue, IsFalse, Option, None, ℤ, Result, Ok, Err, IfOk, refl, sym, ◌∙◌, ap, subst, arith, below_more, ⊎_elim}
 use Rattle.std.proofs.lemmas.Bool.{cases_lt}
 use Rattle.std.proofs.lemmas.List.{get_or-set_same, get_or-set_other, length-set}
 use Rattle.std.proofs.lemmas.Nat.{mul-add-lt, div-mul-add, mod-mul-add}
@@ -7,8 +7,8 @@ use Rattle.map_nums.specs.Answers.{is_wide}
 use Rattle.map_nums.specs.Exact.{IsExact}
 use Rattle.map_nums.specs.Grids.{Size}
 use Rattle.map_nums.specs.declared.Wide.{Wide}
-use Rattle.layer_tiles.specs.Tiles.{Block, IsBlockOf, tile_start, tile_top, tile_left, tile_height, tile_width}
-use Rattle.layer_tiles.specs.PlaceByPlace.{cell_in, IsPlaceRefusal, IsLeastPlace, IsMade}
+use Rattle.layer_tiles.specs.Tiles.{Block, tile_start, tile_top, tile_left, tile_height, tile_width}
+use Rattle.layer_tiles.specs.PlaceByPlace.{IsPlaceRefusal, IsLeastPlace, IsMade}
 use Rattle.layer_tiles.specs.declared.kernels.KernelRefusal.{KernelRefusal}
 use Rattle.layer_tiles.specs.declared.kernels.KernelRefusal.TheVariants.{Overflow}
 use Rattle.layer_tiles.specs.declared.kernels.KernelRefusal.TheVariants as refusal

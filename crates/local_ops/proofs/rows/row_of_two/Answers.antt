@@ -1,5 +1,4 @@
-use Rattle.std.proofs.Common.{◌≡◌, ℕ, ◌<◌, ◌∷◌, [], length, get_or, None, sym, ◌∙◌, ap, arith}
-use Rattle.map_nums.specs.Grids.{Cells}
+use Rattle.std.proofs.Common.{sym, ap, arith}
 use Rattle.map_defs.specs.Local.{local_cell}
 use Rattle.layer_tiles.specs.Tiles.{tile_height, tile_width}
 use Rattle.tile_frame.proofs.Framing.{row_as}

@@ -1,6 +1,4 @@
-use Rattle.std.proofs.Common.{◌≡◌, ◌*◌, replicate, sym, subst, rules}
-use Rattle.map_nums.specs.Grids.{Cells}
-use Rattle.layer_tiles.specs.Cells.{AreCells}
+use Rattle.std.proofs.Common.{◌≡◌, ◌*◌, replicate, rules}
 use Rattle.layer_tiles.proofs.Ranged.{AreCells-replicate}
 use Rattle.layer_tiles.proofs.tiles.Tile.new.Goals as goal
 

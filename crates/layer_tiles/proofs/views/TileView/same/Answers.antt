@@ -1,5 +1,4 @@
-use Rattle.std.proofs.Common.{◌≡◌, ◌*◌, length, refl, sym, ap, ◌∙◌, arith}
-use Rattle.layer_tiles.specs.Tiles.{Block}
+use Rattle.std.proofs.Common.{◌≡◌, ◌*◌, length, refl, ◌∙◌, arith}
 use Rattle.layer_tiles.proofs.Lending.{block_same}
 use Rattle.layer_tiles.proofs.Stamping.{cells_from_rows}
 use Rattle.layer_tiles.proofs.views.TileView.same.Goals as goal

@@ -1,4 +1,3 @@
-use Rattle.std.proofs.Common.{arith}
 use Rattle.near_cells.proofs.Adding.{rows_more}
 use Rattle.near_cells.proofs.near.NearCells.filled.Goals as goal
 
