@@ -1,4 +1,4 @@
-//! The ticket word, and the steps of its seats.
+//! The steps of seats on the ticket word.
 ghost use Rattle.std.specs.Prelude.{◌≡◌, ℕ, ◌+◌, ◌-◌, ◌^◌, ◌<◌, ◌≤◌, false, List, [], ◌∷◌, ◌++◌, length, IfOk};
 ghost use Rattle.std.specs.List.{range_with_len};
 ghost use Rattle.tile_workers.specs.Tickets.{first_view, new_view, less_one, both_views};
@@ -12,6 +12,11 @@ use map_nums::NoMemory;
 use std::alloc::Global;
 
 impl Board {
+    /// A board from which nothing was drawn, and its first seat, with every share.
+    ///
+    /// # Errors
+    ///
+    /// `NoMemory` where there is none for the word.
     pub fn new(alloc: Global) -> Result<(Board, Seat), NoMemory>
         ensures { IfOk result (λ r. IsSeatOf r.0 r.1 × (seat_view r.1 ≡ first_view)) }
     {
@@ -21,7 +26,7 @@ impl Board {
         }
     }
 
-    /// A new seat with one share of this one's.
+    /// A new seat, with one of this one's shares, for another thread.
     pub fn split(&self, seat: &mut Seat) -> Seat
         requires own { IsSeatOf self.now seat.old }
         requires shares { 1 < share seat.old }
@@ -33,7 +38,7 @@ impl Board {
         Seat { inner }
     }
 
-    /// Takes in another seat, with its numbers and its share.
+    /// Takes in another seat: its numbers, in order between this one's, and its shares.
     pub fn join(&self, seat: &mut Seat, other: Seat)
         requires own { IsSeatOf self.now seat.old }
         requires other { IsSeatOf self.now other }
@@ -44,7 +49,10 @@ impl Board {
         self.table.shared.join_seat::<Unite>(&mut seat.inner, inner);
     }
 
-    /// Draws the next number.
+    /// Draws the next number: how many were drawn before. It is the last of the seat's list from then on. One atomic step.
+    ///
+    /// The numbers begin anew after 2^64 of them; the mark tells of it. A seat with every share knows from its own list how many
+    /// were drawn. Of any seat without the mark each number is above the one before.
     pub fn draw(&self, seat: &mut Seat) -> u64
         requires own { IsSeatOf self.now seat.old }
         ensures same { IsSameSeat seat.old seat.new }
@@ -56,7 +64,7 @@ impl Board {
         self.table.shared.fetch_add::<Draw>(&mut seat.inner, 0, 1)
     }
 
-    /// How many numbers were drawn. A seat with every share has just these.
+    /// How many numbers were drawn. A seat with every share has drawn, or taken in, each of them.
     pub fn close(self, seat: Seat) -> u64
         requires own { IsSeatOf self seat }
         ensures all { share seat ≡ 64 → length (drawn seat) < 2 ^ 64 - 1 → (drawn seat ≡ range_with_len 0 result) × (marked seat ≡ false) }

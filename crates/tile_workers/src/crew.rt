@@ -1,65 +1,50 @@
-//! The workers of a phase, side by side.
-ghost use Rattle.std.specs.Prelude.{◌≡◌, ℕ, ◌+◌, ◌-◌, ◌*◌, ◌^◌, ◌<◌, ◌≤◌, false, [], All, sum_by, vec_len, vec_capacity, length, ◌∷◌, ◌++◌, ◌⊎◌, true, Some, IfSome};
-ghost use Rattle.layer_tiles.specs.Tallies.{TallyState, absorbed};
-ghost use Rattle.tile_workers.specs.Tickets.{both_views};
-ghost use Rattle.tile_workers.specs.Seats.{seat_view, drawn, share, IsSameSeat, IsSeatOf};
-ghost use Rattle.tile_workers.specs.Shifts.{IsHired, IsDone, IsGathering, IsAllDone, shift_share};
+//! Workers side by side: their shifts are made on the caller's thread, and then done on several.
+ghost use Rattle.std.specs.Prelude.{◌≡◌, ℕ, ◌+◌, ◌^◌, ◌<◌, ◌≤◌, false, [], ◌∷◌, ◌++◌, All, sum_by, vec_len, vec_capacity, length};
+ghost use Rattle.layer_tiles.specs.Tallies.{TallyState};
+ghost use Rattle.tile_workers.specs.Seats.{drawn, share, IsSeatOf};
+ghost use Rattle.tile_workers.specs.Shifts.{IsHired, IsDone, shift_share};
 
-use crate::laid::Laid;
-use crate::phase::{Gate, Work};
+use crate::gate::Gate;
+use crate::phase::Phase;
 use crate::seat::{Board, Seat};
-use crate::shift::{Gathered, Shift};
+use crate::shift::Shift;
+use crate::work::Work;
 use crate::worker::do_jobs;
 use layer_tiles::Tally;
-use map_nums::NoMemory;
 use std::alloc::Global;
 use std::thread;
 use std::thread::Threads;
 
-// One worker beside others.
+// One worker's shift.
 fn do_shift<W: Work, G: Gate, M: Tally + Send>(
-    board: &Board,
-    jobs: u64,
-    gate: &G,
-    work: &W,
+    phase: &Phase<'_, W, G>,
     shift: &mut Shift<M, W::Done>,
 )
 where
     W::Done: Drop,
-    requires jobs { jobs ≡ W.jobs work.now }
-    requires count { jobs < 2 ^ 32 }
-    requires hired { IsHired M.counts board.now.table.shared.table_id shift.old }
-    ensures done { IsDone M.counts board.now.table.shared.table_id jobs (W.looks work.now) (W.picks work.now) (W.answers work.now) shift.new }
+    requires jobs { phase.now.jobs ≡ W.jobs phase.now.work.now }
+    requires count { phase.now.jobs < 2 ^ 32 }
+    requires hired { IsHired M.counts phase.now.board.now.table.shared.table_id shift.old }
+    ensures done { IsDone M.counts phase.now.board.now.table.shared.table_id phase.now.jobs (W.looks phase.now.work.now) (W.picks phase.now.work.now) (W.answers phase.now.work.now) shift.new }
     ensures share { shift_share shift.new ≡ shift_share shift.old }
 {
-    let outcome = do_jobs(
-        board,
-        jobs,
-        gate,
-        work,
-        &mut shift.seat,
-        &mut shift.part,
-        &mut shift.laid,
-    );
+    let outcome = do_jobs(phase, &mut shift.seat, &mut shift.part, &mut shift.laid);
     shift.is_short = outcome.is_err();
 }
 
-// Each shift in a thread of its own.
+/// Does each shift on a thread of its own, or one after another where no thread can be started.
 pub(crate) fn do_shifts<W: Work + Sync, G: Gate + Sync, M: Tally + Send, R: Threads + Sync>(
     rt: &R,
-    board: &Board,
-    jobs: u64,
-    gate: &G,
-    work: &W,
+    phase: &Phase<'_, W, G>,
     shifts: &mut [Shift<M, W::Done>],
 )
 where
     W::Done: Drop + Send,
-    requires jobs { jobs ≡ W.jobs work.now }
-    requires count { jobs < 2 ^ 32 }
-    requires hired { All (IsHired M.counts board.now.table.shared.table_id) shifts.old }
+    requires jobs { phase.now.jobs ≡ W.jobs phase.now.work.now }
+    requires count { phase.now.jobs < 2 ^ 32 }
+    requires hired { All (IsHired M.counts phase.now.board.now.table.shared.table_id) shifts.old }
     requires some { 0 < length shifts.old }
-    ensures done { All (IsDone M.counts board.now.table.shared.table_id jobs (W.looks work.now) (W.picks work.now) (W.answers work.now)) shifts.new }
+    ensures done { All (IsDone M.counts phase.now.board.now.table.shared.table_id phase.now.jobs (W.looks phase.now.work.now) (W.picks phase.now.work.now) (W.answers phase.now.work.now)) shifts.new }
     ensures shares { sum_by shift_share shifts.new ≡ sum_by shift_share shifts.old }
 {
     let count = shifts.len();
@@ -68,9 +53,9 @@ where
         shifts,
         count,
         &|_, shift: &mut Shift<M, W::Done>|
-            requires { (jobs ≡ W.jobs work.now) × (jobs < 2 ^ 32) × IsHired M.counts board.now.table.shared.table_id shift.now }
-            ensures { IsDone M.counts board.entry.now.table.shared.table_id jobs (W.looks work.entry.now) (W.picks work.entry.now) (W.answers work.entry.now) shift.exit.now × (shift_share shift.exit.now ≡ shift_share shift.entry.now) }
-        { do_shift(board, jobs, gate, work, shift) },
+            requires { (phase.now.jobs ≡ W.jobs phase.now.work.now) × (phase.now.jobs < 2 ^ 32) × IsHired M.counts phase.now.board.now.table.shared.table_id shift.now }
+            ensures { IsDone M.counts phase.entry.now.board.now.table.shared.table_id phase.entry.now.jobs (W.looks phase.entry.now.work.now) (W.picks phase.entry.now.work.now) (W.answers phase.entry.now.work.now) shift.exit.now × (shift_share shift.exit.now ≡ shift_share shift.entry.now) }
+        { do_shift(phase, shift) },
     );
 }
 
@@ -85,6 +70,7 @@ fn shift_of<M, D>(alloc: Global, seat: Seat, part: M) -> Shift<M, D>
     }
 }
 
+// One more shift, for which there is room.
 fn take_on<M, D>(shifts: &mut Vec<Shift<M, D>>, shift: Shift<M, D>)
     requires { vec_len shifts.old < vec_capacity shifts.old }
     ensures items { shifts.new.items ≡ shifts.old.items ++ shift ∷ [] }
@@ -96,7 +82,7 @@ fn take_on<M, D>(shifts: &mut Vec<Shift<M, D>>, shift: Shift<M, D>)
     }
 }
 
-// So many workers, of whom the last has this seat.
+/// Makes the shifts of so many workers, each with a part of the tally. The last has this seat, and the others one split off.
 pub(crate) fn hire<M: Tally, D>(
     alloc: Global,
     board: &Board,
@@ -129,82 +115,4 @@ pub(crate) fn hire<M: Tally, D>(
     let part = tally.fork();
     let shift = shift_of(alloc, seat, part);
     take_on(shifts, shift);
-}
-
-// Takes in one shift.
-fn take_back<M: Tally, D: Drop>(
-    board: &Board,
-    all: &mut Gathered<D>,
-    tally: &mut M,
-    shift: Shift<M, D>,
-)
-    requires own { (IsSeatOf board.now all.old.seat) × (IsSeatOf board.now shift.seat) }
-    requires whole { (M.counts tally.old).is_part ≡ false }
-    requires some { 0 < (M.counts tally.old).parts_out }
-    requires part { (M.counts shift.part).is_part ≡ true }
-    ensures own { all.new.seat.inner.table_id ≡ all.old.seat.inner.table_id }
-    ensures seat { seat_view all.new.seat ≡ both_views (seat_view all.old.seat) (seat_view shift.seat) }
-    ensures laid { all.new.is_short ≡ false → (all.old.is_short ≡ false) × (shift.is_short ≡ false) × (all.new.laid.items ≡ all.old.laid.items ++ shift.laid.items) }
-    ensures kept { (all.new.laid.items ≡ all.old.laid.items) ⊎ (all.new.laid.items ≡ all.old.laid.items ++ shift.laid.items) }
-    ensures tally { M.counts tally.new ≡ absorbed (M.counts tally.old) (M.counts shift.part) }
-{
-    let Shift {
-        seat,
-        part,
-        mut laid,
-        is_short,
-    } = shift;
-    board.join(&mut all.seat, seat);
-    tally.absorb(part);
-    all.is_short = all.is_short || is_short || all.laid.append(&mut laid).is_err();
-}
-
-// Takes in all shifts.
-pub(crate) fn gather<W: Work, M: Tally>(
-    board: &Board,
-    _jobs: u64,
-    _work: &W,
-    tally: &mut M,
-    mut shifts: Vec<Shift<M, W::Done>>,
-) -> Gathered<W::Done>
-where
-    W::Done: Drop,
-    requires some { 0 < vec_len shifts }
-    requires shares { sum_by shift_share shifts.items ≡ 64 }
-    requires few { vec_len shifts ≤ 64 }
-    requires whole { (M.counts tally.old).is_part ≡ false }
-    requires parts { vec_len shifts ≤ (M.counts tally.old).parts_out }
-    requires done { All (IsDone M.counts board.now.table.shared.table_id _jobs (W.looks _work.now) (W.picks _work.now) (W.answers _work.now)) shifts.items }
-    ensures { IsGathering M.counts board.now.table.shared.table_id _jobs (W.looks _work.now) (W.picks _work.now) (W.answers _work.now) 64 (vec_len shifts) ((M.counts tally.old).parts_out - vec_len shifts) (M.counts tally.old) (M.counts tally.new) result [] }
-{
-    let Some(last) = shifts.pop() else {
-        unreachable!()
-    };
-    let mut all = begin(tally, last);
-    while let Some(shift) = shifts.pop() {
-        take_back(board, &mut all, tally, shift);
-    }
-    shifts.destroy_empty();
-    all
-}
-
-fn begin<M: Tally, D>(tally: &mut M, shift: Shift<M, D>) -> Gathered<D>
-    requires whole { (M.counts tally.old).is_part ≡ false }
-    requires some { 0 < (M.counts tally.old).parts_out }
-    requires part { (M.counts shift.part).is_part ≡ true }
-    ensures parts { (result.seat ≡ shift.seat) × (result.laid ≡ shift.laid) × (result.is_short ≡ shift.is_short) }
-    ensures tally { M.counts tally.new ≡ absorbed (M.counts tally.old) (M.counts shift.part) }
-{
-    let Shift {
-        seat,
-        part,
-        laid,
-        is_short,
-    } = shift;
-    tally.absorb(part);
-    Gathered {
-        seat,
-        laid,
-        is_short,
-    }
 }

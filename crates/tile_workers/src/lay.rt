@@ -4,22 +4,22 @@ ghost use Rattle.tile_workers.specs.Lists.{times};
 ghost use Rattle.tile_workers.specs.Phases.{tickets, AllStand, job_answers};
 
 use crate::laid::Laid;
-use crate::phase::Work;
+use crate::work::Work;
 use map_nums::NoMemory;
 use std::alloc::Global;
 
+// A place for each job.
 fn no_answers<D: Drop>(alloc: Global, jobs: u64) -> Result<Vec<Option<D>>, NoMemory>
     ensures { IfOk result (λ v. v.items ≡ replicate jobs None) }
 {
     let mut slots = Vec::new(alloc);
     for _slot in 0..jobs {
-        if slots.push(None).is_err() {
-            return Err(NoMemory);
-        }
+        slots.push(None)?;
     }
     Ok(slots)
 }
 
+// An answer at its place.
 fn put<D: Drop>(slots: &mut Vec<Option<D>>, place: usize, done: D)
     requires { place < vec_len slots.old }
     ensures items { slots.new.items ≡ slice_set slots.old.items place (Some done) }
@@ -67,14 +67,12 @@ where
         let Some(done) = slots[job as usize].take() else {
             unreachable!()
         };
-        if answers.push(done).is_err() {
-            return Err(NoMemory);
-        }
+        answers.push(done)?;
     }
     Ok(answers)
 }
 
-// The answers by their jobs' numbers.
+/// The answers in the order of the jobs.
 pub(crate) fn lay<W: Work>(
     alloc: Global,
     jobs: u64,
