@@ -28,18 +28,12 @@ module _ {D : Type 0} where
   answered_merged : (jobs : ℕ) (xs ys : List ℕ) (a b : List (Laid D)) → AreAnswered jobs xs a → AreAnswered jobs ys b → AreAnswered jobs (merged xs ys) (a ++ b)
   answered_merged jobs xs ys a b h k x less = let p = h x less in let q = k x less in omega (arith, tickets_append a b x, times_merged x xs ys)
 
-module _ {M D : Type 0} (state : M → TallyState) (table : TableId) (jobs : ℕ) (looks picks : ℕ → ℕ) (answers : ℕ → D → Type 0) (shares workers keep : ℕ) (before : TallyState) where
-  abbrev Gathering : TallyState → Gathered D → List (Shift M D) → Type 0
-  Gathering now all left = IsGathering state table jobs looks picks answers shares workers keep before now all left
-
-  abbrev Done : Shift M D → Type 0
-  Done s = IsDone state table jobs looks picks answers s
-
-  pub begins : (all : Gathered D) (s : Shift M D) (whole left : List (Shift M D)) (now : TallyState) → whole ≡ left ++ option_to_list (Some s) → All Done whole
+module _ {M D : Type 0} {state : M → TallyState} {table : TableId} {jobs : ℕ} {looks picks : ℕ → ℕ} {answers : ℕ → D → Type 0} {shares workers keep : ℕ} {before : TallyState} where
+  pub begins : {all : Gathered D} (s : Shift M D) {whole : List (Shift M D)} (left : List (Shift M D)) {now : TallyState} → whole ≡ left ++ option_to_list (Some s) → All (IsDone state table jobs looks picks answers) whole
       → all.seat ≡ s.seat → all.laid ≡ s.laid → all.is_short ≡ s.is_short → now ≡ absorbed before (state s.part)
-      → sum_by shift_share whole ≡ shares → length whole ≡ workers → before.is_part ≡ false → before.parts_out ≡ keep + workers → Gathering now all left
-  begins all s whole left now is every seat laid short tally total count kind parts =
-      let r = All-pop Done whole left (Some s) is every in let d = r.1 in
+      → sum_by shift_share whole ≡ shares → length whole ≡ workers → before.is_part ≡ false → before.parts_out ≡ keep + workers → IsGathering state table jobs looks picks answers shares workers keep before now all left
+  begins {all} s {whole} left {now} is every seat laid short tally total count kind parts =
+      let r = All-pop (IsDone state table jobs looks picks answers) whole left (Some s) is every in let d = r.1 in
       let list : drawn all.seat ≡ drawn s.seat = ap drawn seat in
       let mine : share all.seat ≡ share s.seat = ap share seat in
       let long : length whole ≡ length left + 1 = ap length is ∙ length-append left (s ∷ []) in
@@ -57,13 +51,13 @@ module _ {M D : Type 0} (state : M → TallyState) (table : TableId) (jobs : ℕ
         done = r.0;
       }
 
-  pub steps : (all all' : Gathered D) (s : Shift M D) (whole left : List (Shift M D)) (now now' : TallyState) → Gathering now all whole → whole ≡ left ++ option_to_list (Some s)
+  pub steps : {all all' : Gathered D} (s : Shift M D) {whole : List (Shift M D)} (left : List (Shift M D)) {now now' : TallyState} → IsGathering state table jobs looks picks answers shares workers keep before now all whole → whole ≡ left ++ option_to_list (Some s)
       → all'.seat.inner.table_id ≡ all.seat.inner.table_id → seat_view all'.seat ≡ both_views (seat_view all.seat) (seat_view s.seat)
       → (all'.is_short ≡ false → (all.is_short ≡ false) × (s.is_short ≡ false) × (all'.laid.items ≡ all.laid.items ++ s.laid.items))
       → (all'.laid.items ≡ all.laid.items) ⊎ (all'.laid.items ≡ all.laid.items ++ s.laid.items)
-      → now' ≡ absorbed now (state s.part) → Gathering now' all' left
-  steps all all' s whole left now now' g is own seat laid kept tally =
-      let r = All-pop Done whole left (Some s) is g.done in let d = r.1 in
+      → now' ≡ absorbed now (state s.part) → IsGathering state table jobs looks picks answers shares workers keep before now' all' left
+  steps {all} {all'} s {whole} left {now} {now'} g is own seat laid kept tally =
+      let r = All-pop (IsDone state table jobs looks picks answers) whole left (Some s) is g.done in let d = r.1 in
       let list : drawn all'.seat ≡ merged (drawn all.seat) (drawn s.seat) = ap (λ (v : View). v.drawn) seat in
       let mine : share all'.seat ≡ share all.seat + share s.seat = ap (λ (v : View). v.share) seat in
       let long : length whole ≡ length left + 1 = ap length is ∙ length-append left (s ∷ []) in
@@ -85,5 +79,5 @@ module _ {M D : Type 0} (state : M → TallyState) (table : TableId) (jobs : ℕ
         done = r.0;
       }
 
-  pub last_done : (now : TallyState) (all : Gathered D) (s : Shift M D) (whole left : List (Shift M D)) → Gathering now all whole → whole ≡ left ++ option_to_list (Some s) → Done s
-  last_done now all s whole left g is = (All-pop Done whole left (Some s) is g.done).1
+  pub last_done : {now : TallyState} {all : Gathered D} (s : Shift M D) {whole : List (Shift M D)} (left : List (Shift M D)) → IsGathering state table jobs looks picks answers shares workers keep before now all whole → whole ≡ left ++ option_to_list (Some s) → IsDone state table jobs looks picks answers s
+  last_done {now} {all} s {whole} left g is = (All-pop (IsDone state table jobs looks picks answers) whole left (Some s) is g.done).1

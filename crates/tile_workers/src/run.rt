@@ -104,8 +104,8 @@ where
 ///
 /// There are 1 to 64 workers. One alone works on the caller's thread and counts with the caller's tally. Several work on threads
 /// of their own, each with a part of the tally, and all parts are taken in again in the end; where a thread can't be started, the
-/// caller does that work itself. A phase takes a few hundred nanoseconds beside its jobs, and some tens of microseconds for
-/// each thread.
+/// caller does that work itself. Beside the jobs, a phase by one worker takes less than a microsecond; by several, also the
+/// start of their threads.
 ///
 /// # Errors
 ///
