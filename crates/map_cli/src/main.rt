@@ -17,6 +17,8 @@ mod session;
 mod setup;
 mod status;
 mod stop;
+#[cfg(test)]
+mod tests;
 mod top;
 mod words;
 mod workers;
