@@ -1,5 +1,5 @@
 -- How far a run has come, line by line.
-use Rattle.std.proofs.Common.{get_or, ◌≡◌, ◌<◌, ◌+◌, ℕ, true, false, List, [], ◌∷◌, ◌++◌, ◌||◌, length, take, drop, refl, sym, ap, ◌∙◌, subst, Option}
+use Rattle.std.proofs.Common.{get_or, ◌≡◌, ◌<◌, ◌+◌, ℕ, true, false, List, [], ◌∷◌, ◌++◌, ◌||◌, length, take, drop, refl, sym, ap, ◌∙◌, subst, Option, Result, Ok, Err}
 use Rattle.std.specs.List.{list_any}
 use Rattle.map_outside.specs.Contents.{Grows}
 use Rattle.map_outside.proofs.Tellings.{grows_nil, grows_then}
@@ -18,7 +18,9 @@ use Rattle.map_machine.proofs.TextLemmas.{state_after-append, replies_to-append,
 use Rattle.map_cli.specs.Front.{WritesFront}
 use Rattle.map_cli.specs.Answered.{StoppedAt, first_of, AnswersAll, AnswersToQuit, LacksMemory, Answered}
 use Rattle.map_cli.specs.declared.lines.Fed.{Fed}
-use Rattle.map_cli.specs.declared.lines.Fed.TheVariants.{More, Quit, SinkFault, NoMemory}
+use Rattle.map_cli.specs.declared.lines.Fed.TheVariants.{More, Quit}
+use Rattle.map_cli.specs.declared.stop.Stop.{Stop}
+use Rattle.map_cli.specs.declared.stop.Stop.TheVariants.{SinkFault, NoMemory}
 
 -- a line that isn't told as the end goes on
 pub not_quit : (s : MapState) (line : List ℕ) → ((step_of s line).kind ≡ QuitKind → ⊥) → is_quit line ≡ false
@@ -119,16 +121,17 @@ stopped_front s lines h h' a =
     }
 
 -- what stopped at some lines stops at more lines
-pub stopped_more : (old new new' : MapState) (lines more : List (List ℕ)) (h h' : Option (List ℕ)) (f f' : ℕ) (fed : Fed) → (fed ≡ More → ⊥)
+pub stopped_more : (old new new' : MapState) (lines more : List (List ℕ)) (h h' : Option (List ℕ)) (f f' : ℕ) (fed : Result Fed Stop) → (fed ≡ Ok More → ⊥)
     → Answered old new lines h h' f f' fed → Answered old new' (lines ++ more) h h' f f' fed
-stopped_more old new new' lines more h h' f f' More apart a = absurd (apart refl)
-stopped_more old new new' lines more h h' f f' Quit apart a = record {
+stopped_more old new new' lines more h h' f f' (Ok More) apart a = absurd (apart refl)
+stopped_more old new new' lines more h h' f f' (Ok Quit) apart a = record {
   some = list_any-append is_quit lines more ∙ ap (λ t. t || list_any is_quit more) a.some;
   wrote = subst (Grows h h') (sym (replies_to-quit old lines more a.some)) a.wrote;
   same = a.same;
 }
-stopped_more old new new' lines more h h' f f' SinkFault apart a = record { at = stopped_on old lines more h h' a.at; rose = a.rose }
-stopped_more old new new' lines more h h' f f' NoMemory apart a = record { at = stopped_on old lines more h h' a.at; same = a.same }
+stopped_more old new new' lines more h h' f f' (Err SinkFault) apart a = record { at = stopped_on old lines more h h' a.at; rose = a.rose }
+stopped_more old new new' lines more h h' f f' (Err NoMemory) apart a = record { at = stopped_on old lines more h h' a.at; same = a.same }
+stopped_more old new new' lines more h h' f f' (Err _) apart a = absurd a
 
 none_append : (lines more : List (List ℕ)) → list_any is_quit lines ≡ false → list_any is_quit (lines ++ more) ≡ list_any is_quit more
 none_append lines more none = list_any-append is_quit lines more ∙ ap (λ t. t || list_any is_quit more) none
@@ -157,47 +160,40 @@ stopped_then old mid lines more h h' h'' f f' a b =
     }
 
 -- lines that were answered, and then more
-pub answered_then : (old mid new : MapState) (lines more : List (List ℕ)) (h h' h'' : Option (List ℕ)) (f f' f'' : ℕ) (fed : Fed)
+pub answered_then : (old mid new : MapState) (lines more : List (List ℕ)) (h h' h'' : Option (List ℕ)) (f f' f'' : ℕ) (fed : Result Fed Stop)
     → AnswersAll old mid lines h h' f f' → Answered mid new more h' h'' f' f'' fed → Answered old new (lines ++ more) h h'' f f'' fed
-answered_then old mid new lines more h h' h'' f f' f'' More a b = record {
+answered_then old mid new lines more h h' h'' f f' f'' (Ok More) a b = record {
   none = none_append lines more a.none ∙ b.none;
   state = b.state ∙ ap (λ s. state_after s more) a.state ∙ sym (state_after-append old lines more);
   wrote = wrote_then old mid lines more h h' h'' f f' a b.wrote;
   same = b.same ∙ a.same;
 }
-answered_then old mid new lines more h h' h'' f f' f'' Quit a b = record {
+answered_then old mid new lines more h h' h'' f f' f'' (Ok Quit) a b = record {
   some = none_append lines more a.none ∙ b.some;
   wrote = wrote_then old mid lines more h h' h'' f f' a b.wrote;
   same = b.same ∙ a.same;
 }
-answered_then old mid new lines more h h' h'' f f' f'' SinkFault a b = record {
+answered_then old mid new lines more h h' h'' f f' f'' (Err SinkFault) a b = record {
   at = stopped_then old mid lines more h h' h'' f f' a b.at;
   rose = subst (λ n. Rose n f'') a.same b.rose;
 }
-answered_then old mid new lines more h h' h'' f f' f'' NoMemory a b = record {
+answered_then old mid new lines more h h' h'' f f' f'' (Err NoMemory) a b = record {
   at = stopped_then old mid lines more h h' h'' f f' a b.at;
   same = b.same ∙ a.same;
 }
+answered_then old mid new lines more h h' h'' f f' f'' (Err _) a b = absurd b
 
--- one more byte
-pub byte_then : (taken xs : List ℕ) (i : ℕ) (old mid new : MapState) (h h' h'' : Option (List ℕ)) (f f' f'' : ℕ) (fed : Fed) → i < length xs
-    → AnswersAll old mid (further_lines taken (take i xs)) h h' f f'
-    → Answered mid new (further_lines (taken ++ take i xs) (get_or xs i 0 ∷ [])) h' h'' f' f'' fed
-    → Answered old new (further_lines taken (take (i + 1) xs)) h h'' f f'' fed
-byte_then taken xs i old mid new h h' h'' f f' f'' fed within a b =
-    let more : further_lines taken (take (i + 1) xs) ≡ further_lines taken (take i xs) ++ further_lines (taken ++ take i xs) (get_or xs i 0 ∷ []) =
-    ap (further_lines taken) (take_more xs i 0 within) ∙ further_lines-append taken (take i xs) (get_or xs i 0 ∷ []) in
+-- the lines that some bytes end after those so far
+pub bytes_then : (taken done more : List ℕ) (old mid new : MapState) (h h' h'' : Option (List ℕ)) (f f' f'' : ℕ) (fed : Result Fed Stop)
+    → AnswersAll old mid (further_lines taken done) h h' f f' → Answered mid new (further_lines (taken ++ done) more) h' h'' f' f'' fed
+    → Answered old new (further_lines taken (done ++ more)) h h'' f f'' fed
+bytes_then taken done more old mid new h h' h'' f f' f'' fed a b =
     let P : List (List ℕ) → Type 0 = λ lines. Answered old new lines h h'' f f'' fed in
-    subst P (sym more) (answered_then old mid new (further_lines taken (take i xs)) (further_lines (taken ++ take i xs) (get_or xs i 0 ∷ [])) h h' h'' f f' f'' fed a b)
+    subst P (sym (further_lines-append taken done more)) (answered_then old mid new (further_lines taken done) (further_lines (taken ++ done) more) h h' h'' f f' f'' fed a b)
 
--- the byte at which it stopped
-pub byte_stops : (taken xs : List ℕ) (i : ℕ) (old mid new : MapState) (h h' h'' : Option (List ℕ)) (f f' f'' : ℕ) (fed : Fed) → i < length xs → (fed ≡ More → ⊥)
-    → AnswersAll old mid (further_lines taken (take i xs)) h h' f f'
-    → Answered mid new (further_lines (taken ++ take i xs) (get_or xs i 0 ∷ [])) h' h'' f' f'' fed
-    → Answered old new (further_lines taken xs) h h'' f f'' fed
-byte_stops taken xs i old mid new h h' h'' f f' f'' fed within apart a b =
-    let front = byte_then taken xs i old mid new h h' h'' f f' f'' fed within a b in
-    let whole : further_lines taken xs ≡ further_lines taken (take (i + 1) xs) ++ further_lines (taken ++ take (i + 1) xs) (drop (i + 1) xs) =
-    ap (further_lines taken) (sym (take-append-drop (i + 1) xs)) ∙ further_lines-append taken (take (i + 1) xs) (drop (i + 1) xs) in
-    let P : List (List ℕ) → Type 0 = λ lines. Answered old new lines h h'' f f'' fed in
-    subst P (sym whole) (stopped_more old new new (further_lines taken (take (i + 1) xs)) (further_lines (taken ++ take (i + 1) xs) (drop (i + 1) xs)) h h'' f f'' fed apart front)
+-- the bytes at which it stopped, and those after them
+pub bytes_stop : (taken done rest : List ℕ) (old new new' : MapState) (h h' : Option (List ℕ)) (f f' : ℕ) (fed : Result Fed Stop) → (fed ≡ Ok More → ⊥)
+    → Answered old new (further_lines taken done) h h' f f' fed → Answered old new' (further_lines taken (done ++ rest)) h h' f f' fed
+bytes_stop taken done rest old new new' h h' f f' fed apart a =
+    let P : List (List ℕ) → Type 0 = λ lines. Answered old new' lines h h' f f' fed in
+    subst P (sym (further_lines-append taken done rest)) (stopped_more old new new' (further_lines taken done) (further_lines (taken ++ done) rest) h h' f f' fed apart a)

@@ -11,7 +11,11 @@ use Rattle.map_machine.proofs.TextLemmas.{session_lines_begin}
 use Rattle.map_machine.specs.Steps.{is_quit}
 use Rattle.map_machine.specs.Play.{Opening, goes_on}
 use Rattle.map_outside.specs.Contents.{Files}
-use Rattle.map_cli.specs.Run.{WhereTold, RunCounts, OpensSo, EndsDone, EndsTooLong, EndsSo, NoneRose, ComesToEnd, IsComplete, ComesToLimit, IsTooLong}
+use Rattle.map_cli.specs.Completeness.{ComesToEnd, IsComplete, ComesToLimit, IsTooLong}
+use Rattle.map_cli.specs.FaultCounts.{RunCounts, NoneRose}
+use Rattle.map_cli.specs.Openings.{OpensSo}
+use Rattle.map_cli.specs.Seen.{WhereTold}
+use Rattle.map_cli.specs.Taken.{EndsDone, EndsTooLong, EndsSo}
 use Rattle.map_cli.specs.declared.status.Status.{Status}
 use Rattle.map_cli.specs.declared.status.Status.TheVariants.{Done, Usage, Load, ShelfFault, SourceFault, SinkFault, NoMemory, TooLong}
 

@@ -1,7 +1,10 @@
 mod PartsLemmas
+mod CountLemmas
 mod WordLemmas
+mod LineCuts
 mod KeptLemmas
 mod AnsweredLemmas
+mod Feeding
 mod Playing
 mod LoadLemmas
 mod Whole

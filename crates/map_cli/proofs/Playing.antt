@@ -1,5 +1,5 @@
 -- The session so far.
-use Rattle.std.proofs.Common.{◌-◌, min, take, ◌≡◌, ◌≤◌, ◌<◌, ◌+◌, ◌++◌, ℕ, Bool, true, false, List, [], length, refl, sym, ap, ◌∙◌, subst, arith, Option, inl, inr}
+use Rattle.std.proofs.Common.{◌-◌, min, take, ◌≡◌, ◌≤◌, ◌<◌, ◌+◌, ◌++◌, ℕ, Bool, true, false, List, [], length, refl, sym, ap, ◌∙◌, subst, arith, Option, Result, Ok, Err, inl, inr}
 use Rattle.std.specs.Io.KnownBytes.{Consumes, IsAtEnd}
 use Rattle.std.proofs.KnownBytes.{Consumes-nil, Consumes-trans}
 use Rattle.std.proofs.lemmas.List.{append-nil, length-append, length-take}
@@ -8,10 +8,14 @@ use Rattle.map_machine.specs.States.{MapState}
 use Rattle.map_machine.proofs.LinesLemmas.{ended_lines-append}
 use Rattle.map_cli.specs.Kept.{IsKept}
 use Rattle.map_cli.specs.Answered.{Answered, AnswersAll}
-use Rattle.map_cli.specs.Played.{Plays, EndingCounts, ending_for}
-use Rattle.map_cli.specs.declared.session.Ending.TheVariants.{NoMemory as Lacking}
+use Rattle.map_cli.specs.FaultCounts.{RunCounts}
+use Rattle.map_cli.specs.Played.{CameTo, Plays}
+use Rattle.map_cli.specs.Stops.{status_of}
+use Rattle.map_cli.specs.declared.status.Status.TheVariants.{NoMemory as Lacking}
 use Rattle.map_cli.specs.declared.lines.Fed.{Fed}
-use Rattle.map_cli.specs.declared.lines.Fed.TheVariants.{More, Quit, SinkFault, NoMemory}
+use Rattle.map_cli.specs.declared.lines.Fed.TheVariants.{More, Quit}
+use Rattle.map_cli.specs.declared.stop.Stop.{Stop}
+use Rattle.map_cli.specs.declared.stop.Stop.TheVariants.{SinkFault, NoMemory}
 use Rattle.map_cli.proofs.AnsweredLemmas.{answered_then, nothing_answered, stopped_before}
 
 -- the lines that ended among the bytes taken were answered, and what follows the last line feed is kept
@@ -33,7 +37,7 @@ begins s left held faults kept count returns k = record {
 }
 
 -- a chunk of bytes, after those so far
-pub chunk_then : (old mid new : MapState) (held held' held'' : Option (List ℕ)) (f f' f'' : ℕ) (bytes chunk : List ℕ) (fed : Fed)
+pub chunk_then : (old mid new : MapState) (held held' held'' : Option (List ℕ)) (f f' f'' : ℕ) (bytes chunk : List ℕ) (fed : Result Fed Stop)
     → AnswersAll old mid (ended_lines bytes) held held' f f' → Answered mid new (further_lines bytes chunk) held' held'' f' f'' fed
     → Answered old new (ended_lines (bytes ++ chunk)) held held'' f f'' fed
 chunk_then old mid new held held' held'' f f' f'' bytes chunk fed a b =
@@ -51,71 +55,46 @@ plays_nothing limit s left held = record {
   came = stopped_before s [] held;
 }
 
+stopped_so : (limit : ℕ) (old new : MapState) (held held' : Option (List ℕ)) (f f' : ℕ) (taken : List ℕ) (fed : Result Fed Stop) → (fed ≡ Ok More → ⊥)
+    → Answered old new (ended_lines taken) held held' f f' fed → CameTo limit old taken false held held' (status_of fed)
+stopped_so limit old new held held' f f' taken (Ok More) apart a = absurd (apart refl)
+stopped_so limit old new held held' f f' taken (Ok Quit) apart a = (inr a.some, a.wrote)
+stopped_so limit old new held held' f f' taken (Err SinkFault) apart a = a.at
+stopped_so limit old new held held' f f' taken (Err NoMemory) apart a = a.at
+stopped_so limit old new held held' f f' taken (Err _) apart a = absurd a
+
+finished_so : (limit : ℕ) (old new : MapState) (held held' : Option (List ℕ)) (f f' : ℕ) (taken : List ℕ) (fed : Result Fed Stop)
+    → Answered old new (lines_of taken) held held' f f' fed → CameTo limit old taken true held held' (status_of fed)
+finished_so limit old new held held' f f' taken (Ok More) a = (inl refl, a.wrote)
+finished_so limit old new held held' f f' taken (Ok Quit) a = (inl refl, a.wrote)
+finished_so limit old new held held' f f' taken (Err SinkFault) a = a.at
+finished_so limit old new held held' f f' taken (Err NoMemory) a = a.at
+finished_so limit old new held held' f f' taken (Err _) a = absurd a
+
 -- the session stopped before its end
-pub plays_stopped : (limit : ℕ) (old new : MapState) (left left' held held' : Option (List ℕ)) (f f' : ℕ) (taken : List ℕ) (fed : Fed) → (fed ≡ More → ⊥)
+pub plays_stopped : (limit : ℕ) (old new : MapState) (left left' held held' : Option (List ℕ)) (f f' : ℕ) (taken : List ℕ) (fed : Result Fed Stop) → (fed ≡ Ok More → ⊥)
     → length taken ≤ limit → Consumes left left' taken → Answered old new (ended_lines taken) held held' f f' fed
-    → Plays limit old left left' held held' (ending_for fed)
-plays_stopped limit old new left left' held held' f f' taken More apart within moved a = absurd (apart refl)
-plays_stopped limit old new left left' held held' f f' taken Quit apart within moved a = record {
+    → Plays limit old left left' held held' (status_of fed)
+plays_stopped limit old new left left' held held' f f' taken fed apart within moved a = record {
   taken = taken;
   ended = false;
   within = within;
   moved = moved;
   at_end = λ e. absurd (cc);
-  came = (inr a.some, a.wrote);
-}
-plays_stopped limit old new left left' held held' f f' taken SinkFault apart within moved a = record {
-  taken = taken;
-  ended = false;
-  within = within;
-  moved = moved;
-  at_end = λ e. absurd (cc);
-  came = a.at;
-}
-plays_stopped limit old new left left' held held' f f' taken NoMemory apart within moved a = record {
-  taken = taken;
-  ended = false;
-  within = within;
-  moved = moved;
-  at_end = λ e. absurd (cc);
-  came = a.at;
+  came = stopped_so limit old new held held' f f' taken fed apart a;
 }
 
 -- the end was seen
-pub plays_finished : (limit : ℕ) (old new : MapState) (left left' held held' : Option (List ℕ)) (f f' : ℕ) (taken : List ℕ) (fed : Fed)
+pub plays_finished : (limit : ℕ) (old new : MapState) (left left' held held' : Option (List ℕ)) (f f' : ℕ) (taken : List ℕ) (fed : Result Fed Stop)
     → length taken < limit → Consumes left left' taken → IsAtEnd left' → Answered old new (lines_of taken) held held' f f' fed
-    → Plays limit old left left' held held' (ending_for fed)
-plays_finished limit old new left left' held held' f f' taken More short moved at_end a = record {
+    → Plays limit old left left' held held' (status_of fed)
+plays_finished limit old new left left' held held' f f' taken fed short moved at_end a = record {
   taken = taken;
   ended = true;
   within = omega arith;
   moved = moved;
   at_end = λ e. (at_end, short);
-  came = (inl refl, a.wrote);
-}
-plays_finished limit old new left left' held held' f f' taken Quit short moved at_end a = record {
-  taken = taken;
-  ended = true;
-  within = omega arith;
-  moved = moved;
-  at_end = λ e. (at_end, short);
-  came = (inl refl, a.wrote);
-}
-plays_finished limit old new left left' held held' f f' taken SinkFault short moved at_end a = record {
-  taken = taken;
-  ended = true;
-  within = omega arith;
-  moved = moved;
-  at_end = λ e. (at_end, short);
-  came = a.at;
-}
-plays_finished limit old new left left' held held' f f' taken NoMemory short moved at_end a = record {
-  taken = taken;
-  ended = true;
-  within = omega arith;
-  moved = moved;
-  at_end = λ e. (at_end, short);
-  came = a.at;
+  came = finished_so limit old new held held' f f' taken fed a;
 }
 
 -- nothing more was taken
@@ -132,17 +111,18 @@ goes_on old mid new left left' left'' held held' held'' f f' f'' kept kept' coun
   bytes = p.bytes ++ chunk;
   size = omega (arith, p.size, length-append p.bytes chunk);
   moved = Consumes-trans left left' left'' p.bytes chunk p.moved moved;
-  answered = chunk_then old mid new held held' held'' f f' f'' p.bytes chunk More p.answered answered;
+  answered = chunk_then old mid new held held' held'' f f' f'' p.bytes chunk (Ok More) p.answered answered;
   kept_so = kept_so;
 }
 
 -- the counts at such an ending
-pub counts_for : (old new : MapState) (lines : List (List ℕ)) (held held' : Option (List ℕ)) (s s' f f' : ℕ) (fed : Fed) → s' ≡ s → Answered old new lines held held' f f' fed
-    → EndingCounts s s' f f' (ending_for fed)
-counts_for old new lines held held' s s' f f' More same a = (same, a.same)
-counts_for old new lines held held' s s' f f' Quit same a = (same, a.same)
-counts_for old new lines held held' s s' f f' SinkFault same a = (same, a.rose)
-counts_for old new lines held held' s s' f f' NoMemory same a = (same, a.same)
+pub counts_for : (old new : MapState) (lines : List (List ℕ)) (held held' : Option (List ℕ)) (shelf s s' f f' : ℕ) (fed : Result Fed Stop) → s' ≡ s
+    → Answered old new lines held held' f f' fed → RunCounts shelf shelf s s' f f' (status_of fed)
+counts_for old new lines held held' shelf s s' f f' (Ok More) same a = (refl, same, a.same)
+counts_for old new lines held held' shelf s s' f f' (Ok Quit) same a = (refl, same, a.same)
+counts_for old new lines held held' shelf s s' f f' (Err SinkFault) same a = (refl, same, a.rose)
+counts_for old new lines held held' shelf s s' f f' (Err NoMemory) same a = (refl, same, a.same)
+counts_for old new lines held held' shelf s s' f f' (Err _) same a = absurd a
 
 -- ---- how many bytes a call asks for
 

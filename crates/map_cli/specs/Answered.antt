@@ -1,5 +1,5 @@
 -- How far a run has come with some lines of its session.
-use Rattle.std.specs.Prelude.{ℕ, ◌≡◌, false, true, List, [], ◌∷◌, ◌++◌, Option}
+use Rattle.std.specs.Prelude.{ℕ, ◌≡◌, false, true, List, [], ◌∷◌, ◌++◌, Option, Result, Ok, Err}
 use Rattle.std.specs.List.{list_any}
 use Rattle.map_nums.specs.Counts.{Rose}
 use Rattle.map_machine.specs.States.{MapState}
@@ -7,7 +7,9 @@ use Rattle.map_machine.specs.Steps.{is_quit}
 use Rattle.map_machine.specs.Text.{replies_to, state_after}
 use Rattle.map_outside.specs.Contents.{Grows}
 use Rattle.map_cli.specs.declared.lines.Fed.{Fed}
-use Rattle.map_cli.specs.declared.lines.Fed.TheVariants.{More, Quit, SinkFault, NoMemory}
+use Rattle.map_cli.specs.declared.lines.Fed.TheVariants.{More, Quit}
+use Rattle.map_cli.specs.declared.stop.Stop.{Stop}
+use Rattle.map_cli.specs.declared.stop.Stop.TheVariants.{SinkFault, NoMemory}
 
 -- all lines were answered, and none of them ends the session
 pub record AnswersAll (old new : MapState) (lines : List (List ℕ)) (held held' : Option (List ℕ)) (faults faults' : ℕ) : Type 0 where
@@ -49,8 +51,9 @@ pub record LacksMemory (old : MapState) (lines : List (List ℕ)) (held held' : 
   pub at : StoppedAt old lines held held'
   pub same : faults' ≡ faults
 
-abbrev pub Answered : MapState → MapState → List (List ℕ) → Option (List ℕ) → Option (List ℕ) → ℕ → ℕ → Fed → Type 0
-Answered old new lines held held' faults faults' More = AnswersAll old new lines held held' faults faults'
-Answered old new lines held held' faults faults' Quit = AnswersToQuit old lines held held' faults faults'
-Answered old new lines held held' faults faults' SinkFault = PutFailed old lines held held' faults faults'
-Answered old new lines held held' faults faults' NoMemory = LacksMemory old lines held held' faults faults'
+abbrev pub Answered : MapState → MapState → List (List ℕ) → Option (List ℕ) → Option (List ℕ) → ℕ → ℕ → Result Fed Stop → Type 0
+Answered old new lines held held' faults faults' (Ok More) = AnswersAll old new lines held held' faults faults'
+Answered old new lines held held' faults faults' (Ok Quit) = AnswersToQuit old lines held held' faults faults'
+Answered old new lines held held' faults faults' (Err SinkFault) = PutFailed old lines held held' faults faults'
+Answered old new lines held held' faults faults' (Err NoMemory) = LacksMemory old lines held held' faults faults'
+Answered old new lines held held' faults faults' (Err _) = ⊥

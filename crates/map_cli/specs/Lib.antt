@@ -1,8 +1,15 @@
 pub mod Kept
 pub mod Front
 pub mod Pairs
+pub mod Stops
+pub mod Codes
+pub mod FaultCounts
 pub mod Answered
 pub mod Played
 pub mod Loads
-pub mod Run
-pub mod Codes
+pub mod Seen
+pub mod Written
+pub mod Openings
+pub mod Taken
+pub mod Completeness
+pub mod RunsTo

@@ -1,13 +1,12 @@
--- What the loads of a run came to.
-use Rattle.std.specs.Prelude.{ℕ, ◌≡◌, ⊤, List, ◌++◌, take, Option, Some, None, IfSome}
-use Rattle.map_nums.specs.Counts.{Rose}
+-- What the loads of a run came to: a state, or why the run stopped.
+use Rattle.std.specs.Prelude.{ℕ, ◌≡◌, ⊤, List, ◌++◌, take, Option, Some, None, IfSome, Result, Ok, Err}
 use Rattle.map_defs.specs.Ops.{Name}
 use Rattle.map_machine.specs.States.{MapState}
 use Rattle.map_machine.specs.Loads.{Opened, ready, turned_away, first_load, next_load}
 use Rattle.map_machine.specs.Play.{Opening, goes_on, turned_back}
 use Rattle.map_outside.specs.Contents.{Files, Grows}
-use Rattle.map_cli.specs.declared.opening.Loaded.{Loaded}
-use Rattle.map_cli.specs.declared.opening.Loaded.TheVariants.{Ready, Refused, ShelfFault, SinkFault, NoMemory}
+use Rattle.map_cli.specs.declared.stop.Stop.{Stop}
+use Rattle.map_cli.specs.declared.stop.Stop.TheVariants.{Load, SourceFault, SinkFault, NoMemory, TooLong}
 
 -- what the bytes of a file do where nothing is loaded yet, and from a state on
 abbrev pub load_on : Option MapState → Name → List ℕ → Opened
@@ -19,53 +18,40 @@ opened_reply (ready s reply) = reply
 opened_reply (turned_away reply) = reply
 
 -- one load came out so, and its reply was written, or a front of it
-abbrev pub LoadsAs : Opened → Option (List ℕ) → Option (List ℕ) → Loaded → Type 0
-LoadsAs (ready s reply) held held' (Ready t) = (t ≡ s) × Grows held held' reply
-LoadsAs (ready s reply) held held' Refused = ⊥
-LoadsAs (turned_away reply) held held' (Ready t) = ⊥
-LoadsAs (turned_away reply) held held' Refused = Grows held held' reply
-LoadsAs opened held held' ShelfFault = ⊥
-LoadsAs opened held held' SinkFault = (n : ℕ) × Grows held held' (take n (opened_reply opened))
-LoadsAs opened held held' NoMemory = (n : ℕ) × Grows held held' (take n (opened_reply opened))
+abbrev pub LoadsAs : Opened → Option (List ℕ) → Option (List ℕ) → Result MapState Stop → Type 0
+LoadsAs (ready s reply) held held' (Ok t) = (t ≡ s) × Grows held held' reply
+LoadsAs (turned_away reply) held held' (Err Load) = Grows held held' reply
+LoadsAs opened held held' (Err SinkFault) = (n : ℕ) × Grows held held' (take n (opened_reply opened))
+LoadsAs opened held held' (Err NoMemory) = (n : ℕ) × Grows held held' (take n (opened_reply opened))
+LoadsAs opened held held' _ = ⊥
 
--- what was written is a front of the text, whatever comes next
-abbrev pub HasFront : ((MapState → List ℕ) → List ℕ) → List ℕ → Type 0
-HasFront text front = (next : MapState → List ℕ) → (rest : List ℕ) × (text next ≡ front ++ rest)
+-- neither source nor length of a session stops a load
+abbrev pub StopsLoad : Result MapState Stop → Type 0
+StopsLoad (Err SourceFault) = ⊥
+StopsLoad (Err TooLong) = ⊥
+StopsLoad _ = ⊤
 
 -- of a text that goes on with `next` from the state after the loads, this front was written
-abbrev pub LeavesOf : ((MapState → List ℕ) → List ℕ) → List ℕ → Loaded → Type 0
-LeavesOf text front (Ready s) = (next : MapState → List ℕ) → text next ≡ front ++ next s
-LeavesOf text front Refused = (next : MapState → List ℕ) → text next ≡ front
-LeavesOf text front ShelfFault = HasFront text front
-LeavesOf text front SinkFault = HasFront text front
-LeavesOf text front NoMemory = HasFront text front
+abbrev pub LeavesOf : ((MapState → List ℕ) → List ℕ) → List ℕ → Result MapState Stop → Type 0
+LeavesOf text front (Ok s) = (next : MapState → List ℕ) → text next ≡ front ++ next s
+LeavesOf text front (Err Load) = (next : MapState → List ℕ) → text next ≡ front
+LeavesOf text front (Err _) = (next : MapState → List ℕ) → (rest : List ℕ) × (text next ≡ front ++ rest)
 
 -- how one load came out, of an opening that goes on with `next` from the state after it
-abbrev pub OneOpens : ((MapState → Opening) → Opening) → Loaded → Type 0
-OneOpens opening (Ready s) = (next : MapState → Opening) → opening next ≡ next s
-OneOpens opening Refused = (next : MapState → Opening) → opening next ≡ turned_back
-OneOpens opening ShelfFault = ⊤
-OneOpens opening SinkFault = ⊤
-OneOpens opening NoMemory = ⊤
+abbrev pub OneOpens : ((MapState → Opening) → Opening) → Result MapState Stop → Type 0
+OneOpens opening (Ok s) = (next : MapState → Opening) → opening next ≡ next s
+OneOpens opening (Err Load) = (next : MapState → Opening) → opening next ≡ turned_back
+OneOpens opening (Err _) = ⊤
 
 -- how all of them came out
-abbrev pub AllOpen : Opening → Loaded → Type 0
-AllOpen opening (Ready s) = opening ≡ goes_on
-AllOpen opening Refused = opening ≡ turned_back
-AllOpen opening ShelfFault = ⊤
-AllOpen opening SinkFault = ⊤
-AllOpen opening NoMemory = ⊤
+abbrev pub AllOpen : Opening → Result MapState Stop → Type 0
+AllOpen opening (Ok s) = opening ≡ goes_on
+AllOpen opening (Err Load) = opening ≡ turned_back
+AllOpen opening (Err _) = ⊤
 
 -- some bytes were written; where the files are told, they are a front of the text, and the loads came out as they do
-pub record Loads (files : Option Files) (text : Files → (MapState → List ℕ) → List ℕ) (opens : Files → Loaded → Type 0) (held held' : Option (List ℕ)) (loaded : Loaded) : Type 0 where
+pub record Loads (files : Option Files) (text : Files → (MapState → List ℕ) → List ℕ) (opens : Files → Result MapState Stop → Type 0) (held held' : Option (List ℕ)) (loaded : Result MapState Stop) : Type 0 where
+  pub form : StopsLoad loaded
   pub front : List ℕ
   pub wrote : Grows held held' front
   pub told : IfSome files (λ f. LeavesOf (text f) front loaded × opens f loaded)
-
--- a fault is answered only where the count of that very object rose, and the other count stays
-abbrev pub LoadedCounts : ℕ → ℕ → ℕ → ℕ → Loaded → Type 0
-LoadedCounts shelf shelf' sink sink' (Ready s) = (shelf' ≡ shelf) × (sink' ≡ sink)
-LoadedCounts shelf shelf' sink sink' Refused = (shelf' ≡ shelf) × (sink' ≡ sink)
-LoadedCounts shelf shelf' sink sink' ShelfFault = Rose shelf shelf' × (sink' ≡ sink)
-LoadedCounts shelf shelf' sink sink' SinkFault = (shelf' ≡ shelf) × Rose sink sink'
-LoadedCounts shelf shelf' sink sink' NoMemory = (shelf' ≡ shelf) × (sink' ≡ sink)

@@ -2,8 +2,9 @@
 //!
 //! [`run`] does all that the program does, over any shelf, source, sink and tally. `main` hands it the arguments, the
 //! system's files, the standard streams and a tally, and ends with the code of the [`Status`] that it answers. A run
-//! loads the files that its words name (`words`, `workers`, `opening`), and then answers the session's lines (`session`, `lines`), of which
-//! `piece` keeps the one that no line feed has ended yet. What is written is proved to be the text of the map machine.
+//! loads the files that its words name (`words`, `workers`, `opening`), and then answers the session's lines (`session`,
+//! `lines`), of which `piece` keeps the one that no line feed has ended yet. Each part answers what it came to, or by a
+//! `Stop` why the run stops. What is written is proved to be the text of the map machine.
 #![tactic(auto)]
 
 ghost use Rattle.std.specs.Prelude.{◌≡◌, ◌↔◌, IsNone};
@@ -13,7 +14,9 @@ mod lines;
 mod opening;
 mod piece;
 mod session;
+mod setup;
 mod status;
+mod stop;
 #[cfg(test)]
 mod tests;
 mod top;

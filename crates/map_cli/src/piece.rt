@@ -1,5 +1,6 @@
 //! The piece of a session that no line feed has ended yet. Of a long one only the first bytes are kept.
-ghost use Rattle.std.specs.Prelude.{◌≡◌, ◌≤◌, ◌<◌, ◌+◌, ◌++◌, ◌∷◌, [], ◌==◌, true, min, List, ℕ, OnOk, OnErr, vec_len, length};
+ghost use Rattle.std.specs.Prelude.{◌≡◌, ◌≤◌, ◌<◌, ◌+◌, ◌-◌, ◌^◌, ◌==◌, slice_index, ◌++◌, ◌∷◌, [], true, min, List, ℕ, OnOk, vec_len, length, if◌then◌else◌};
+ghost use Rattle.map_machine.specs.Lines.{without_return};
 ghost use Rattle.map_cli.specs.Kept.{IsKept};
 
 use map_nums::NoMemory;
@@ -8,8 +9,11 @@ use std::alloc::Global;
 /// The most bytes of a line.
 pub const LONGEST: u64 = 4096;
 
-/// Its first bytes, its length, and whether a carriage return stands at its end. One byte more is kept than a line may
-/// have, so that a line of the greatest length is known also with a carriage return after it.
+/// One byte more is kept than a line may have, so that a line of the greatest length is known also with a carriage return
+/// after it.
+const KEPT: usize = 4097;
+
+/// Its first bytes, its length, and whether a carriage return stands at its end.
 #[derive(Drop)]
 pub struct Piece {
     pub kept: Vec<u8>,
@@ -17,6 +21,18 @@ pub struct Piece {
     pub returns: bool,
     ghost room: { vec_len kept ≡ min count 4097 },
     ghost some: { returns ≡ true → 0 < count },
+}
+
+/// Whether a carriage return stands at the end.
+pub fn ends_with_return(bytes: &[u8]) -> bool
+    ensures end { bytes.now ≡ without_return bytes.now ++ (if result then 13 ∷ [] else []) }
+    ensures some { result ≡ true → 0 < length bytes.now }
+    ensures last { 0 < length bytes.now → result ≡ (slice_index bytes.now (length bytes.now - 1) == 13) }
+{
+    if bytes.is_empty() {
+        return false;
+    }
+    bytes[bytes.len() - 1] == b'\r'
 }
 
 impl Piece {
@@ -42,18 +58,20 @@ impl Piece {
         self.returns = false;
     }
 
-    /// Adds a byte.
-    pub fn push(&mut self, byte: u8) -> Result<(), NoMemory>
-        requires { self.old.count < 1073741824 }
-        ensures count { self.new.count ≤ self.old.count + 1 }
+    /// Adds bytes.
+    pub fn extend(&mut self, bytes: &[u8]) -> Result<(), NoMemory>
+        requires { self.old.count + length bytes.now < 2 ^ 64 }
+        ensures count { self.new.count ≤ self.old.count + length bytes.now }
         ensures kept { OnOk result ((piece : List ℕ) → IsKept piece self.old.kept.items self.old.count self.old.returns
-            → IsKept (piece ++ byte ∷ []) self.new.kept.items self.new.count self.new.returns) }
+            → IsKept (piece ++ bytes.now) self.new.kept.items self.new.count self.new.returns) }
     {
-        if self.count <= LONGEST {
-            self.kept.push(byte)?;
+        if bytes.is_empty() {
+            return Ok(());
         }
-        self.count += 1;
-        self.returns = byte == b'\r';
+        let room = bytes.len().min(KEPT - self.kept.len());
+        self.kept.extend_from_slice(&bytes[..room])?;
+        self.count += bytes.len() as u64;
+        self.returns = ends_with_return(bytes);
         Ok(())
     }
 }

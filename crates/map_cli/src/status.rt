@@ -1,5 +1,7 @@
 //! How a run ends.
 
+use crate::stop::Stop;
+
 /// How a run ended.
 #[derive(Clone, Copy, Debug, PartialEq, Eq)]
 pub enum Status {
@@ -24,6 +26,22 @@ pub enum Status {
 impl Status {
     ghost use Rattle.std.specs.Prelude.{◌≡◌};
     ghost use Rattle.map_cli.specs.Codes.{code_of};
+    ghost use Rattle.map_cli.specs.Stops.{status_of};
+
+    /// How a run ended that came to this.
+    pub(crate) fn of(came: Result<(), Stop>) -> Status
+        ensures { result ≡ status_of came }
+    {
+        match came {
+            Ok(()) => Status::Done,
+            Err(Stop::Load) => Status::Load,
+            Err(Stop::ShelfFault) => Status::ShelfFault,
+            Err(Stop::SourceFault) => Status::SourceFault,
+            Err(Stop::SinkFault) => Status::SinkFault,
+            Err(Stop::NoMemory) => Status::NoMemory,
+            Err(Stop::TooLong) => Status::TooLong,
+        }
+    }
 
     /// What the process ends with.
     pub fn code(&self) -> u8

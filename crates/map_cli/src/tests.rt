@@ -1,6 +1,6 @@
 //! Whole runs, over the forms in memory and over the adapters.
-ghost use Rattle.std.specs.Prelude.{◌≤◌};
 
+use crate::setup::Limits;
 use crate::top::run_within;
 use crate::{Status, run};
 use map_outside::{
@@ -64,6 +64,28 @@ fn shelf_of(
 }
 
 // A run of these words: its code, and what it wrote.
+fn play_words(
+    alloc: Global,
+    words: &[String],
+    files: &[(&str, &[u8])],
+    session: &[u8],
+    fails: Fails,
+) -> Result<(u8, Vec<u8>), AllocError> {
+    let mut shelf = shelf_of(alloc, files, fails)?;
+    let mut source = MemorySource::new(session.to_vec(alloc)?, 12, vec![in alloc; fails.source]?);
+    let mut sink = MemorySink::new(alloc, vec![in alloc; fails.sink]?);
+    let mut tally = Counts::new();
+    let status = run(
+        alloc,
+        words,
+        &mut shelf,
+        &mut source,
+        &mut sink,
+        &mut tally,
+    );
+    Ok((status.code(), sink.bytes().to_vec(alloc)?))
+}
+
 fn play_with(
     alloc: Global,
     texts: &[&str],
@@ -72,19 +94,7 @@ fn play_with(
     fails: Fails,
 ) -> Result<(u8, Vec<u8>), AllocError> {
     let words = owned(alloc, texts)?;
-    let mut shelf = shelf_of(alloc, files, fails)?;
-    let mut source = MemorySource::new(session.to_vec(alloc)?, 12, vec![in alloc; fails.source]?);
-    let mut sink = MemorySink::new(alloc, vec![in alloc; fails.sink]?);
-    let mut tally = Counts::new();
-    let status = run(
-        alloc,
-        &words,
-        &mut shelf,
-        &mut source,
-        &mut sink,
-        &mut tally,
-    );
-    Ok((status.code(), sink.bytes().to_vec(alloc)?))
+    play_words(alloc, &words, files, session, fails)
 }
 
 // A run over one file.
@@ -104,9 +114,7 @@ fn play_within(
     most: u64,
     limit: u64,
     session: &[u8],
-) -> Result<(Status, Vec<u8>), AllocError>
-    requires { limit ≤ 1073741824 }
-{
+) -> Result<(Status, Vec<u8>), AllocError> {
     let words = owned(alloc, &WORDS)?;
     let mut shelf = shelf_of(alloc, &[("a", FILE)], NONE)?;
     let mut source = MemorySource::new(session.to_vec(alloc)?, 5, vec![in alloc]?);
@@ -115,8 +123,10 @@ fn play_within(
     let status = run_within(
         alloc,
         &words,
-        most,
-        limit,
+        Limits {
+            file: most,
+            session: limit,
+        },
         &mut shelf,
         &mut source,
         &mut sink,
@@ -254,6 +264,21 @@ fn refuses_words(rt: HostRuntime) -> Result<(), Fail> {
     let twice = ["run", "1", "-", "A=a", "B=b", "A=b"];
     let (code, wrote) = play(rt.alloc(), &twice, FILE, SESSION, NONE)?;
     assert_eq!(rt; (code, wrote.len()), (2, 0));
+    Ok(())
+}
+
+#[test]
+fn loads_up_to_thirty_two_pairs(rt: HostRuntime) -> Result<(), Fail> {
+    let alloc = rt.alloc();
+    for (pairs, code, lines) in [(32, 0, 32), (33, 2, 0)] {
+        let mut words = owned(alloc, &["run", "1", "-"])?;
+        for pair in 0..pairs {
+            words.push(format!(in alloc; "L{pair}=a")?)?;
+        }
+        let came = play_words(alloc, &words, &[("a", SEVEN)], b"", NONE)?;
+        assert_eq!(rt; came.0, code, "{pairs}");
+        assert_eq!(rt; came.1.iter().filter(|byte| **byte == b'\n').count(), lines, "{pairs}");
+    }
     Ok(())
 }
 

@@ -1,55 +1,43 @@
-use Rattle.std.proofs.Common.{◌≡◌, ◌++◌, ◌∷◌, [], List, ℕ, take, get_or, refl, arith}
-use Rattle.std.proofs.lemmas.List.{append-nil, append_assoc, take_more, take_all}
-use Rattle.map_machine.proofs.LinesLemmas.{further_lines-nil}
-use Rattle.map_cli.specs.declared.lines.Fed.TheVariants.{More, Quit, SinkFault, NoMemory}
-use Rattle.map_cli.proofs.PartsLemmas.{keeps_then}
-use Rattle.map_cli.proofs.AnsweredLemmas.{nothing_answered, byte_then, byte_stops}
+use Rattle.std.proofs.Common.{◌∙◌, ap, Ok, Err}
+use Rattle.std.proofs.lemmas.Result.{err_from_is_err_and}
+use Rattle.map_cli.specs.declared.lines.Fed.TheVariants.{Quit}
+use Rattle.map_cli.proofs.Feeding.{begins, line_stops, line_goes_on, rest_answered, rest_lacking, rest_kept}
 use Rattle.map_cli.proofs.lines.feed.Goals as goal
 
-pub loop-byte-init : goal.loop-byte-init
-loop-byte-init g c = record {
-  count = omega arith;
-  parts = (refl, refl);
-  answered = λ taken was. rw (further_lines-nil taken) (nothing_answered c.args.session.now (g.K.Sink.held c.args.sink.now) (g.K.Sink.faults c.args.sink.now));
-  kept = λ taken was. rw (append-nil taken) was;
-}
+pub loop-line-init : goal.loop-line-init
+loop-line-init g c = begins c.args.session.now (g.M.Tally.counts c.args.tally.now) (g.K.Sink.held c.args.sink.now) (g.K.Sink.faults c.args.sink.now) _ _ _ c.args.bytes.now
+
+pub loop-line-preserved : goal.loop-line-preserved
+loop-line-preserved g c =
+    let K = g.K.Sink in
+    let cut = c.in-Some.ensures in
+    let ends = c.in_ok-end_line.ensures in
+    line_goes_on c.end_line.new.session (g.M.Tally.counts c.end_line.new.tally) (K.held c.end_line.new.sink) (K.faults c.end_line.new.sink)
+    c.end_line.new.piece.kept.items c.end_line.new.piece.count c.end_line.new.piece.returns c.in-Some.line.now c.in-Some.further.now
+    c.loop-line.invariant cut.0 cut.1 (λ piece k. rw c.in-More.is at (ends.answered piece k)) (c.end_line.ensures.kept (c.in_ok-end_line.was ∙ ap Ok c.in-More.is)) ends.count ends.parts
+
+pub returns-in_err-end_line-clause-answered : goal.returns-in_err-end_line-clause-answered
+returns-in_err-end_line-clause-answered g c taken was =
+    let K = g.K.Sink in
+    let cut = c.in-Some.ensures in
+    let p = err_from_is_err_and c.from_residual.result c.from_residual.ensures.1 in
+    rw (p.1, p.2) (line_stops c.end_line.new.session (K.held c.end_line.new.sink) (K.faults c.end_line.new.sink) c.in-Some.line.now c.in-Some.further.now (Err c.in_err-end_line.field-0.0) (λ e. cc)
+    c.loop-line.invariant cut.0 cut.1 c.in_err-end_line.ensures.answered taken was)
 
 pub returns-in-Quit-clause-answered : goal.returns-in-Quit-clause-answered
 returns-in-Quit-clause-answered g c taken was =
-    let i = c.loop-byte.byte-index in
-    let xs : List ℕ = c.args.bytes.now in
-    byte_stops taken xs i _ _ c.feed_byte.new.session _ _ _ _ _ _ Quit c.loop-byte-test.true (λ e. cc)
-    (c.loop-byte.invariant.answered taken was) (c.in-Quit.ensures.answered (taken ++ take i xs) (c.loop-byte.invariant.kept taken was))
+    let K = g.K.Sink in
+    let cut = c.in-Some.ensures in
+    line_stops c.end_line.new.session (K.held c.end_line.new.sink) (K.faults c.end_line.new.sink) c.in-Some.line.now c.in-Some.further.now (Ok Quit) (λ e. cc)
+    c.loop-line.invariant cut.0 cut.1 (λ piece k. rw c.in-Quit.is at (c.in_ok-end_line.ensures.answered piece k)) taken was
 
-pub returns-in-SinkFault-clause-answered : goal.returns-in-SinkFault-clause-answered
-returns-in-SinkFault-clause-answered g c taken was =
-    let i = c.loop-byte.byte-index in
-    let xs : List ℕ = c.args.bytes.now in
-    byte_stops taken xs i _ _ c.feed_byte.new.session _ _ _ _ _ _ SinkFault c.loop-byte-test.true (λ e. cc)
-    (c.loop-byte.invariant.answered taken was) (c.in-SinkFault.ensures.answered (taken ++ take i xs) (c.loop-byte.invariant.kept taken was))
+pub returns-in_err-extend-clause-answered : goal.returns-in_err-extend-clause-answered
+returns-in_err-extend-clause-answered g c taken was =
+    let p = err_from_is_err_and c.from_residual-in_err-extend.result c.from_residual-in_err-extend.ensures.1 in
+    rw (p.1, p.2) (rest_lacking c.loop-line.invariant taken was)
 
-pub returns-in-NoMemory-clause-answered : goal.returns-in-NoMemory-clause-answered
-returns-in-NoMemory-clause-answered g c taken was =
-    let i = c.loop-byte.byte-index in
-    let xs : List ℕ = c.args.bytes.now in
-    byte_stops taken xs i _ _ c.feed_byte.new.session _ _ _ _ _ _ NoMemory c.loop-byte-test.true (λ e. cc)
-    (c.loop-byte.invariant.answered taken was) (c.in-NoMemory.ensures.answered (taken ++ take i xs) (c.loop-byte.invariant.kept taken was))
-
-pub loop-byte-preserved : goal.loop-byte-preserved
-loop-byte-preserved g c =
-    let M = g.M.Tally in
-    let i = c.loop-byte.byte-index in
-    let xs : List ℕ = c.args.bytes.now in
-    record {
-      count = omega (arith, c.in-More.ensures.count, c.loop-byte.invariant.count);
-      parts = keeps_then (M.counts c.args.tally.now) (M.counts c.loop-byte.tally) (M.counts c.feed_byte.new.tally) c.loop-byte.invariant.parts c.in-More.ensures.parts;
-      answered = λ taken was. byte_then taken xs i _ _ c.feed_byte.new.session _ _ _ _ _ _ More c.loop-byte-test.true
-          (c.loop-byte.invariant.answered taken was) (c.in-More.ensures.answered (taken ++ take i xs) (c.loop-byte.invariant.kept taken was));
-      kept = λ taken was. rw (take_more xs i 0 c.loop-byte-test.true, ← append_assoc taken (take i xs) (get_or xs i 0 ∷ []))
-          (c.in-More.ensures.kept (cc) (taken ++ take i xs) (c.loop-byte.invariant.kept taken was));
-    }
+pub returns-clause-answered : goal.returns-clause-answered
+returns-clause-answered g c taken was = rest_answered c.loop-line.invariant c.in_default.ensures taken was
 
 pub returns-clause-kept : goal.returns-clause-kept
-returns-clause-kept g c more taken was =
-    let all : take c.loop-byte.byte-index c.args.bytes.now ≡ c.args.bytes.now = take_all c.loop-byte.byte-index c.args.bytes.now (omega arith) in
-    rw all at (c.loop-byte.invariant.kept taken was)
+returns-clause-kept g c more taken was = rest_kept _ _ _ c.loop-line.invariant c.in_default.ensures c.in_ok-extend.ensures.kept taken was

@@ -1,16 +1,11 @@
-use Rattle.std.proofs.Common.{◌≤◌, ◌+◌, ◌++◌, List, ℕ, take}
-use Rattle.map_machine.specs.Lines.{open_piece, further_lines}
-use Rattle.map_cli.specs.Kept.{IsKept}
-use Rattle.live_engine.specs.Parts.{KeepsParts}
-use Rattle.map_cli.specs.Answered.{AnswersAll}
+use Rattle.std.proofs.Common.{List, ℕ, length}
+use Rattle.map_cli.proofs.Feeding.{Feeding}
 use Rattle.map_cli.proofs.lines.feed.Given as goal
 
-abbrev pub invariant-loop-byte : goal.invariant-loop-byte
-invariant-loop-byte g l = record {
-  count : l.piece.count ≤ l.initial.piece.count + l.byte-index;
-  parts : KeepsParts (g.M.Tally.counts l.initial.tally) (g.M.Tally.counts l.tally);
-  answered : (taken : List ℕ) → IsKept (open_piece taken) l.initial.piece.kept.items l.initial.piece.count l.initial.piece.returns
-      → AnswersAll l.initial.session l.session (further_lines taken (take l.byte-index l.bytes)) (g.K.Sink.held l.initial.sink) (g.K.Sink.held l.sink) (g.K.Sink.faults l.initial.sink) (g.K.Sink.faults l.sink);
-  kept : (taken : List ℕ) → IsKept (open_piece taken) l.initial.piece.kept.items l.initial.piece.count l.initial.piece.returns
-      → IsKept (open_piece (taken ++ take l.byte-index l.bytes)) l.piece.kept.items l.piece.count l.piece.returns;
-}
+abbrev pub invariant-loop-line : goal.invariant-loop-line
+invariant-loop-line g l = Feeding l.initial.session l.session (g.M.Tally.counts l.initial.tally) (g.M.Tally.counts l.tally)
+    (g.K.Sink.held l.initial.sink) (g.K.Sink.held l.sink) (g.K.Sink.faults l.initial.sink) (g.K.Sink.faults l.sink)
+    l.initial.piece.kept.items l.piece.kept.items l.initial.piece.count l.piece.count l.initial.piece.returns l.piece.returns l.bytes l.rest
+
+abbrev pub decreases-loop-line : goal.decreases-loop-line
+decreases-loop-line g l = length l.rest

@@ -9,4 +9,4 @@ returns-in-Some-clause-loads g c =
     let K = g.K.Sink in
     let P : Option MapState → Type 0 = λ o. LoadsAs (load_on o c.args.name.now c.args.bytes.now) (K.held c.args.sink.now) (K.held c.load_next.new.sink) c.load_next.result in
     let Q : List ℕ → Type 0 = λ n. LoadsAs (next_load c.in-Some.session n c.args.bytes.now) (K.held c.args.sink.now) (K.held c.load_next.new.sink) c.load_next.result in
-    subst P (sym c.in-Some.is) (subst Q c.in-Ok.ensures c.load_next.ensures.loads)
+    subst P (sym c.in-Some.is) (subst Q c.in_ok-name.ensures c.load_next.ensures.loads)

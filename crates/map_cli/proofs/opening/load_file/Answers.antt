@@ -1,31 +1,33 @@
 use Rattle.std.proofs.Common.{List, ℕ, subst, arith}
-use Rattle.map_cli.specs.Loads.{LoadedCounts, LoadsAs, load_on}
+use Rattle.map_cli.specs.FaultCounts.{RunCounts}
+use Rattle.map_cli.specs.Loads.{LoadsAs, load_on}
 use Rattle.map_cli.specs.Pairs.{pair_read}
+use Rattle.map_cli.specs.Stops.{status_of}
 use Rattle.map_cli.proofs.LoadLemmas.{fetched, fetched_long}
 use Rattle.map_cli.proofs.opening.load_file.Goals as goal
 
 pub returns-in-Err-Long-clause-counts : goal.returns-in-Err-Long-clause-counts
-returns-in-Err-Long-clause-counts g c =
+returns-in-Err-Long-clause-counts g c source =
     let same = rw c.in-Err-Long.field-0-is at c.in-Err-Long.ensures.cause in
     let K = g.K.Sink in
-    let P : ℕ → Type 0 = λ n. LoadedCounts n (g.F.Shelf.faults c.fetch.new.self) (K.faults c.args.sink.now) (K.faults c.refuse_long.new.sink) c.refuse_long.result in
-    subst P same (c.refuse_long.ensures.counts (g.F.Shelf.faults c.fetch.new.self))
+    let P : ℕ → Type 0 = λ n. RunCounts n (g.F.Shelf.faults c.fetch.new.self) source source (K.faults c.args.sink.now) (K.faults c.refuse_long.new.sink) (status_of c.refuse_long.result) in
+    subst P same (c.refuse_long.ensures.counts (g.F.Shelf.faults c.fetch.new.self) source)
 
 pub returns-in-Err-Long-clause-loads : goal.returns-in-Err-Long-clause-loads
 returns-in-Err-Long-clause-loads g c =
     let is = rw c.in-Err-Long.field-0-is at c.in-Err-Long.ensures.bytes in
-    fetched_long (g.F.Shelf.files c.args.shelf.now) c.args.most (load_on c.args.session) (pair_read c.args.pair.now) (g.K.Sink.held c.args.sink.now) (g.K.Sink.held c.refuse_long.new.sink)
+    fetched_long (g.F.Shelf.files c.args.shelf.now) c.args.setup.limits.file (load_on c.args.session) (pair_read c.args.pair.now) (g.K.Sink.held c.args.sink.now) (g.K.Sink.held c.refuse_long.new.sink)
     c.refuse_long.result is c.refuse_long.ensures.loads
 
-pub returns-clause-counts : goal.returns-clause-counts
-returns-clause-counts g c =
+pub returns-in-Ok-clause-counts : goal.returns-in-Ok-clause-counts
+returns-in-Ok-clause-counts g c source =
     let K = g.K.Sink in
-    let P : ℕ → Type 0 = λ n. LoadedCounts n (g.F.Shelf.faults c.fetch.new.self) (K.faults c.args.sink.now) (K.faults c.load_bytes.new.sink) c.load_bytes.result in
-    subst P c.in-Ok.ensures.cause (c.load_bytes.ensures.counts (g.F.Shelf.faults c.fetch.new.self))
+    let P : ℕ → Type 0 = λ n. RunCounts n (g.F.Shelf.faults c.fetch.new.self) source source (K.faults c.args.sink.now) (K.faults c.load_bytes.new.sink) (status_of c.load_bytes.result) in
+    subst P c.in-Ok.ensures.cause (c.load_bytes.ensures.counts (g.F.Shelf.faults c.fetch.new.self) source)
 
-pub returns-clause-loads : goal.returns-clause-loads
-returns-clause-loads g c =
+pub returns-in-Ok-clause-loads : goal.returns-in-Ok-clause-loads
+returns-in-Ok-clause-loads g c =
     let K = g.K.Sink in
     let P : List ℕ → Type 0 = λ b. LoadsAs (load_on c.args.session c.args.pair.now.name.now b) (K.held c.args.sink.now) (K.held c.load_bytes.new.sink) c.load_bytes.result in
-    fetched (g.F.Shelf.files c.args.shelf.now) c.args.most (load_on c.args.session) (pair_read c.args.pair.now) c.in-Ok.bytes (K.held c.args.sink.now) (K.held c.load_bytes.new.sink) c.load_bytes.result
+    fetched (g.F.Shelf.files c.args.shelf.now) c.args.setup.limits.file (load_on c.args.session) (pair_read c.args.pair.now) c.in-Ok.bytes (K.held c.args.sink.now) (K.held c.load_bytes.new.sink) c.load_bytes.result
     c.in-Ok.ensures.bytes (omega (arith, c.in-Ok.ensures.bound, c.in-Ok.bytes.ok.0)) (subst P c.deref.ensures.value c.load_bytes.ensures.loads)
