@@ -2,7 +2,7 @@
 use Rattle.std.proofs.Common.{◌≡◌, ◌≤◌, ◌+◌, ◌++◌, ◌∷◌, ℕ, Bool, false, List, [], length, refl, sym, ap, ◌∙◌, subst, arith, Option, Result, Ok, Err}
 use Rattle.std.proofs.lemmas.List.{append-nil, append_assoc, length-append}
 use Rattle.layer_tiles.specs.Tallies.{TallyState}
-use Rattle.live_engine.specs.Parts.{KeepsParts}
+use Rattle.layer_tiles.specs.Tallies.{KeepsParts}
 use Rattle.map_machine.specs.Lines.{has_line_feed, open_piece, without_return, further_lines}
 use Rattle.map_machine.specs.States.{MapState}
 use Rattle.map_machine.proofs.LinesLemmas.{further_lines-nil}

@@ -6,7 +6,7 @@ ghost use Rattle.map_machine.specs.Text.{reply_to, state_to};
 ghost use Rattle.map_machine.specs.Lines.{open_piece, without_return, has_line_feed, further_lines, last_line};
 ghost use Rattle.map_outside.specs.Causes.{PutCounts};
 ghost use Rattle.map_outside.specs.Contents.{PutGrows};
-ghost use Rattle.live_engine.specs.Parts.{KeepsParts};
+ghost use Rattle.layer_tiles.specs.Tallies.{KeepsParts};
 ghost use Rattle.map_cli.specs.Answered.{Answered};
 ghost use Rattle.map_cli.specs.Kept.{IsKept};
 

@@ -4,7 +4,7 @@ ghost use Rattle.std.specs.List.{All};
 ghost use Rattle.map_words.specs.Names.{is_plain};
 ghost use Rattle.map_machine.specs.Loads.{Opened, ready, turned_away, first_load, next_load, long_file_reply};
 ghost use Rattle.map_machine.specs.Play.{file_text, file_opening, further_text, further_opening, pairs_text, pairs_opening};
-ghost use Rattle.live_engine.specs.Parts.{KeepsParts};
+ghost use Rattle.layer_tiles.specs.Tallies.{KeepsParts};
 ghost use Rattle.map_cli.specs.FaultCounts.{RunCounts};
 ghost use Rattle.map_cli.specs.Loads.{Loads, LoadsAs, load_on, OneOpens, AllOpen};
 ghost use Rattle.map_cli.specs.Pairs.{pairs_read};

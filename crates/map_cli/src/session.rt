@@ -1,6 +1,6 @@
 //! The session, from a source to a sink.
 ghost use Rattle.std.specs.Prelude.{◌≡◌, ◌≤◌, ◌<◌, ℕ, length, vec_len, IfOk};
-ghost use Rattle.live_engine.specs.Parts.{KeepsParts};
+ghost use Rattle.layer_tiles.specs.Tallies.{KeepsParts};
 ghost use Rattle.map_cli.specs.FaultCounts.{RunCounts};
 ghost use Rattle.map_cli.specs.Played.{Plays};
 ghost use Rattle.map_cli.specs.Stops.{status_of};

@@ -6,7 +6,7 @@ ghost use Rattle.map_machine.specs.Limits.{longest_file, too_many_bytes};
 ghost use Rattle.map_machine.specs.Play.{run_text, run_opening, goes_on};
 ghost use Rattle.map_machine.specs.Words.{run_pairs};
 ghost use Rattle.map_outside.specs.Contents.{Grows};
-ghost use Rattle.live_engine.specs.Parts.{KeepsParts};
+ghost use Rattle.layer_tiles.specs.Tallies.{KeepsParts};
 ghost use Rattle.map_cli.specs.Front.{WritesFront};
 ghost use Rattle.map_cli.specs.Pairs.{pairs_read};
 ghost use Rattle.map_cli.specs.Completeness.{ComesToEnd, ComesToLimit, IsComplete, IsTooLong};

@@ -1,5 +1,5 @@
 use Rattle.std.proofs.Common.{◌≡◌, ◌≤◌, ◌-◌}
-use Rattle.live_engine.specs.Parts.{KeepsParts}
+use Rattle.layer_tiles.specs.Tallies.{KeepsParts}
 use Rattle.map_cli.proofs.Playing.{Playing}
 use Rattle.map_cli.proofs.session.play_chunks.Given as goal
 
