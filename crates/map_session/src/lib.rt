@@ -11,4 +11,3 @@ mod session;
 
 pub use replies::Reply;
 pub use session::{Begun, Session};
-

@@ -7,4 +7,3 @@ mod evaluation;
 mod tiling;
 
 pub use evaluation::evaluate;
-
