@@ -11,7 +11,7 @@ use Rattle.map_words.specs.Names.{is_plain}
 use Rattle.map_defs.specs.Ops.{Name}
 use Rattle.map_edits.specs.Entries.{Entry, find_def, put_entry, drop_entry}
 use Rattle.map_edits.specs.Laws.{IsApart}
-use Rattle.map_edits.proofs.Among.{same_name}
+use Rattle.map_edits.proofs.Among.{same_name, bytes_eq-self}
 use Rattle.live_engine.specs.Held.{def_of, entry_of, entries_of}
 use Rattle.live_engine.specs.Engines.{IsItem, IsHeld}
 use Rattle.live_engine.specs.declared.held.Item.{Item}
@@ -29,6 +29,15 @@ find_item (e ∷ es) n = rw (bytes_eq_swaps e.0 n) (go (bytes_eq n e.0) refl (fi
         → option_map (λ (x : Entry). x.def) (cond b (Some (entry_of e)) (find (λ (x : Entry). bytes_eq x.name n) (entries_of es))) ≡ option_map (def_of n) (cond b (Some e.1) (lookup (bytes_eq n) es))
     go true h rest = ap (λ m. Some (def_of m e.1)) (sym (same_name n e.0 h))
     go false h rest = rest
+
+-- what is inserted is found
+pub insert_found : (items : List (List ℕ × Item)) (n : Name) (item : Item) → lookup (bytes_eq n) (insert_entry bytes_eq items n item) ≡ Some item
+insert_found [] n item = ap (λ b. cond b (Some item) None) (bytes_eq-self n)
+insert_found (e ∷ es) n item = go (bytes_eq n e.0) refl (insert_found es n item)
+  where
+    go : (b : Bool) → bytes_eq n e.0 ≡ b → lookup (bytes_eq n) (insert_entry bytes_eq es n item) ≡ Some item → lookup (bytes_eq n) (cond b ((e.0, item) ∷ es) (e ∷ insert_entry bytes_eq es n item)) ≡ Some item
+    go true h rest = ap (λ b. cond b (Some item) (lookup (bytes_eq n) es)) h
+    go false h rest = ap (λ b. cond b (Some e.1) (lookup (bytes_eq n) (insert_entry bytes_eq es n item))) h ∙ rest
 
 -- ---- the entries after
 

@@ -10,3 +10,4 @@ pub mod Commits
 pub mod Refusals
 pub mod Accepts
 pub mod Asked
+pub mod Stamps

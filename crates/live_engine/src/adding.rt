@@ -1,10 +1,12 @@
 //! Sources that are loaded or made new.
 
-ghost use Rattle.std.specs.Prelude.{◌≡◌, ◌<◌, true, IsTrue, None};
+ghost use Rattle.std.specs.Prelude.{◌≡◌, ◌<◌, true, IsTrue, None, IfOk};
 ghost use Rattle.indexmap.specs.IndexMap.{spare};
 ghost use Rattle.map_words.specs.Names.{is_plain};
 ghost use Rattle.map_edits.specs.Entries.{find_def};
 ghost use Rattle.map_edits.specs.Edits as edits;
+ghost use Rattle.map_nums.specs.Counts.{raised};
+ghost use Rattle.live_engine.specs.Stamps.{HasStamp, IsStampedSource};
 ghost use Rattle.live_engine.specs.Accepts.{Accepts};
 ghost use Rattle.live_engine.specs.Held.{grid_of};
 ghost use Rattle.live_engine.specs.Holdings.{entries_in, seen_in, IsKeptIn};
@@ -34,8 +36,10 @@ fn add_source<M: Tally>(
     requires plain { IsTrue (is_plain name) }
     requires size { layer.size ≡ held.old.extent }
     requires new { find_def (entries_in held.old) name ≡ None }
+    requires stamp { HasStamp (raised held.old.number 1) layer }
     ensures accepts { (edit : edits.Edit) → edits.entries_after (seen_in held.old) edit ≡ edits.add_source (entries_in held.old) name (grid_of layer) → edits.may_fault edit ≡ true
         → Accepts (seen_in held.old) (seen_in held.new) edit result }
+    ensures stamped { IfOk result (λ accepted. IsStampedSource held.new.names.entries name accepted.number) }
     ensures kept { IsKeptIn held.new }
     ensures parts { KeepsParts (M.counts tally.old) (M.counts tally.new) }
 {
@@ -67,6 +71,7 @@ pub(crate) fn load<M: Tally>(
     requires room { 0 < spare held.old.names }
     requires plain { IsTrue (is_plain name) }
     ensures accepts { Accepts (seen_in held.old) (seen_in held.new) (edits.load name (grid_of layer)) result }
+    ensures stamped { IfOk result (λ accepted. IsStampedSource held.new.names.entries name accepted.number) }
     ensures kept { IsKeptIn held.new }
     ensures parts { KeepsParts (M.counts tally.old) (M.counts tally.new) }
 {
@@ -93,6 +98,7 @@ pub(crate) fn new_layer<M: Tally>(
     requires room { 0 < spare held.old.names }
     requires plain { IsTrue (is_plain name) }
     ensures accepts { Accepts (seen_in held.old) (seen_in held.new) (edits.new_layer name cell) result }
+    ensures stamped { IfOk result (λ accepted. IsStampedSource held.new.names.entries name accepted.number) }
     ensures kept { IsKeptIn held.new }
     ensures parts { KeepsParts (M.counts tally.old) (M.counts tally.new) }
 {

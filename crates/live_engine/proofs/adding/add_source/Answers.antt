@@ -1,4 +1,7 @@
-use Rattle.std.proofs.Common.{◌<◌, bytes_eq, refl, sym, subst, ◌∙◌}
+use Rattle.std.proofs.Common.{◌≡◌, ◌<◌, bytes_eq, refl, sym, ap, subst, ◌∙◌}
+use Rattle.std.specs.Map.{lookup}
+use Rattle.map_nums.specs.Counts.{raised}
+use Rattle.live_engine.specs.Stamps.{HasStamp}
 use Rattle.indexmap.specs.IndexMap.{insert_entry}
 use Rattle.map_edits.specs.Entries.{source, put_entry}
 use Rattle.map_edits.specs.Edits as edits
@@ -6,7 +9,7 @@ use Rattle.live_engine.specs.Accepts.{Refuses}
 use Rattle.live_engine.specs.Held.{grid_of}
 use Rattle.live_engine.specs.Holdings.{seen_in, entries_in}
 use Rattle.live_engine.specs.declared.held.Item.TheVariants.{Source}
-use Rattle.live_engine.proofs.Items.{entries_insert, held_insert}
+use Rattle.live_engine.proofs.Items.{entries_insert, held_insert, insert_found}
 use Rattle.live_engine.proofs.Lawful.{lawful_add}
 use Rattle.live_engine.proofs.Accepting.{accept_err, halted}
 use Rattle.live_engine.proofs.Editing.{accepts_after, kept_after, add_full, add_room, group_is_new, graph_is_small, added_groups}
@@ -53,3 +56,13 @@ returns-in-Err-clause-accepts g c = λ edit after may.
     subst (Refuses (seen_in old) (seen_in old) edit) (sym c.refused.ensures)
     (halted (seen_in old) edit (put_entry (entries_in old) c.args.name (source (grid_of c.args.layer)))
     (after ∙ add_room (entries_in old) c.args.name (grid_of c.args.layer) c.sources.result c.sources.ensures c.if-sources-ge-MOST_SOURCES.false) (seen_in old) c.in-Err.halt may c.in-Err.ensures.values refl)
+
+pub returns-in-Ok-clause-stamped : goal.returns-in-Ok-clause-stamped
+returns-in-Ok-clause-stamped g c =
+    let placed = c.place.ensures in
+    let stamp : raised c.args.held.now.number 1 ≡ c.place.result.number = sym placed.number_rises ∙ sym placed.told in
+    record {
+      layer = c.args.layer;
+      is = ap (lookup (bytes_eq c.args.name)) placed.items_are ∙ insert_found c.args.held.now.names.entries c.args.name (Source c.args.layer);
+      stamped = subst (λ k. HasStamp k c.args.layer) stamp c.requires.stamp;
+    }
