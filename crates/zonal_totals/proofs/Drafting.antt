@@ -13,7 +13,8 @@ use Rattle.layer_tiles.proofs.Places.{placed}
 use Rattle.zonal_totals.specs.declared.pairs.Pair.{Pair}
 use Rattle.zonal_totals.specs.Sums.{sum_to, shift, cell_of, place_of}
 use Rattle.zonal_totals.specs.Books.{tile_number}
-use Rattle.zonal_totals.specs.Drafts.{IsSteady, value_shift, tile_shift}
+use Rattle.zonal_totals.specs.Drafts.{value_shift, tile_shift}
+use Rattle.zonal_totals.proofs.Steady.{IsSteady}
 use Rattle.zonal_totals.proofs.Sums.{sum_same, sum_zero, tile_cell, place_tile, same_shift}
 
 few : (n d : ℕ) → n ≤ 4096 → (n + 31) / 32 ≤ 128

@@ -6,6 +6,7 @@ pub mod Worths
 pub mod Bags
 pub mod Zones
 pub mod Sums
+pub mod Steady
 pub mod Gathering
 pub mod Drafting
 pub mod Revising
@@ -13,6 +14,8 @@ pub mod Looking
 pub mod Skipping
 pub mod Zoning
 pub mod Tiling
-pub mod Steady
-pub mod Chunks
 pub mod Unlisted
+pub mod Sectioning
+pub mod Cutting
+pub mod Renewing
+pub mod Turning

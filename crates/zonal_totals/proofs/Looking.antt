@@ -1,12 +1,14 @@
 -- Which tiles the patches hold, and how often these are looked at.
-use Rattle.std.proofs.Common.{◌≡◌, inl, inr, ℕ, zero, suc, ◌+◌, ◌*◌, ◌<◌, ◌≤◌, Bool, true, false, cond, ◌||◌, ◌==◌, List, [], ◌∷◌, Contains, refl, sym, ap, arith, pos}
-use Rattle.std.specs.Prelude.{count_by}
+use Rattle.std.proofs.Common.{◌≡◌, inl, inr, ℕ, zero, suc, ◌+◌, ◌*◌, ◌<◌, ◌≤◌, Bool, true, false, cond, ◌||◌, ◌==◌, List, [], ◌∷◌, Option, Some, None, Contains, refl, sym, ap, arith, pos}
+use Rattle.std.specs.Prelude.{nat_lt, IfSome, IfNone, count_by}
 use Rattle.std.specs.List.{list_any, range_with_len}
 use Rattle.std.proofs.lemmas.Int.{ints}
 use Rattle.std.proofs.lemmas.Bool.{cases_lt}
 use Rattle.std.proofs.lemmas.Bool.Decides.{nat_tests}
 use Rattle.layer_tiles.specs.Tiles.{tiles_in}
 use Rattle.layer_tiles.specs.Changes.{ChangeState}
+use Rattle.layer_tiles.specs.ChangeFacts.{IsChange, IsNext}
+use Rattle.zonal_totals.specs.Drafts.{IsNextHeld, least_of}
 use Rattle.zonal_totals.specs.Looks.{is_held, tiles_held}
 use Rattle.zonal_totals.proofs.Revising.{count_range, same_pos}
 
@@ -57,6 +59,47 @@ module _ (values zones : ChangeState) (t : ℕ) where
 
   pub not_zones : is_held values zones t ≡ false → Contains zones.touched t → ⊥
   not_zones e c = let h = held_zones c in cc
+
+-- ---- the next one
+
+lt_is : (a b : ℕ) → nat_lt a b ≡ true → a < b
+lt_is a b h = grind (arith, nat_tests)
+
+le_is : (a b : ℕ) → nat_lt a b ≡ false → b ≤ a
+le_is a b h = grind (arith, nat_tests)
+
+module _ (values zones : ChangeState) (cv : IsChange values) (cz : IsChange zones) (e : values.size ≡ zones.size) (n : ℕ) where
+  abbrev Next : ChangeState → ℕ → Type 0
+  Next c t = IsNext c.touched n t
+
+  abbrev NoNext : ChangeState → Type 0
+  NoNext c = (t : ℕ) → Contains c.touched t → t < n
+
+  value_first : (a : ℕ) → Next values a → ((t : ℕ) → Contains zones.touched t → n ≤ t → a ≤ t) → IsNextHeld values zones n (Some a)
+  value_first a x f = (
+    x.not_below,
+    omega (arith, cv.within a x.held, ap tiles_in e),
+    held_values values zones a x.held,
+    λ t h l. free_tile values zones t (λ c. omega (arith, x.least t c h, l)) (λ c. omega (arith, f t c h, l)),
+  )
+
+  zone_first : (b : ℕ) → Next zones b → ((t : ℕ) → Contains values.touched t → n ≤ t → b ≤ t) → IsNextHeld values zones n (Some b)
+  zone_first b y f = (
+    y.not_below,
+    cz.within b y.held,
+    held_zones values zones b y.held,
+    λ t h l. free_tile values zones t (λ c. omega (arith, f t c h, l)) (λ c. omega (arith, y.least t c h, l)),
+  )
+
+  first_by : (a b : ℕ) (c : Bool) → nat_lt b a ≡ c → Next values a → Next zones b → IsNextHeld values zones n (cond c (Some b) (Some a))
+  first_by a b true q x y = zone_first b y (λ t c h. omega (arith, x.least t c h, lt_is b a q))
+  first_by a b false q x y = value_first a x (λ t c h. omega (arith, y.least t c h, le_is b a q))
+
+  pub next_held : (a b : Option ℕ) → IfSome a (Next values) → IfNone a (NoNext values) → IfSome b (Next zones) → IfNone b (NoNext zones) → IsNextHeld values zones n (least_of a b)
+  next_held None None x f y g = λ t h l. free_tile values zones t (λ c. omega (arith, f t c, h)) (λ c. omega (arith, g t c, h))
+  next_held None (Some b) x f y g = zone_first b y (λ t c h. absurd (omega (arith, f t c, h)))
+  next_held (Some a) None x f y g = value_first a x (λ t c h. absurd (omega (arith, g t c, h)))
+  next_held (Some a) (Some b) x f y g = first_by a b (nat_lt b a) refl x y
 
 -- ---- looks
 

@@ -5,7 +5,8 @@ use Rattle.layer_tiles.specs.Tiles.{tiles_in, tile_size}
 use Rattle.layer_tiles.specs.Changes.{ChangeState}
 use Rattle.zonal_totals.specs.declared.pairs.Pair.{Pair}
 use Rattle.zonal_totals.specs.Sums.{sum_to, place_of}
-use Rattle.zonal_totals.specs.Drafts.{IsSteady, AreFree, value_shift, tile_shift}
+use Rattle.zonal_totals.specs.Drafts.{AreFree, value_shift, tile_shift}
+use Rattle.zonal_totals.proofs.Steady.{IsSteady}
 use Rattle.zonal_totals.proofs.Sums.{sum_gap}
 use Rattle.zonal_totals.proofs.Drafting.{still_values, still_zones}
 use Rattle.zonal_totals.proofs.Looking.{not_values, not_zones}

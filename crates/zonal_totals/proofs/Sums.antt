@@ -126,6 +126,17 @@ module _ (s : Size) (size : IsSize s) where
   row_in : (t k : ℕ) → k < tile_size s t → (k / tile_width s t < tile_height s t) × (k % tile_width s t < tile_width s t)
   row_in t k l = let w = width_some (tile_height s t) (tile_width s t) k l in (div_below k (tile_width s t) (tile_height s t) w l, mod_below k (tile_width s t) w)
 
+  pub place_within : (i : ℕ) → i < cells_in s → place_in s i < tile_size s (tile_of s i)
+  place_within i h = let b = back s i size h in omega (arith, place_in_is s i, mul-add-lt (i / s.columns % 32) (tile_width s (tile_of s i)) (i % s.columns % 32) (tile_height s (tile_of s i)) b.row b.column)
+
+  pub place_back : (i : ℕ) → i < cells_in s → place_of s (tile_of s i) (place_in s i) ≡ i
+  place_back i h =
+      let b = back s i size h in
+      let w = tile_width s (tile_of s i) in
+      let q = div-mul-add (i / s.columns % 32) w (i % s.columns % 32) b.column in
+      let m = mod-mul-add (i / s.columns % 32) w (i % s.columns % 32) b.column in
+      rw (place_in_is s i, q, m) b.place
+
   pub sum_tiles : (f : ℕ → ℤ) → sum_to (λ t. sum_to (λ k. f (place_of s t k)) (tile_size s t)) (tiles_in s) ≡ sum_to f (cells_in s)
   sum_tiles f =
       sum_parts (cells_in s) (tiles_in s) (tile_size s) (place_of s) (tile_of s) (place_in s)
@@ -133,12 +144,8 @@ module _ (s : Size) (size : IsSize s) where
       (λ t k h l. let r = row_in t k l in (here s t (k / tile_width s t) (k % tile_width s t) size h r.0 r.1).tile)
       (λ t k h l. let r = row_in t k l in (here s t (k / tile_width s t) (k % tile_width s t) size h r.0 r.1).place ∙ div-add-mod' k (tile_width s t))
       (λ i h. (back s i size h).tile)
-      (λ i h. let b = back s i size h in omega (arith, place_in_is s i, mul-add-lt (i / s.columns % 32) (tile_width s (tile_of s i)) (i % s.columns % 32) (tile_height s (tile_of s i)) b.row b.column))
-      (λ i h. let b = back s i size h in
-      let w = tile_width s (tile_of s i) in
-      let q = div-mul-add (i / s.columns % 32) w (i % s.columns % 32) b.column in
-      let m = mod-mul-add (i / s.columns % 32) w (i % s.columns % 32) b.column in
-      rw (place_in_is s i, q, m) b.place)
+      place_within
+      place_back
       f
 
   -- a cell of a tile

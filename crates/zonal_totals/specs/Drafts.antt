@@ -1,16 +1,12 @@
 -- The changes of an edit, place by place.
-use Rattle.std.specs.Prelude.{◌≡◌, ℕ, ◌<◌, ◌≤◌, Bool, true, false, Contains, ℤ, Option, Some, None}
-use Rattle.map_nums.specs.Grids.{cells_in, cell_at}
-use Rattle.layer_tiles.specs.Tiles.{tile_of, tiles_in}
+use Rattle.std.specs.Prelude.{◌≡◌, ℕ, ◌<◌, ◌≤◌, true, false, nat_lt, ℤ, Option, Some, None, if◌then◌else◌}
+use Rattle.map_nums.specs.Grids.{cell_at}
+use Rattle.layer_tiles.specs.Tiles.{tiles_in}
 use Rattle.layer_tiles.specs.Changes.{ChangeState, cells_before}
 use Rattle.zonal_totals.specs.declared.pairs.Pair.{Pair}
 use Rattle.zonal_totals.specs.Sums.{shift}
 use Rattle.zonal_totals.specs.Books.{tile_number}
 use Rattle.zonal_totals.specs.Looks.{is_held}
-
--- the tiles that no patch holds stay as they are
-abbrev pub IsSteady : ChangeState → Type 0
-IsSteady c = (i : ℕ) → i < cells_in c.size → (¬ Contains c.touched (tile_of c.size i)) → cell_at (cells_before c) i ≡ cell_at c.cells i
 
 -- by how much place i changes the count of a zone and a value
 abbrev pub value_shift : ChangeState → ChangeState → Pair → ℕ → ℤ
@@ -28,6 +24,12 @@ AreFree values zones n m = (t : ℕ) → n ≤ t → t < m → is_held values zo
 abbrev pub IsNextHeld : ChangeState → ChangeState → ℕ → Option ℕ → Type 0
 IsNextHeld values zones n None = AreFree values zones n (tiles_in zones.size)
 IsNextHeld values zones n (Some t) = (n ≤ t) × (t < tiles_in zones.size) × (is_held values zones t ≡ true) × AreFree values zones n t
+
+-- the lesser of two numbers that are there
+abbrev pub least_of : Option ℕ → Option ℕ → Option ℕ
+least_of None n = n
+least_of (Some m) None = Some m
+least_of (Some m) (Some n) = if nat_lt n m then Some n else Some m
 
 -- as if nothing had been before
 abbrev pub unborn : ChangeState → ChangeState

@@ -8,6 +8,7 @@ pub mod Laws
 pub mod Steps
 pub mod Settled
 pub mod Merges
+pub mod Sections
 pub mod Numbers
 pub mod Sums
 pub mod Drafts

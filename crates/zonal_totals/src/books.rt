@@ -8,7 +8,6 @@ ghost use Rattle.layer_tiles.specs.Tiles.{tiles_in};
 ghost use Rattle.layer_tiles.specs.Tallies.{RisesBy};
 ghost use Rattle.layer_tiles.specs.Changes.{cells_before};
 ghost use Rattle.zonal_totals.specs.Books.{IsBookOf};
-ghost use Rattle.zonal_totals.specs.Drafts.{IsSteady};
 ghost use Rattle.zonal_totals.specs.Looks.{tiles_held};
 ghost use Rattle.zonal_totals.specs.ChangedZones.{AreChangedZones};
 ghost use Rattle.zonal_totals.specs.TileKeys.{tile_at};
@@ -103,8 +102,6 @@ impl Book {
         requires zones_size { zones.now.size ≡ self.now.size }
         requires values_before { IsSome values.now.before }
         requires zones_before { IsSome zones.now.before }
-        requires values_steady { IsSteady values.now }
-        requires zones_steady { IsSteady zones.now }
         requires right { IsBookOf self.now (cells_before values.now) (cells_before zones.now) }
         ensures book { IfOk result (λ patch. IsBookOf patch.after values.now.cells zones.now.cells) }
         ensures zones { IfOk result (λ patch. AreChangedZones patch.zones zones.now.size (cells_before values.now) (cells_before zones.now) values.now.cells zones.now.cells) }

@@ -3,7 +3,7 @@ ghost use Rattle.std.specs.Prelude.{◌≡◌, ℕ, ◌+◌, ◌*◌, ◌^◌, �
 ghost use Rattle.map_nums.specs.Grids.{cells_in};
 ghost use Rattle.layer_tiles.specs.Tiles.{tile_size, tiles_in};
 ghost use Rattle.layer_tiles.specs.Tallies.{RisesBy};
-ghost use Rattle.zonal_totals.specs.Drafts.{IsSteady, IsNextHeld, value_shift, tile_shift, unborn};
+ghost use Rattle.zonal_totals.specs.Drafts.{IsNextHeld, least_of, value_shift, tile_shift, unborn};
 ghost use Rattle.zonal_totals.specs.Looks.{tiles_held};
 ghost use Rattle.zonal_totals.specs.declared.pairs.Pair.{Pair};
 ghost use Rattle.zonal_totals.specs.Steps.{net_in, weight};
@@ -85,20 +85,25 @@ fn compare_tile<M: Tally>(
     )
 }
 
+/// The lesser of two numbers that are there.
+fn least(one: Option<u32>, other: Option<u32>) -> Option<u32>
+    ensures { result ≡ least_of one other }
+{
+    match (one, other) {
+        (Some(m), Some(n)) => { if n < m { Some(n) } else { Some(m) } }
+        (Some(m), None) => Some(m),
+        (None, n) => n,
+    }
+}
+
 /// The first tile from a number on that either patch holds.
 fn next_tile(values: &Change<'_>, zones: &Change<'_>, from: u32) -> Option<u32>
     requires { values.now.size ≡ zones.now.size }
     ensures { IsNextHeld values.now zones.now from result }
 {
-    for tile in from..zones.extent().tiles() {
-        if values.touched(tile) {
-            return Some(tile);
-        }
-        if zones.touched(tile) {
-            return Some(tile);
-        }
-    }
-    None
+    let _values_within = values.extent();
+    let _zones_within = zones.extent();
+    least(values.next_touched(from), zones.next_touched(from))
 }
 
 /// The changes of an edit, from the tiles that either patch holds, with four looks at each.
@@ -111,15 +116,14 @@ pub(crate) fn drafted<M: Tally>(
     requires size { values.now.size ≡ zones.now.size }
     requires values_before { IsSome values.now.before }
     requires zones_before { IsSome zones.now.before }
-    requires values_steady { IsSteady values.now }
-    requires zones_steady { IsSteady zones.now }
     ensures values { IfOk result (λ d. (p : Pair) → net_in d.values.items p ≡ sum_to (value_shift values.now zones.now p) (cells_in zones.now.size)) }
     ensures tiles { IfOk result (λ d. (p : Pair) → net_in d.tiles.items p ≡ sum_to (tile_shift zones.now p) (cells_in zones.now.size)) }
     ensures value_weight { IfOk result (λ d. weight d.values.items < 2 ^ 31) }
     ensures tile_weight { IfOk result (λ d. weight d.tiles.items < 2 ^ 31) }
     ensures looks { RisesBy (4 * tiles_held values.now zones.now) 0 (M.counts tally.old) (M.counts tally.new) }
 {
-    let _extent = zones.extent();
+    let _values_stay = values.extent();
+    let _zones_stay = zones.extent();
     let mut draft = Draft {
         values: Vec::new(alloc),
         tiles: Vec::new(alloc),

@@ -12,6 +12,7 @@ mod merges;
 mod pairs;
 mod registers;
 mod rows;
+mod sections;
 mod stats;
 mod steps;
 mod zone_lists;

@@ -5,30 +5,29 @@ ghost use Rattle.zonal_totals.specs.Numbers.{part_of, KeysClimb};
 ghost use Rattle.zonal_totals.specs.Steps.{StepsClimb};
 ghost use Rattle.zonal_totals.specs.Merges.{Fits, IsMerged};
 
-use crate::entries::{Entry, zone_part};
-use crate::merges::merged;
+use crate::entries::Entry;
+use crate::sections::{Section, renewed, shared, zone_of};
 use crate::steps::Step;
 use map_nums::{NoMemory, Value};
 use std::alloc::Global;
 use std::marker::Model;
 
-/// Counts of pairs, in ascending order.
+/// Counts of pairs, in ascending order, in sections of whole zones. A register after steps shares the sections that have none.
 #[derive(Drop)]
 pub(crate) struct Register {
-    entries: Vec<Entry>,
+    sections: Vec<Section>,
 }
 
 impl Model for Register {
     ghost use Rattle.std.specs.Prelude.{List};
     ghost use Rattle.zonal_totals.specs.declared.entries.Entry.{Entry};
-    ghost use Rattle.zonal_totals.specs.Pairs.{floor};
-    ghost use Rattle.zonal_totals.specs.Entries.{Climbs};
+    ghost use Rattle.zonal_totals.specs.Sections.{joined, lowest, AreSections};
 
     ghost Value = { List Entry };
 
-    ghost view = { λ r. r.entries.items };
+    ghost view = { λ r. joined r.sections.items };
 
-    ghost invariant = { λ r. Climbs floor r.entries.items };
+    ghost invariant = { λ r. AreSections lowest r.sections.items };
 }
 
 impl Register {
@@ -37,7 +36,7 @@ impl Register {
         ensures { result ≡ [] }
     {
         Register {
-            entries: Vec::new(alloc),
+            sections: Vec::new(alloc),
         }
     }
 
@@ -48,7 +47,7 @@ impl Register {
         ensures { IfOk result (λ after. IsMerged self.now steps.now after) }
     {
         Ok(Register {
-            entries: merged(alloc, &self.entries, steps)?,
+            sections: renewed(alloc, &self.sections, steps)?,
         })
     }
 
@@ -57,14 +56,15 @@ impl Register {
         ensures part { result.now ≡ part_of zone self.now }
         ensures order { KeysClimb floor result.now }
     {
-        zone_part(&self.entries, zone)
+        zone_of(&self.sections, zone)
     }
 
+    /// The same register, with the same memory.
     pub(crate) fn copy(&self, alloc: Global) -> Result<Register, NoMemory>
         ensures { IfOk result (λ copy. copy ≡ self.now) }
     {
         Ok(Register {
-            entries: Vec::from_slice(alloc, &self.entries)?,
+            sections: shared(alloc, &self.sections)?,
         })
     }
 }

@@ -1,10 +1,9 @@
 //! The changes of the rows of a tile.
 ghost use Rattle.std.specs.Prelude.{◌≡◌, ℕ, ◌+◌, ◌*◌, ◌^◌, ◌<◌, ◌≤◌, ◌+ℤ◌, ◌-ℤ◌, Some, None, length, OnOk, IsTrue};
 ghost use Rattle.map_nums.specs.Grids.{cell_at};
-ghost use Rattle.layer_tiles.specs.ChangeBodies.{IsRowOfOne};
 ghost use Rattle.zonal_totals.specs.declared.pairs.Pair.{Pair};
 ghost use Rattle.zonal_totals.specs.Steps.{net_in, weight};
-ghost use Rattle.zonal_totals.specs.Sums.{sum_to, pair_at, held, shift, cell_of, HasShape};
+ghost use Rattle.zonal_totals.specs.Sums.{sum_to, pair_at, held, shift, cell_of, HasShape, IsOfOneCell};
 
 use crate::pairs::Pair;
 use crate::steps::{Step, put};
@@ -178,7 +177,7 @@ pub(crate) fn compare_zones(
     requires zones_before { HasShape height width zones_before.now }
     requires zones { HasShape height width (Some zones.now) }
     requires nulls { (c : ℕ) → cell_at nulls.now c ≡ None }
-    requires keys { IsRowOfOne keys.now }
+    requires keys { IsOfOneCell keys.now }
     requires most { width ≤ 32 }
     requires room { weight steps.old.items + 2 * (height * width) < 2 ^ 31 }
     ensures net { OnOk result ((p : Pair) → net_in steps.new.items p ≡ net_in steps.old.items p
