@@ -1,0 +1,16 @@
+pub mod Pairs
+pub mod Entries
+pub mod Books
+pub mod ChangedZones
+pub mod Tilings
+pub mod Looks
+pub mod Laws
+pub mod Steps
+pub mod Settled
+pub mod Merges
+pub mod Sections
+pub mod Numbers
+pub mod Sums
+pub mod Drafts
+pub mod ZoneLists
+pub mod TileKeys
