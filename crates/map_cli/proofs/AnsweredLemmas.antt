@@ -1,9 +1,9 @@
 -- How far a run has come, line by line.
-use Rattle.std.proofs.Common.{get_or, ◌≡◌, ◌<◌, ◌+◌, ℕ, true, false, List, [], ◌∷◌, ◌++◌, ◌||◌, length, take, drop, refl, sym, ap, ◌∙◌, subst, Option, Result, Ok, Err}
+use Rattle.std.proofs.Common.{◌≡◌, ℕ, true, false, List, [], ◌∷◌, ◌++◌, ◌||◌, take, drop, refl, sym, ap, ◌∙◌, subst, Option, Result, Ok, Err}
 use Rattle.std.specs.List.{list_any}
 use Rattle.map_outside.specs.Contents.{Grows}
 use Rattle.map_outside.proofs.Tellings.{grows_nil, grows_then}
-use Rattle.std.proofs.lemmas.List.{append_assoc, take-append-drop, take_more}
+use Rattle.std.proofs.lemmas.List.{append_assoc, take-append-drop}
 use Rattle.std.proofs.lemmas.List.Folds.{list_any-append}
 use Rattle.map_nums.specs.Counts.{Rose}
 use Rattle.map_machine.specs.States.{MapState}

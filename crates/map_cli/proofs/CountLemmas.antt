@@ -1,5 +1,5 @@
 -- Calls that leave the counts of faults, and then one that may fail.
-use Rattle.std.proofs.Common.{◌≡◌, ℕ, subst}
+use Rattle.std.proofs.Common.{ℕ, subst}
 use Rattle.map_cli.specs.FaultCounts.{RunCounts}
 use Rattle.map_cli.specs.declared.status.Status.{Status}
 use Rattle.map_cli.specs.declared.status.Status.TheVariants.{Done}

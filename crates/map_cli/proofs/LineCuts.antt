@@ -1,5 +1,5 @@
 -- Where the first line feed of some bytes stands, and the lines that such bytes end.
-use Rattle.std.proofs.Common.{◌≡◌, ◌<◌, ◌+◌, ℕ, suc, true, false, List, [], ◌∷◌, ◌++◌, ◌==◌, ◌||◌, cond, length, take, drop, get_or, refl, sym, ap, ◌∙◌, arith, Option, Some, None}
+use Rattle.std.proofs.Common.{◌≡◌, ◌<◌, ◌+◌, ℕ, suc, true, false, List, [], ◌∷◌, ◌++◌, ◌==◌, ◌||◌, cond, length, take, drop, get_or, refl, sym, ap, ◌∙◌, arith, Some, None}
 use Rattle.std.specs.List.{position, position_from}
 use Rattle.std.proofs.lemmas.Bool.{eqb-true}
 use Rattle.std.proofs.lemmas.Iterator.Adapters.{position_from-zero}

@@ -20,7 +20,7 @@ use Rattle.map_outside.proofs.Tellings.{grows_nil, grows_then}
 use Rattle.map_cli.specs.Loads.{Loads, LoadsAs, LeavesOf, OneOpens, AllOpen, StopsLoad, opened_reply}
 use Rattle.map_cli.specs.declared.words.Pair.{Pair as Read}
 use Rattle.map_cli.specs.declared.stop.Stop.{Stop}
-use Rattle.map_cli.specs.declared.stop.Stop.TheVariants.{Load, ShelfFault, SourceFault, SinkFault, NoMemory, TooLong}
+use Rattle.map_cli.specs.declared.stop.Stop.TheVariants.{Load, ShelfFault, SinkFault, NoMemory}
 
 -- the text of a file and of those after it
 abbrev pub file_then_text : ℕ → (Name → List ℕ → Opened) → Pair → List Pair → Files → (MapState → List ℕ) → List ℕ

@@ -227,6 +227,7 @@ runs_nothing most limit old = record {
     nothing_front None left held = tt
     nothing_front (Some f) None held = tt
     nothing_front (Some f) (Some session) held = record { front = []; rest = []; whole = refl; wrote = grows_nil held }
+
     nothing_whole : (files : Option Files) (left held : Option (List ℕ)) → WhereTold files left (λ f session. Grows held held [])
     nothing_whole None left held = tt
     nothing_whole (Some f) None held = tt

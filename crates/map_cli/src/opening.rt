@@ -71,12 +71,7 @@ fn refuse<K: Sink>(sink: &mut K, reply: &[u8]) -> Result<Session, Stop>
 }
 
 // Refuses a file that is too long.
-fn refuse_long<K: Sink>(
-    alloc: Global,
-    name: &str,
-    most: u64,
-    sink: &mut K,
-) -> Result<Session, Stop>
+fn refuse_long<K: Sink>(alloc: Global, name: &str, most: u64, sink: &mut K) -> Result<Session, Stop>
     ensures counts { (shelf source : ℕ) → RunCounts shelf shelf source source (K.faults sink.old) (K.faults sink.new) (status_of result) }
     ensures loads { LoadsAs (turned_away (long_file_reply most name.now)) (K.held sink.old) (K.held sink.new) result }
 {

@@ -75,14 +75,7 @@ fn play_words(
     let mut source = MemorySource::new(session.to_vec(alloc)?, 12, vec![in alloc; fails.source]?);
     let mut sink = MemorySink::new(alloc, vec![in alloc; fails.sink]?);
     let mut tally = Counts::new();
-    let status = run(
-        alloc,
-        words,
-        &mut shelf,
-        &mut source,
-        &mut sink,
-        &mut tally,
-    );
+    let status = run(alloc, words, &mut shelf, &mut source, &mut sink, &mut tally);
     Ok((status.code(), sink.bytes().to_vec(alloc)?))
 }
 
@@ -277,7 +270,11 @@ fn loads_up_to_thirty_two_pairs(rt: HostRuntime) -> Result<(), Fail> {
         }
         let came = play_words(alloc, &words, &[("a", SEVEN)], b"", NONE)?;
         assert_eq!(rt; came.0, code, "{pairs}");
-        assert_eq!(rt; came.1.iter().filter(|byte| **byte == b'\n').count(), lines, "{pairs}");
+        assert_eq!(rt;
+            came.1.iter().filter(|byte| **byte == b'\n').count(),
+            lines,
+            "{pairs}"
+        );
     }
     Ok(())
 }

@@ -39,7 +39,13 @@ fn bytes_of(alloc: Global, count: usize) -> Result<Vec<u8>, AllocError> {
 #[test]
 fn takes_all_of_a_reader(rt: HostRuntime) -> Result<(), Fail> {
     let alloc = rt.alloc();
-    for (count, step) in [(0, 1), (1, 1), (4097, 1000), (65_536, 65_536), (70_000, 65_536)] {
+    for (count, step) in [
+        (0, 1),
+        (1, 1),
+        (4097, 1000),
+        (65_536, 65_536),
+        (70_000, 65_536),
+    ] {
         let bytes = bytes_of(alloc, count)?;
         for limit in [count as u64, count as u64 + 1] {
             let mut source = ReadSource::new(Pieces {

@@ -1,4 +1,4 @@
-use Rattle.std.proofs.Common.{List, ℕ, length}
+use Rattle.std.proofs.Common.{length}
 use Rattle.map_cli.proofs.Feeding.{Feeding}
 use Rattle.map_cli.proofs.lines.feed.Given as goal
 

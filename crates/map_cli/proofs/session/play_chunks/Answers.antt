@@ -10,7 +10,7 @@ use Rattle.map_cli.specs.declared.lines.Fed.TheVariants.{More, Quit}
 use Rattle.map_cli.specs.declared.stop.Stop.{Stop}
 use Rattle.map_cli.proofs.AnsweredLemmas.{answered_then}
 use Rattle.map_cli.proofs.PartsLemmas.{keeps_then}
-use Rattle.map_cli.proofs.Playing.{plays_stopped, plays_finished, moved_nothing, goes_on, chunk_then, counts_for, room_some, room_within, short_still, still_within}
+use Rattle.map_cli.proofs.Playing.{plays_stopped, plays_finished, moved_nothing, goes_on, chunk_then, room_some, room_within, short_still, still_within}
 use Rattle.map_cli.proofs.session.play_chunks.Goals as goal
 
 pub returns-in-Ok-eq0-clause-plays : goal.returns-in-Ok-eq0-clause-plays

@@ -12,11 +12,11 @@ returns-in_err-session-clause-runs g c =
 
 pub returns-clause-runs : goal.returns-clause-runs
 returns-clause-runs g c = runs_played c.args.setup.limits.file c.args.setup.limits.session (pairs_read c.args.pairs.now) _ (record {
-      files = g.F.Shelf.files c.load_files.new.shelf;
-      left = g.S.Source.left c.args.source.now;
-      held = g.K.Sink.held c.load_files.new.sink;
-      shelf = g.F.Shelf.faults c.load_files.new.shelf;
-      source = g.S.Source.faults c.args.source.now;
-      sink = g.K.Sink.faults c.load_files.new.sink;
-    }) _ c.in_ok-session.session (status_of c.play_session.result) refl c.in_ok-session.ensures.loads (c.in_ok-session.ensures.counts (g.S.Source.faults c.args.source.now))
+  files = g.F.Shelf.files c.load_files.new.shelf;
+  left = g.S.Source.left c.args.source.now;
+  held = g.K.Sink.held c.load_files.new.sink;
+  shelf = g.F.Shelf.faults c.load_files.new.shelf;
+  source = g.S.Source.faults c.args.source.now;
+  sink = g.K.Sink.faults c.load_files.new.sink;
+}) _ c.in_ok-session.session (status_of c.play_session.result) refl c.in_ok-session.ensures.loads (c.in_ok-session.ensures.counts (g.S.Source.faults c.args.source.now))
     c.play_session.ensures.plays (c.play_session.ensures.counts (g.F.Shelf.faults c.load_files.new.shelf))

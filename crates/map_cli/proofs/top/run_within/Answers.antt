@@ -4,7 +4,6 @@ use Rattle.std.specs.List.{All}
 use Rattle.map_words.specs.Names.{is_plain}
 use Rattle.map_machine.specs.Words.{Pair, run_pairs}
 use Rattle.map_cli.specs.Pairs.{pairs_read}
-use Rattle.map_cli.specs.RunsTo.{RunsTo}
 use Rattle.map_cli.specs.declared.words.Pair.{Pair as Read}
 use Rattle.map_cli.proofs.RunLemmas.{runs_nothing}
 use Rattle.map_cli.proofs.WordLemmas.{all_read}
