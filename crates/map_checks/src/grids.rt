@@ -1,55 +1,13 @@
 //! Texts that are read and printed.
-use crate::{GridRefusal, print_grid, read_grid};
-use layer_tiles::Tally;
+use grid_text::{GridRefusal, print_grid, read_grid};
+use map_outside::Counts;
 use std::alloc::Global;
 use std::test::Fail;
-
-/// A tally that can be read.
-#[derive(Drop)]
-struct Count {
-    looks: u64,
-    picks: u64,
-    parts_out: u64,
-    is_part: bool,
-}
-
-impl Tally for Count {
-    ghost counts = { λ c. record { looks = c.looks; picks = c.picks; parts_out = c.parts_out; is_part = c.is_part } };
-
-    fn look(&mut self) {
-        self.looks = self.looks.saturating_add(1);
-    }
-
-    fn pick(&mut self) {
-        self.picks = self.picks.saturating_add(1);
-    }
-
-    fn fork(&mut self) -> Count {
-        self.parts_out += 1;
-        Count {
-            looks: 0,
-            picks: 0,
-            parts_out: 0,
-            is_part: true,
-        }
-    }
-
-    fn absorb(&mut self, part: Count) {
-        self.looks = self.looks.saturating_add(part.looks);
-        self.picks = self.picks.saturating_add(part.picks);
-        self.parts_out -= 1;
-    }
-}
 
 /// What is printed of the grid that a text holds.
 fn reprinted(alloc: Global, text: &[u8]) -> Result<Vec<u8>, Fail> {
     let grid = read_grid(alloc, text, 1)?;
-    let mut tally = Count {
-        looks: 0,
-        picks: 0,
-        parts_out: 0,
-        is_part: false,
-    };
+    let mut tally = Counts::new();
     Ok(print_grid(alloc, &grid.header, &grid.layer, &mut tally)?)
 }
 

@@ -1,0 +1,129 @@
+//! Each form of what a run reads from and writes to, where all goes well and where it fails.
+use map_outside::{
+    Failed, FetchFault, FileShelf, MemoryShelf, MemorySink, MemorySource, PutFault, ReadSource,
+    Shelf, Sink, Source, WriteSink,
+};
+use std::alloc::{AllocError, Global};
+use std::fs;
+use std::test::Fail;
+
+fn named(alloc: Global, name: &str, bytes: &[u8]) -> Result<(String, Vec<u8>), AllocError> {
+    Ok((String::from_str(alloc, name)?, bytes.to_vec(alloc)?))
+}
+
+#[test]
+fn memory_shelf(rt: HostRuntime) -> Result<(), Fail> {
+    let alloc = rt.alloc();
+    let files = vec![in alloc;
+        named(alloc, "a", b"one")?,
+        named(alloc, "b", b"three")?,
+        named(alloc, "a", b"two")?,
+    ]?;
+    let mut shelf = MemoryShelf::new(files, vec![in alloc; 2, 6]?);
+    for (name, limit, want) in [
+        ("a", 3, Ok(b"one".as_slice())),
+        ("b", 5, Err(FetchFault::Failed)),
+        ("b", 4, Err(FetchFault::Long)),
+        ("c", 4, Err(FetchFault::Failed)),
+        ("b", 5, Ok(b"three".as_slice())),
+        ("a", 3, Err(FetchFault::Failed)),
+    ] {
+        let got = shelf.fetch(alloc, name, limit);
+        match (got, want) {
+            (Ok(bytes), Ok(wanted)) => assert_eq!(rt; bytes.as_slice(), wanted),
+            (Err(fault), Err(wanted)) => assert_eq!(rt; fault, wanted),
+            _ => assert!(rt; false, "{name} {limit}"),
+        }
+    }
+    Ok(())
+}
+
+/// How many bytes are taken into three dots, or into the first of them, and what stands there then.
+fn taken<S: Source>(source: &mut S, is_short: bool) -> Result<(usize, [u8; 3]), Failed> {
+    let mut into = [b'.'; 3];
+    let count = if is_short {
+        source.take(&mut into[..1])?
+    } else {
+        source.take(&mut into)?
+    };
+    Ok((count, into))
+}
+
+#[test]
+fn memory_source(rt: HostRuntime) -> Result<(), Fail> {
+    let alloc = rt.alloc();
+    let bytes = b"abcdef".as_slice().to_vec(alloc)?;
+    let mut source = MemorySource::new(bytes, 2, vec![in alloc; 1, 3]?);
+    for (is_short, want) in [
+        (false, Err(Failed)),
+        (false, Ok((2, *b"ab."))),
+        (false, Err(Failed)),
+        (true, Ok((1, *b"c.."))),
+        (false, Ok((2, *b"de."))),
+        (false, Ok((1, *b"f.."))),
+        (false, Ok((0, *b"..."))),
+    ] {
+        assert_eq!(rt; taken(&mut source, is_short), want);
+    }
+    Ok(())
+}
+
+#[test]
+fn read_source(rt: HostRuntime) {
+    let mut source = ReadSource::new(b"abcd".as_slice());
+    for want in [(3, *b"abc"), (1, *b"d.."), (0, *b"...")] {
+        assert_eq!(rt; taken(&mut source, false), Ok(want));
+    }
+}
+
+#[test]
+fn memory_sink(rt: HostRuntime) -> Result<(), Fail> {
+    let alloc = rt.alloc();
+    let mut sink = MemorySink::new(alloc, vec![in alloc; 2]?);
+    for (bytes, want) in [
+        (b"ab", Ok(())),
+        (b"cd", Err(PutFault::Failed)),
+        (b"ef", Ok(())),
+    ] {
+        assert_eq!(rt; sink.put(bytes), want);
+    }
+    assert_eq!(rt; sink.bytes(), b"abef".as_slice());
+    Ok(())
+}
+
+#[test]
+fn write_sink(rt: HostRuntime) {
+    let mut bytes = Vec::new(rt.alloc());
+    {
+        let mut sink = WriteSink::new(&mut bytes);
+        assert_eq!(rt; sink.put(b"ab"), Ok(()));
+        assert_eq!(rt; sink.put(b"c"), Ok(()));
+    }
+    assert_eq!(rt; bytes.as_slice(), b"abc".as_slice());
+}
+
+#[test]
+fn full_writer(rt: HostRuntime) {
+    let mut room = [b'.'; 3];
+    {
+        let mut sink = WriteSink::new(room.as_mut_slice());
+        assert_eq!(rt; sink.put(b"ab"), Ok(()));
+        assert_eq!(rt; sink.put(b"cd"), Err(PutFault::Failed));
+    }
+    assert_eq!(rt; room, *b"abc");
+}
+
+#[test]
+fn file_shelf(rt: HostRuntime) -> Result<(), Fail> {
+    const NAME: &str = "map_checks_test_file";
+    fs::write(&rt, NAME, b"three".as_slice())?;
+    let mut shelf = FileShelf::new(&rt);
+    let whole = shelf.fetch(rt.alloc(), NAME, 5);
+    assert!(rt; matches!(&whole, Ok(bytes) if bytes.as_slice() == b"three".as_slice()));
+    let long = shelf.fetch(rt.alloc(), NAME, 4);
+    assert!(rt; matches!(long, Err(FetchFault::Long)));
+    fs::remove_file(&rt, NAME)?;
+    let missing = shelf.fetch(rt.alloc(), NAME, 5);
+    assert!(rt; matches!(missing, Err(FetchFault::Failed)));
+    Ok(())
+}
