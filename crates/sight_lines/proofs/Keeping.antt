@@ -1,5 +1,5 @@
 -- Viewers that stay where they were.
-use Rattle.std.proofs.Common.{◌≡◌, ℕ, zero, suc, ◌+◌, ◌-◌, ◌<◌, ◌≤◌, ◌&&◌, Bool, true, false, nat_le, nat_lt, cond, List, [], ◌∷◌, ◌++◌, length, get_or, take, filter, Option, Some, None, ℤ, pos, refl, sym, ◌∙◌, ap, subst, arith, is_some}
+use Rattle.std.proofs.Common.{◌≡◌, ℕ, zero, suc, ◌+◌, ◌-◌, ◌<◌, ◌≤◌, ◌&&◌, true, false, nat_le, nat_lt, cond, List, [], ◌∷◌, ◌++◌, length, get_or, take, filter, Option, Some, None, ℤ, pos, refl, sym, ◌∙◌, ap, subst, arith, is_some}
 use Rattle.std.specs.List.{All, range_with_len, count_by}
 use Rattle.std.proofs.lemmas.Bool.Decides.{nat_tests}
 use Rattle.std.proofs.lemmas.List.{append_assoc, take_more}

@@ -1,9 +1,9 @@
-use Rattle.std.proofs.Common.{◌≡◌, ℕ, ◌+◌, ◌*◌, ◌/◌, ◌%◌, ◌≤◌, ◌<◌, min, sym, ◌∙◌, ap, subst, arith}
+use Rattle.std.proofs.Common.{◌≡◌, ℕ, ◌+◌, ◌*◌, ◌/◌, ◌%◌, min, sym, ◌∙◌, ap, subst, arith}
 use Rattle.std.proofs.lemmas.Nat.{mul-le}
 use Rattle.map_nums.specs.Grids.{Size}
 use Rattle.layer_tiles.specs.Runs.{run_length}
 use Rattle.sight_lines.specs.Found.{IsFound}
-use Rattle.sight_lines.proofs.Bands.{IsInBand, in_band_of, slot_there, band_row, band_begins, band_ends}
+use Rattle.sight_lines.proofs.Bands.{in_band_of, slot_there, band_row, band_begins}
 use Rattle.sight_lines.proofs.searches.add_band.Goals as goal
 
 pub overflow_mul-band : goal.overflow_mul-band

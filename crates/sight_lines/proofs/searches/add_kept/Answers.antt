@@ -1,4 +1,4 @@
-use Rattle.std.proofs.Common.{◌≡◌, ◌+◌, ◌++◌, arith, get_or, take, filter, pos, rules, FitsSigned, w32}
+use Rattle.std.proofs.Common.{◌++◌, arith, get_or, take, filter, pos, rules, FitsSigned, w32}
 use Rattle.std.proofs.lemmas.Int.{to_z-of_z}
 use Rattle.sight_lines.specs.Found.{is_between}
 use Rattle.sight_lines.proofs.Keeping.{taken_more}

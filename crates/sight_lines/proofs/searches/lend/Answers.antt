@@ -1,8 +1,6 @@
-use Rattle.std.proofs.Common.{◌≡◌, ℕ, ◌+◌, ◌*◌, ◌≤◌, ◌<◌, Option, List, ℤ, [], ◌∷◌, length, sym, ◌∙◌, ap, subst, arith}
+use Rattle.std.proofs.Common.{◌≡◌, ℕ, ◌+◌, ◌*◌, [], ◌∷◌, length, ◌∙◌, ap, subst, arith}
 use Rattle.std.proofs.lemmas.List.{length-append}
-use Rattle.map_nums.specs.Grids.{Size}
-use Rattle.layer_tiles.specs.Tiles.{tiles_across, tiles_in}
-use Rattle.layer_tiles.specs.Windows.{WindowState}
+use Rattle.layer_tiles.specs.Tiles.{tiles_across}
 use Rattle.sight_lines.specs.Searches.{IsSlot}
 use Rattle.sight_lines.proofs.Bands.{band_tile, few_tiles, few_across, slots_more}
 use Rattle.sight_lines.proofs.Looking.{looks_within}

@@ -1,4 +1,4 @@
-use Rattle.std.proofs.Common.{◌≡◌, ℕ, ◌+◌, ◌*◌, ◌≤◌, ◌<◌, sym, ◌∙◌, ap, subst, arith, List, Option}
+use Rattle.std.proofs.Common.{◌≡◌, ℕ, ◌+◌, ◌*◌, sym, ◌∙◌, ap, subst, arith, List, Option}
 use Rattle.layer_tiles.specs.Tiles.{tiles_across, tiles_in, tiles_down}
 use Rattle.layer_tiles.specs.Windows.{WindowState}
 use Rattle.sight_lines.specs.Found.{IsFound}

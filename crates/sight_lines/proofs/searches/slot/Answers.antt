@@ -1,4 +1,4 @@
-use Rattle.std.proofs.Common.{◌≡◌, ◌+◌, arith}
+use Rattle.std.proofs.Common.{◌+◌, arith}
 use Rattle.sight_lines.proofs.Looking.{looks_all, looks_touched, looks_within}
 use Rattle.sight_lines.proofs.searches.slot.Goals as goal
 

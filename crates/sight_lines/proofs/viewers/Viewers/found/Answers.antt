@@ -1,4 +1,4 @@
-use Rattle.std.proofs.Common.{◌≡◌, ◌<◌, ◌≤◌, arith}
+use Rattle.std.proofs.Common.{arith}
 use Rattle.sight_lines.proofs.Keeping.{count_found, few_found}
 use Rattle.sight_lines.proofs.viewers.Viewers.found.Goals as goal
 
