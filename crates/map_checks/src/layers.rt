@@ -206,3 +206,18 @@ fn a_list_of_cells_taken_over(rt: HostRuntime) -> Result<(), Fail> {
     );
     Ok(())
 }
+
+#[test]
+fn touched_tiles_come_in_order(rt: HostRuntime) -> Result<(), Fail> {
+    let extent = Extent::new(33, 33).ok_or("limits")?;
+    assert!(rt; 3 < extent.tiles());
+    let layer = Layer::constant(rt.alloc(), extent, cell(5), 1)?;
+    let patch = patch_of(rt.alloc(), extent, 1, 5, 3, 7)?;
+    assert_eq!(rt; patch.len(), 2);
+    let change = Change::patched(&layer, &patch);
+    for (from, next) in [(0, Some(1)), (1, Some(1)), (2, Some(3)), (4, None)] {
+        assert_eq!(rt; change.next_touched(from), next, "{from}");
+    }
+    assert_eq!(rt; Change::same(&layer).next_touched(0), None);
+    Ok(())
+}

@@ -8,6 +8,8 @@ mod arithmetic;
 #[cfg(test)]
 mod layers;
 #[cfg(test)]
+mod local_operations;
+#[cfg(test)]
 mod makers;
 #[cfg(test)]
 mod names;

@@ -1,0 +1,174 @@
+//! Whole rows of cells, as a second program gives them.
+ghost use Rattle.std.specs.Prelude.{◌<◌};
+ghost use Rattle.local_ops.specs.Operations.{op_of, Takes};
+
+use crate::makers::{cell, layer_of};
+use layer_tiles::{Cell, Change, Extent, KernelRefusal, Layer, Operands, Tile, Value};
+use local_ops::{LocalOp, Rates, local_tile};
+use map_nums::{NoMemory, Rate, Stat};
+use map_outside::Counts;
+use std::alloc::Global;
+use std::process::Abort;
+use std::test::Fail;
+
+/// The values of a tile's first row.
+fn values_of(alloc: Global, tile: &Tile) -> Result<Vec<Option<Value>>, NoMemory>
+    requires { 0 < tile.now.height }
+{
+    let mut values = Vec::new(alloc);
+    for cell in tile.row(0) {
+        values.push(cell.get())?;
+    }
+    Ok(values)
+}
+
+/// The first row of a tile that an operation makes of a layer and a cell everywhere, or the cell whose value is out of
+/// range. There is no tile where memory is out, or no such tile.
+fn row_with(
+    alloc: Global,
+    op: &LocalOp,
+    layer: &Layer,
+    other: Value,
+    tile: u32,
+) -> Option<Result<Vec<Option<Value>>, u32>>
+    requires { Takes (op_of op.now) 2 }
+{
+    if tile >= layer.extent().tiles() {
+        return None;
+    }
+    let mut operands = Operands::new();
+    operands.push(Change::same(layer));
+    operands.push(Change::constant(layer.extent(), cell(other)));
+    match local_tile(alloc, op, &operands, tile, &mut Counts::new()) {
+        Ok(made) => Some(Ok(values_of(alloc, &made).ok()?)),
+        Err(KernelRefusal::Overflow(at)) => Some(Err(at)),
+        Err(KernelRefusal::NoMemory) => None,
+    }
+}
+
+/// An operation of a layer of one tile and a number makes this row.
+fn makes(
+    rt: &(impl AllocGlobal + Abort),
+    op: &LocalOp,
+    layer: &Layer,
+    other: Value,
+    want: [Option<Value>; 3],
+)
+    requires { Takes (op_of op.now) 2 }
+{
+    match row_with(rt.alloc(), op, layer, other, 0) {
+        Some(Ok(row)) => assert_eq!(rt; row.as_slice(), want.as_slice()),
+        _ => panic!(rt; "no row"),
+    }
+}
+
+#[test]
+fn ties_and_floors(rt: HostRuntime) -> Result<(), Fail> {
+    let layer = layer_of(rt.alloc(), Extent::new(1, 3).ok_or("limits")?, &[-3, -4, 5])?;
+    let mean = LocalOp::Stat(Stat::Mean);
+    makes(&rt, &mean, &layer, -4, [Some(-4), Some(-4), Some(0)]);
+    let median = LocalOp::Stat(Stat::Median);
+    makes(&rt, &median, &layer, 0, [Some(-3), Some(-4), Some(0)]);
+    makes(
+        &rt,
+        &LocalOp::Ratio,
+        &layer,
+        2,
+        [Some(-2), Some(-2), Some(2)],
+    );
+    makes(&rt, &LocalOp::Ratio, &layer, 0, [None, None, None]);
+    makes(
+        &rt,
+        &LocalOp::Difference,
+        &layer,
+        5,
+        [Some(-8), Some(-9), Some(0)],
+    );
+    Ok(())
+}
+
+#[test]
+fn overflow_in_either_tile(rt: HostRuntime) -> Result<(), Fail> {
+    let extent = Extent::new(1, 33).ok_or("limits")?;
+    for (last, tile, want) in [
+        (2_050_000, 0, Err(31)),
+        (2_050_000, 1, Err(32)),
+        (2_000_000, 0, Ok(Some(50_000_000))),
+        (2_000_000, 1, Ok(Some(2_000_000_000))),
+    ] {
+        let mut values = [50_000; 33];
+        values[31] = last;
+        values[32] = last;
+        let layer = layer_of(rt.alloc(), extent, &values)?;
+        let product = LocalOp::Stat(Stat::Product);
+        let first = match row_with(rt.alloc(), &product, &layer, 1000, tile).ok_or("no row")? {
+            Ok(row) => Ok(row.first().copied().flatten()),
+            Err(at) => Err(at),
+        };
+        assert_eq!(rt; first, want);
+    }
+    Ok(())
+}
+
+#[test]
+fn ratings(rt: HostRuntime) -> Result<(), Fail> {
+    let rates = [
+        Rate {
+            low: 1,
+            high: 3,
+            give: Some(9),
+        },
+        Rate {
+            low: 3,
+            high: 5,
+            give: None,
+        },
+    ];
+    let op = LocalOp::Rating(Rates::of(rt.alloc(), &rates)?);
+    let layer = layer_of(
+        rt.alloc(),
+        Extent::new(1, 4).ok_or("limits")?,
+        &[3, 5, 6, -1],
+    )?;
+    assert!(rt; 0 < layer.extent().tiles());
+    let mut operands = Operands::new();
+    operands.push(Change::same(&layer));
+    let mut tally = Counts::new();
+    let made = local_tile(rt.alloc(), &op, &operands, 0, &mut tally)?;
+    let values = values_of(rt.alloc(), &made)?;
+    assert_eq!(rt;
+        values.as_slice(),
+        [Some(9), None, Some(6), Some(-1)].as_slice()
+    );
+    assert_eq!(rt; (tally.looks(), tally.picks()), (1, 0));
+    Ok(())
+}
+
+#[test]
+fn statistics_of_three(rt: HostRuntime) -> Result<(), Fail> {
+    let one = layer_of(rt.alloc(), Extent::new(1, 1).ok_or("limits")?, &[5])?;
+    assert!(rt; 0 < one.extent().tiles());
+    for (stat, want) in [
+        (Stat::Sum, 12),
+        (Stat::Product, 50),
+        (Stat::Maximum, 5),
+        (Stat::Minimum, 2),
+        (Stat::Mean, 4),
+        (Stat::Median, 5),
+        (Stat::Majority, 5),
+        (Stat::Minority, 2),
+        (Stat::Variety, 2),
+    ] {
+        for (middle, wanted) in [(cell(2), Some(want)), (Cell::null(), None)] {
+            let mut operands = Operands::new();
+            operands.push(Change::same(&one));
+            operands.push(Change::constant(one.extent(), middle));
+            operands.push(Change::same(&one));
+            let op = LocalOp::Stat(stat);
+            let made = local_tile(rt.alloc(), &op, &operands, 0, &mut Counts::new())?;
+            let values = values_of(rt.alloc(), &made)?;
+            assert_eq!(rt; values.as_slice(), [wanted].as_slice(), "{stat:?}");
+        }
+    }
+    Ok(())
+}
