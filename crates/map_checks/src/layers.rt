@@ -2,7 +2,7 @@
 ghost use Rattle.std.specs.Prelude.{◌≡◌, ◌<◌, IfOk};
 ghost use Rattle.layer_tiles.specs.Tiles.{tiles_in};
 
-use crate::makers::{cell, layer_of, stamps_of, value_at, values_of};
+use crate::makers::{cell, layer_of, numbers, stamps_of, value_at, values_of};
 use layer_tiles::{
     Cell, Change, Extent, Layer, NoMemory, Operands, Patch, Text, Tile, TileView, Value,
 };
@@ -68,11 +68,7 @@ fn window_value(change: &Change<'_>, reach: u32, at: u32, tally: &mut Counts) ->
 #[test]
 fn loans(rt: HostRuntime) -> Result<(), Fail> {
     let extent = Extent::new(33, 33).ok_or("limits")?;
-    let mut values = [0; 1089];
-    for at in 0..1089 {
-        values[at] = at as Value;
-    }
-    let layer = layer_of(rt.alloc(), extent, &values)?;
+    let layer = layer_of(rt.alloc(), extent, &numbers())?;
     let mut tally = Counts::new();
     assert!(rt; 3 < extent.tiles());
     assert_eq!(rt; first_of(&layer.view(3, &mut tally)), Some(1088));
@@ -204,6 +200,24 @@ fn a_list_of_cells_taken_over(rt: HostRuntime) -> Result<(), Fail> {
         stamps_of(rt.alloc(), &layer)?.as_slice(),
         [4, 4].as_slice()
     );
+    Ok(())
+}
+
+#[test]
+fn tiles_are_copied_and_compared(rt: HostRuntime) -> Result<(), Fail> {
+    let extent = Extent::new(1, 2).ok_or("limits")?;
+    assert_eq!(rt; extent.tiles(), 1);
+    let place = extent.place(0);
+    assert_eq!(rt; (place.height, place.width), (1, 2));
+    let mut tile = Tile::new(rt.alloc(), extent, 0, cell(3))?;
+    let before = tile.view().to_tile(rt.alloc())?;
+    tile.set(0, 1, cell(4));
+    let after = tile.view().to_tile(rt.alloc())?;
+    let are_same = [
+        tile.view().same(&after.view()),
+        tile.view().same(&before.view()),
+    ];
+    assert_eq!(rt; are_same, [true, false]);
     Ok(())
 }
 

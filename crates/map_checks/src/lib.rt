@@ -6,13 +6,27 @@
 #[cfg(test)]
 mod arithmetic;
 #[cfg(test)]
+mod engines;
+#[cfg(test)]
+mod evaluations;
+#[cfg(test)]
+mod graphs;
+#[cfg(test)]
+mod grids;
+#[cfg(test)]
 mod layers;
+#[cfg(test)]
+mod lines;
 #[cfg(test)]
 mod local_operations;
 #[cfg(test)]
 mod makers;
 #[cfg(test)]
 mod names;
+#[cfg(test)]
+mod neighbourhoods;
+#[cfg(test)]
+mod sessions;
 #[cfg(test)]
 mod shelves_and_sinks;
 #[cfg(test)]
