@@ -13,8 +13,6 @@ mod laws;
 mod numbers;
 mod print;
 mod read;
-#[cfg(test)]
-mod tests;
 mod tokens;
 
 ghost use Rattle.std.specs.Prelude.{◌≡◌};

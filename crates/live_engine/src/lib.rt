@@ -23,8 +23,3 @@ mod values;
 pub use edits::{Accepted, Edit, Refusal, Which};
 pub use engine::Engine;
 pub use reads::{Entry, Missing};
-
-#[cfg(test)]
-mod painting_tests;
-#[cfg(test)]
-mod tests;

@@ -11,6 +11,3 @@ mod session;
 
 pub use replies::Reply;
 pub use session::{Begun, Session};
-
-#[cfg(test)]
-mod tests;
