@@ -207,6 +207,8 @@ fn a_list_of_cells_taken_over(rt: HostRuntime) -> Result<(), Fail> {
 fn tiles_are_copied_and_compared(rt: HostRuntime) -> Result<(), Fail> {
     let extent = Extent::new(1, 2).ok_or("limits")?;
     assert_eq!(rt; extent.tiles(), 1);
+    let place = extent.place(0);
+    assert_eq!(rt; (place.height, place.width), (1, 2));
     let mut tile = Tile::new(rt.alloc(), extent, 0, cell(3))?;
     let before = tile.view().to_tile(rt.alloc())?;
     tile.set(0, 1, cell(4));

@@ -1,5 +1,5 @@
 //! What a few viewers see along a row, and lists of viewers at their limit.
-ghost use Rattle.std.specs.Prelude.{◌<◌};
+ghost use Rattle.std.specs.Prelude.{◌≡◌, ◌≤◌, ◌<◌};
 ghost use Rattle.layer_tiles.specs.Tiles.{tiles_in};
 
 use crate::makers::cell;
@@ -55,7 +55,7 @@ fn seen(
     Ok(tile.row(0).iter().map(|c| c.get()).collect(alloc)?)
 }
 
-// Values by the second program, of V = 1 null null null null:
+// Of V = 1 null null null null:
 //   surface 0 1 2 0 0, from 0, to 0, reach 64: 1 1 1 null null
 //   surface 0 2 2 0 0: 1 1 null null null
 //   surface 0 1 2 0 0, to 4: 1 1 1 1 1 (raised by `to` the last two are seen: 1*3 <= 4, 2*3 <= 4*2; 1*4 <= 4, 2*4 <= 4*2)
