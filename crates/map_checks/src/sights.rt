@@ -44,14 +44,16 @@ fn seen(
     requires reach { sight.reach ≤ 64 }
 {
     let mut tally = Counts::new();
-    let found = Viewers::of(alloc, None, &Change::same(viewers), &mut tally)
-        .map_err(|_| Fail::from("viewers"))?;
+    let found = Viewers::of(alloc, None, &Change::same(viewers), &mut tally).map_err(|_| Fail::from(
+        "viewers",
+    ))?;
     let extent = surface.extent();
     if extent.tiles() == 0 {
         return Err(Fail::from("tiles"));
     }
-    let tile = sight_tile(alloc, &found, &Change::same(surface), sight, 0, &mut tally)
-        .map_err(|_| Fail::from("tile"))?;
+    let tile = sight_tile(alloc, &found, &Change::same(surface), sight, 0, &mut tally).map_err(
+        |_| Fail::from("tile"),
+    )?;
     Ok(tile.row(0).iter().map(|c| c.get()).collect(alloc)?)
 }
 
@@ -73,20 +75,53 @@ fn along_a_row(rt: HostRuntime) -> Result<(), Fail> {
     };
     let ridge = row_of(alloc, &[Some(0), Some(1), Some(2), Some(0), Some(0)])?;
     let first = seen(alloc, &one, &ridge, plain)?;
-    assert_eq!(rt; first.as_slice(), [Some(1), Some(1), Some(1), None, None].as_slice());
+    assert_eq!(rt;
+        first.as_slice(),
+        [Some(1), Some(1), Some(1), None, None].as_slice()
+    );
     let higher = row_of(alloc, &[Some(0), Some(2), Some(2), Some(0), Some(0)])?;
     let second = seen(alloc, &one, &higher, plain)?;
-    assert_eq!(rt; second.as_slice(), [Some(1), Some(1), None, None, None].as_slice());
-    let raised = seen(alloc, &one, &ridge, Sight { from: 0, to: 4, reach: 64 })?;
-    assert_eq!(rt; raised.as_slice(), [Some(1), Some(1), Some(1), Some(1), Some(1)].as_slice());
-    let near = seen(alloc, &one, &ridge, Sight { from: 0, to: 0, reach: 1 })?;
-    assert_eq!(rt; near.as_slice(), [Some(1), Some(1), None, None, None].as_slice());
+    assert_eq!(rt;
+        second.as_slice(),
+        [Some(1), Some(1), None, None, None].as_slice()
+    );
+    let raised = seen(
+        alloc,
+        &one,
+        &ridge,
+        Sight {
+            from: 0,
+            to: 4,
+            reach: 64,
+        },
+    )?;
+    assert_eq!(rt;
+        raised.as_slice(),
+        [Some(1), Some(1), Some(1), Some(1), Some(1)].as_slice()
+    );
+    let near = seen(
+        alloc,
+        &one,
+        &ridge,
+        Sight {
+            from: 0,
+            to: 0,
+            reach: 1,
+        },
+    )?;
+    assert_eq!(rt;
+        near.as_slice(),
+        [Some(1), Some(1), None, None, None].as_slice()
+    );
     let hidden = row_of(alloc, &[None, Some(1), Some(2), Some(0), Some(0)])?;
     let none = seen(alloc, &one, &hidden, plain)?;
     assert_eq!(rt; none.as_slice(), [None, None, None, None, None].as_slice());
     let gap = row_of(alloc, &[Some(0), None, Some(0), Some(0), Some(0)])?;
     let own = seen(alloc, &one, &gap, plain)?;
-    assert_eq!(rt; own.as_slice(), [Some(1), None, None, None, None].as_slice());
+    assert_eq!(rt;
+        own.as_slice(),
+        [Some(1), None, None, None, None].as_slice()
+    );
     Ok(())
 }
 
@@ -96,16 +131,18 @@ fn lists_at_their_limit(rt: HostRuntime) -> Result<(), Fail> {
     let alloc = rt.alloc();
     let mut tally = Counts::new();
     let most = layer_of(alloc, 1, 64, &[7; 64])?;
-    let listed = Viewers::of(alloc, None, &Change::same(&most), &mut tally)
-        .map_err(|_| Fail::from("viewers"))?;
+    let listed = Viewers::of(alloc, None, &Change::same(&most), &mut tally).map_err(|_| Fail::from(
+        "viewers",
+    ))?;
     assert_eq!(rt; listed.get(0), Some((0, 7)));
     assert_eq!(rt; listed.get(63), Some((63, 7)));
     assert_eq!(rt; listed.get(64), None);
     assert_eq!(rt; (tally.looks(), tally.picks()), (2, 0));
     let copied = listed.copy(alloc)?;
     assert_eq!(rt; copied.get(63), Some((63, 7)));
-    let again = Viewers::of(alloc, Some(&listed), &Change::same(&most), &mut tally)
-        .map_err(|_| Fail::from("viewers"))?;
+    let again = Viewers::of(alloc, Some(&listed), &Change::same(&most), &mut tally).map_err(
+        |_| Fail::from("viewers"),
+    )?;
     assert_eq!(rt; again.get(63), Some((63, 7)));
     assert_eq!(rt; (tally.looks(), tally.picks()), (2, 0));
     let many = layer_of(alloc, 1, 65, &[0; 65])?;

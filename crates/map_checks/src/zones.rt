@@ -93,7 +93,11 @@ fn a_cell_changes_its_zone(rt: HostRuntime) -> Result<(), Fail> {
         (2, 2, None),
         (3, 0, None),
     ] {
-        assert_eq!(rt; book.zone_tile_after(&patch, zone, k), tile, "tile {k} of zone {zone}");
+        assert_eq!(rt;
+            book.zone_tile_after(&patch, zone, k),
+            tile,
+            "tile {k} of zone {zone}"
+        );
     }
 
     let copy = book.copy(alloc)?;
