@@ -232,6 +232,7 @@ fn limits(rt: HostRuntime) -> Result<(), Fail> {
 
 #[test]
 fn rectangles_across_tiles(rt: HostRuntime) -> Result<(), Fail> {
+    let places: [u32; 3] = [1053, 1054, 1088];
     let rows: [(&[u8], [u64; 4], u64, [Option<Value>; 3]); 2] = [
         // the corner of four tiles
         (
@@ -258,8 +259,12 @@ fn rectangles_across_tiles(rt: HostRuntime) -> Result<(), Fail> {
         assert_eq!(rt; (tally.looks(), tally.picks()), (looks, 0), "{text:?}");
         let stamps = stamps(&engine, rt.alloc(), b"A").ok_or("no layer")?;
         assert_eq!(rt; stamps.as_slice(), want.as_slice(), "{text:?}");
-        for (at, wanted) in [1053, 1054, 1088].iter().zip(cells.iter()) {
-            assert_eq!(rt; value(&engine, rt.alloc(), b"A", *at), *wanted, "{text:?}");
+        for k in 0..3 {
+            assert_eq!(rt;
+                value(&engine, rt.alloc(), b"A", places[k]),
+                cells[k],
+                "{text:?}"
+            );
         }
     }
     Ok(())

@@ -4,8 +4,9 @@ use map_outside::{
     Shelf, Sink, Source, WriteSink,
 };
 use std::alloc::{AllocError, Global};
-use std::fs;
+use std::io::Write;
 use std::test::Fail;
+use std::{fs, io};
 
 fn named(alloc: Global, name: &str, bytes: &[u8]) -> Result<(String, Vec<u8>), AllocError> {
     Ok((String::from_str(alloc, name)?, bytes.to_vec(alloc)?))
@@ -126,4 +127,36 @@ fn file_shelf(rt: HostRuntime) -> Result<(), Fail> {
     let missing = shelf.fetch(rt.alloc(), NAME, 5);
     assert!(rt; matches!(missing, Err(FetchFault::Failed)));
     Ok(())
+}
+
+/// Counts the bytes that were written, and those that were flushed.
+#[derive(Drop)]
+struct Flushes {
+    written: usize,
+    flushed: usize,
+}
+
+impl Write for Flushes {
+    fn write(&mut self, buf: &[u8]) -> io::Result<usize> {
+        self.written = self.written.saturating_add(buf.len());
+        Ok(buf.len())
+    }
+
+    fn flush(&mut self) -> io::Result<()> {
+        self.flushed = self.written;
+        Ok(())
+    }
+}
+
+#[test]
+fn each_put_is_flushed(rt: HostRuntime) {
+    let mut writer = Flushes {
+        written: 0,
+        flushed: 0,
+    };
+    {
+        let mut sink = WriteSink::new(&mut writer);
+        assert_eq!(rt; sink.put(b"abc"), Ok(()));
+    }
+    assert_eq!(rt; writer.flushed, 3);
 }
