@@ -30,10 +30,6 @@ mod sessions;
 #[cfg(test)]
 mod shelves_and_sinks;
 #[cfg(test)]
-mod sights;
-#[cfg(test)]
 mod statistics;
 #[cfg(test)]
 mod tallies;
-#[cfg(test)]
-mod zones;

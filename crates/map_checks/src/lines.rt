@@ -3,8 +3,13 @@ use statement_parser::{Line, LineEdit, LineRefusal, Op, Request, Term, parse_lin
 use std::alloc::Global;
 use std::test::Fail;
 
+/// Why a line is refused.
+fn refusal(alloc: Global, line: &[u8]) -> Option<LineRefusal> {
+    parse_line(alloc, line).err()
+}
+
 #[test]
-fn refused_lines(rt: HostRuntime) -> Result<(), Fail> {
+fn refused_lines(rt: HostRuntime) {
     let lines: [(&[u8], LineRefusal); 29] = [
         (b"foo", LineRefusal::Syntax(4)),
         (b"C = LocalSun of A and 1", LineRefusal::Operation(5)),
@@ -43,19 +48,23 @@ fn refused_lines(rt: HostRuntime) -> Result<(), Fail> {
         ),
     ];
     for (line, want) in lines {
-        assert_eq!(rt; parse_line(rt.alloc(), line).err(), Some(want));
+        assert_eq!(rt; refusal(rt.alloc(), line), Some(want));
     }
+}
+
+#[test]
+fn lines_of_any_length(rt: HostRuntime) -> Result<(), Fail> {
     let mut long = Vec::new(rt.alloc());
     for _ in 0..4096 {
         long.push(b'x')?;
     }
     assert_eq!(rt;
-        parse_line(rt.alloc(), long.as_slice()).err(),
+        refusal(rt.alloc(), long.as_slice()),
         Some(LineRefusal::Syntax(1))
     );
     long.push(b'x')?;
     assert_eq!(rt;
-        parse_line(rt.alloc(), long.as_slice()).err(),
+        refusal(rt.alloc(), long.as_slice()),
         Some(LineRefusal::Long(4097))
     );
     Ok(())
