@@ -4,8 +4,6 @@
 #![tactic(auto)]
 
 #[cfg(test)]
-mod arithmetic;
-#[cfg(test)]
 mod engines;
 #[cfg(test)]
 mod evaluations;
@@ -14,22 +12,12 @@ mod graphs;
 #[cfg(test)]
 mod grids;
 #[cfg(test)]
-mod layers;
-#[cfg(test)]
 mod lines;
-#[cfg(test)]
-mod local_operations;
 #[cfg(test)]
 mod makers;
 #[cfg(test)]
 mod names;
 #[cfg(test)]
-mod neighbourhoods;
-#[cfg(test)]
 mod sessions;
 #[cfg(test)]
 mod shelves_and_sinks;
-#[cfg(test)]
-mod statistics;
-#[cfg(test)]
-mod tallies;

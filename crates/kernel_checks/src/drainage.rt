@@ -1,0 +1,1 @@
+//! Flow directions and flow accumulation, first and repaired.

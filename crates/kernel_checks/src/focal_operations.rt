@@ -1,0 +1,1 @@
+//! Tiles of Focal operations.

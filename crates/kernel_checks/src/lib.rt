@@ -1,0 +1,33 @@
+//! Tests of the public calls of layers and kernels, with values from other programs.
+//!
+//! Each module has one subject. The crates that read and answer lines are tested in `map_checks`.
+#![tactic(auto)]
+
+#[cfg(test)]
+mod arithmetic;
+#[cfg(test)]
+mod drainage;
+#[cfg(test)]
+mod focal_operations;
+#[cfg(test)]
+mod incremental_operations;
+#[cfg(test)]
+mod layers;
+#[cfg(test)]
+mod local_operations;
+#[cfg(test)]
+mod makers;
+#[cfg(test)]
+mod neighbourhoods;
+#[cfg(test)]
+mod regions;
+#[cfg(test)]
+mod sight;
+#[cfg(test)]
+mod spreading;
+#[cfg(test)]
+mod statistics;
+#[cfg(test)]
+mod tallies;
+#[cfg(test)]
+mod zones;

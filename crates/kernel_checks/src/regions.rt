@@ -1,0 +1,1 @@
+//! Labels of regions, first and repaired.

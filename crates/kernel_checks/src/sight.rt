@@ -1,0 +1,1 @@
+//! Viewers, and what they see.

@@ -1,0 +1,1 @@
+//! Least costs, first and repaired.

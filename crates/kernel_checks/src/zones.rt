@@ -1,0 +1,1 @@
+//! Statistics of zones before and after an edit.
