@@ -12,7 +12,7 @@ use Rattle.layer_tiles.proofs.Found.{numbers_rise}
 use Rattle.layer_tiles.proofs.ChangeLaws.{numbers_within}
 
 -- in an ascending list no number is below its place
-rising : (xs : List ℕ) → IsStrictlyIncreasing xs → (k : ℕ) → k < length xs → k ≤ get_or xs k 0
+pub rising : (xs : List ℕ) → IsStrictlyIncreasing xs → (k : ℕ) → k < length xs → k ≤ get_or xs k 0
 rising xs up zero l = omega arith
 rising xs up (suc k) l =
     let before = rising xs up k (omega arith) in

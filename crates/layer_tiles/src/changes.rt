@@ -16,6 +16,7 @@ use crate::layers::Layer;
 use crate::patches::Patch;
 use crate::tallies::Tally;
 use crate::views::TileView;
+use crate::wholes::{whole_cell, whole_run, whole_view};
 use crate::windows::{Window, span};
 use std::marker::Model;
 
@@ -82,22 +83,12 @@ impl<'a> Body<'a> {
     {
         let count = extent.run_length(at);
         match self {
-            Body::Same(layer) => return layer_run(layer, at, count),
+            Body::Same(layer) => return layer.run(at, count),
             Body::Patched(layer, patch) => return patched_run(layer, patch, at, count),
             Body::Fresh(patch) => return fresh_run(patch, at, count),
             Body::Constant(_, row) => return &row[..count],
         }
     }
-}
-
-/// Cells of a layer.
-fn layer_run(layer: &Layer, at: u32, count: usize) -> &[Cell]
-    requires within { at < cells_in layer.now.size }
-    requires count { count ≡ run_length layer.now.size at }
-    ensures { IsRun layer.now.size layer.now.cells at result.now }
-{
-    let _extent = layer.extent();
-    layer.run(at as usize, count)
 }
 
 /// Cells of a layer after tiles were replaced.
@@ -110,7 +101,7 @@ fn patched_run<'b>(layer: &'b Layer, patch: &'b Patch, at: u32, count: usize) ->
     let extent = patch.extent();
     match patch.find(extent.tile_of(at)) {
         Some(tile) => tile.run(extent.place_in(at), count),
-        None => layer_run(layer, at, count),
+        None => layer.run(at, count),
     }
 }
 
@@ -121,12 +112,7 @@ fn fresh_run(patch: &Patch, at: u32, count: usize) -> &[Cell]
     requires count { count ≡ run_length patch.now.size at }
     ensures { IsRun patch.now.size (fresh_change patch.now).cells at result.now }
 {
-    let extent = patch.extent();
-    let place = extent.place_in(at);
-    match patch.find(extent.tile_of(at)) {
-        Some(tile) => tile.run(place, count),
-        None => unreachable!(),
-    }
+    whole_run(patch.extent(), patch.tiles(), at, count)
 }
 
 /// A cell of a layer after tiles were replaced.
@@ -148,12 +134,7 @@ fn fresh_cell(patch: &Patch, at: u32) -> Cell
     requires all { HoldsAll patch.now }
     ensures { result ≡ cell_at (fresh_change patch.now).cells at }
 {
-    let extent = patch.extent();
-    let place = extent.place_in(at);
-    match patch.find(extent.tile_of(at)) {
-        Some(tile) => tile.cell(place),
-        None => unreachable!(),
-    }
+    whole_cell(patch.extent(), patch.tiles(), at)
 }
 
 impl<'a> Change<'a> {
@@ -336,12 +317,8 @@ fn view_fresh<'b, M: Tally>(patch: &'b Patch, tile: u32, tally: &mut M) -> TileV
     ensures tile { result ≡ tile_block patch.now.size (fresh_change patch.now).cells tile }
     ensures look { M.counts tally.new ≡ looked 1 (M.counts tally.old) }
 {
-    let _extent = patch.extent();
     tally.look();
-    match patch.find(tile) {
-        Some(cells) => cells.view(),
-        None => unreachable!(),
-    }
+    whole_view(patch.extent(), patch.tiles(), tile)
 }
 
 /// A tile of one cell everywhere.

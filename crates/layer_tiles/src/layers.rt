@@ -1,19 +1,23 @@
-//! A whole grid of cells, kept row by row in one list, with a stamp for each tile.
-ghost use Rattle.std.specs.Prelude.{◌≡◌, ◌+◌, ◌<◌, ◌≤◌, [], length, take, drop, slice_index, IfOk};
+//! A whole grid of cells, kept as its tiles, with a stamp for each.
+ghost use Rattle.std.specs.Prelude.{◌≡◌, ◌<◌, ◌≤◌, [], length, slice_index, IfOk};
 ghost use Rattle.map_nums.specs.Grids.{cells_in, cell_at, constant};
 ghost use Rattle.layer_tiles.specs.Tiles.{tiles_in, tile_block};
 ghost use Rattle.layer_tiles.specs.Patches.{HoldsAll, patched};
 ghost use Rattle.layer_tiles.specs.Layers.{IsLayer, IsCommitted, layer_of};
 ghost use Rattle.layer_tiles.specs.Windows.{window_of, span_of, tiles_lent, LendsInReach};
 ghost use Rattle.layer_tiles.specs.Tallies.{looked, picked};
+ghost use Rattle.layer_tiles.specs.Runs.{run_length, IsRun};
 
 use crate::cells::{Cell, are_cells};
+use crate::cuts::{constant_tiles, copied_tiles, cut_tiles};
 use crate::extents::Extent;
 use crate::patches::Patch;
 use crate::tallies::Tally;
+use crate::tiles::Tile;
 use crate::views::TileView;
+use crate::wholes::{whole_cell, whole_run, whole_view};
 use crate::windows::{Window, span};
-use crate::writes::{stamp_tiles, write_tiles};
+use crate::writes::{put_tiles, stamp_tiles};
 use map_nums::NoMemory;
 use std::alloc::Global;
 use std::marker::Model;
@@ -22,18 +26,22 @@ use std::marker::Model;
 #[derive(Drop)]
 pub struct Layer {
     extent: Extent,
-    cells: Vec<Cell>,
+    /// All tiles in order, with their numbers: the list of a patch that holds every tile.
+    tiles: Vec<(u32, Tile)>,
     stamps: Vec<u64>,
 }
 
 impl Model for Layer {
-    ghost use Rattle.layer_tiles.specs.Layers.{LayerState, IsLayer};
+    ghost use Rattle.std.specs.Prelude.{[]};
+    ghost use Rattle.layer_tiles.specs.Patches.{patched};
+    ghost use Rattle.layer_tiles.specs.Layers.{LayerState};
+    ghost use Rattle.layer_tiles.specs.Wholes.{IsTiled};
 
     ghost Value = { LayerState };
 
-    ghost view = { λ l. record { size = l.extent; cells = l.cells.items; stamps = l.stamps.items } };
+    ghost view = { λ l. record { size = l.extent; cells = patched l.extent [] l.tiles.items; stamps = l.stamps.items } };
 
-    ghost invariant = { λ l. IsLayer (record { size = l.extent; cells = l.cells.items; stamps = l.stamps.items }) };
+    ghost invariant = { λ l. IsTiled l.extent l.tiles.items l.stamps.items };
 }
 
 impl Layer {
@@ -46,8 +54,8 @@ impl Layer {
     ) -> Result<Layer, NoMemory>
         ensures { IfOk result (λ layer. layer ≡ layer_of extent (constant extent cell).cells stamp) }
     {
-        let cells = vec![in alloc; cell; extent.cells() as usize]?;
-        Layer::of_cells(alloc, extent, cells, stamp)
+        let patch = constant_tiles(alloc, extent, cell)?;
+        Ok(Layer::fresh(patch, stamp))
     }
 
     /// The cells row by row, with one stamp for all tiles.
@@ -60,10 +68,12 @@ impl Layer {
         requires { length cells.now ≡ cells_in extent }
         ensures { IfOk result (λ layer. layer ≡ layer_of extent cells.now stamp) }
     {
-        Layer::of_cells(alloc, extent, Vec::from_slice(alloc, cells)?, stamp)
+        are_cells(cells);
+        let patch = cut_tiles(alloc, extent, cells)?;
+        Ok(Layer::fresh(patch, stamp))
     }
 
-    /// The layer that takes a list of cells over, row by row, with one stamp for all tiles. Only the stamps are new memory.
+    /// The layer of a list of cells, row by row, with one stamp for all tiles.
     pub fn of_cells(
         alloc: Global,
         extent: Extent,
@@ -73,24 +83,22 @@ impl Layer {
         requires { length cells.items ≡ cells_in extent }
         ensures { IfOk result (λ layer. layer ≡ layer_of extent cells.items stamp) }
     {
-        are_cells(&cells);
-        let stamps = vec![in alloc; stamp; extent.tiles() as usize]?;
-        Ok(Layer {
-            extent,
-            cells,
-            stamps,
-        })
+        Layer::from_cells(alloc, extent, &cells, stamp)
     }
 
-    /// The layer of a patch that holds every tile, with one stamp for all tiles. Its lists were laid out when the patch was
-    /// completed, so it wants no memory.
+    /// The layer of a patch that holds every tile, with one stamp for all tiles. It takes the patch's lists over, and wants
+    /// no memory.
     pub fn fresh(patch: Patch, stamp: u64) -> Layer
         requires { HoldsAll patch }
         ensures { result ≡ layer_of patch.size (patched patch.size [] patch.tiles) stamp }
     {
-        let (tiles, mut layer) = patch.laid_out();
-        let extent = layer.extent();
-        write_tiles(extent, &tiles, &mut layer.cells);
+        let extent = patch.extent();
+        let (tiles, stamps) = patch.completed();
+        let mut layer = Layer {
+            extent,
+            tiles,
+            stamps,
+        };
         layer.restamp(stamp);
         layer
     }
@@ -98,9 +106,10 @@ impl Layer {
     pub fn copy(&self, alloc: Global) -> Result<Layer, NoMemory>
         ensures { IfOk result (λ layer. layer ≡ self.now) }
     {
+        let patch = copied_tiles(alloc, self.extent, &self.tiles)?;
         Ok(Layer {
             extent: self.extent,
-            cells: Vec::from_slice(alloc, &self.cells)?,
+            tiles: patch.into_tiles(),
             stamps: Vec::from_slice(alloc, &self.stamps)?,
         })
     }
@@ -119,15 +128,7 @@ impl Layer {
         ensures look { M.counts tally.new ≡ looked 1 (M.counts tally.old) }
     {
         tally.look();
-        let place = self.extent.place(tile);
-        let columns = self.extent.columns() as usize;
-        TileView::lend(
-            &self.cells,
-            place.top as usize * columns + place.left as usize,
-            columns,
-            place.height as usize,
-            place.width as usize,
-        )
+        whole_view(self.extent, &self.tiles, tile)
     }
 
     /// One cell. One pick.
@@ -137,7 +138,7 @@ impl Layer {
         ensures pick { M.counts tally.new ≡ picked 1 (M.counts tally.old) }
     {
         tally.pick();
-        self.cells[at as usize]
+        self.peek(at)
     }
 
     /// The stamp of a tile.
@@ -153,8 +154,8 @@ impl Layer {
         requires { patch.size ≡ self.old.size }
         ensures { IsCommitted self.old patch stamp self.new }
     {
-        stamp_tiles(self.extent, &patch, &self.cells, &mut self.stamps, stamp);
-        write_tiles(self.extent, patch.tiles(), &mut self.cells);
+        stamp_tiles(self.extent, &patch, &self.tiles, &mut self.stamps, stamp);
+        put_tiles(self.extent, patch, &mut self.tiles);
     }
 
     /// Gives every tile the stamp.
@@ -176,13 +177,13 @@ impl Layer {
         Window::of_layer(self, lent)
     }
 
-    /// Some cells from a place on, uncounted.
-    pub(crate) fn run(&self, first: usize, count: usize) -> &[Cell]
-        requires { first + count ≤ length self.now.cells }
-        ensures run { result.now ≡ take count (drop first self.now.cells) }
-        ensures count { length result.now ≡ count }
+    /// The cells from one on, to the end of its row within its tile, uncounted.
+    pub(crate) fn run(&self, at: u32, count: usize) -> &[Cell]
+        requires within { at < cells_in self.now.size }
+        requires count { count ≡ run_length self.now.size at }
+        ensures { IsRun self.now.size self.now.cells at result.now }
     {
-        &self.cells[first..first + count]
+        whole_run(self.extent, &self.tiles, at, count)
     }
 
     /// One cell, uncounted.
@@ -190,6 +191,6 @@ impl Layer {
         requires { at < cells_in self.now.size }
         ensures { result ≡ cell_at self.now.cells at }
     {
-        self.cells[at as usize]
+        whole_cell(self.extent, &self.tiles, at)
     }
 }
