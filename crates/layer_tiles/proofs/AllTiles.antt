@@ -1,12 +1,12 @@
 -- All tiles of a grid in order.
-use Rattle.std.proofs.Common.{◌≡◌, ℕ, zero, suc, ◌+◌, ◌-◌, ◌*◌, ◌<◌, ◌≤◌, Bool, true, false, List, [], ◌∷◌, ◌++◌, length, get_or, map, replicate, Option, Some, None, ℤ, refl, sym, ◌∙◌, ap, subst, arith, eqb, cond, IsSome}
+use Rattle.std.proofs.Common.{◌≡◌, ℕ, zero, suc, ◌+◌, ◌-◌, ◌*◌, ◌<◌, Bool, true, false, List, [], ◌∷◌, ◌++◌, length, get_or, map, replicate, Option, Some, None, ℤ, refl, sym, ◌∙◌, ap, subst, arith, eqb, cond, IsSome}
 use Rattle.std.specs.List.{range_with_len}
 use Rattle.std.proofs.lemmas.Bool.{eqb-true}
 use Rattle.std.proofs.lemmas.List.{length-map, length-replicate, get_or-replicate}
 use Rattle.std.proofs.lemmas.List.FromFn.{get_or-range_with_len, length-map-range_with_len, map-range_with_len_more}
 use Rattle.std.proofs.lemmas.Nat.{mul-add-lt}
 use Rattle.map_nums.specs.Grids.{Size, IsSize, Cells, cells_in, constant}
-use Rattle.layer_tiles.specs.Tiles.{Block, IsBlockOf, tile_block, tile_cells, tile_height, tile_width, tile_size, tile_start, tiles_in}
+use Rattle.layer_tiles.specs.Tiles.{Block, IsBlockOf, tile_block, tile_height, tile_width, tile_size, tile_start, tiles_in}
 use Rattle.layer_tiles.specs.Patches.{PatchState, IsPatch, HoldsAll, IsAboveLast, patch_get, numbers_of, patched}
 use Rattle.layer_tiles.specs.Layers.{LayerState, IsLayer, layer_of}
 use Rattle.layer_tiles.specs.Wholes.{IsWhole, IsTiled, IsCut, tiles_below}

@@ -122,8 +122,9 @@ impl Extent {
         ensures tile { tile_of self.now at < tiles_in self.now }
     {
         let columns = self.columns();
-        let width = self.place(self.tile_of(at)).width as usize;
-        (at / columns % 32) as usize * width + (at % columns % 32) as usize
+        let column = at % columns;
+        let width = (columns - column / 32 * 32).min(32);
+        (at / columns % 32 * width + column % 32) as usize
     }
 
     /// Where a tile lies.

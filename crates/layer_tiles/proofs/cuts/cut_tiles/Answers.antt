@@ -1,4 +1,4 @@
-use Rattle.std.proofs.Common.{◌≡◌, ℕ, ◌∙◌, subst, arith}
+use Rattle.std.proofs.Common.{◌≡◌, ℕ, subst, arith}
 use Rattle.layer_tiles.specs.Tiles.{tiles_in}
 use Rattle.layer_tiles.specs.Wholes.{IsCut}
 use Rattle.layer_tiles.proofs.AllTiles.{cut_none, cut_more, cut_above, cut_size}

@@ -1,4 +1,4 @@
-use Rattle.std.proofs.Common.{◌≡◌, ◌∙◌, arith, Some, []}
+use Rattle.std.proofs.Common.{◌≡◌, arith, Some, []}
 use Rattle.layer_tiles.specs.Tiles.{tile_of, IsBlockOf}
 use Rattle.layer_tiles.specs.Patches.{patch_get}
 use Rattle.layer_tiles.proofs.Runs.{run_of_tile, run_in_tile}
