@@ -11,3 +11,17 @@ pub mod LineEdits
 pub mod Laws
 pub mod Sound
 pub mod Sessions
+pub mod Marks
+pub mod WholeStates
+pub mod WholeEdits
+pub mod NamesAfter
+pub mod Attempts
+pub mod Touches
+pub mod LayerChanges
+pub mod EditCounts
+pub mod StampsAfter
+pub mod Counted
+pub mod Allowances
+pub mod CountedSessions
+pub mod SessionWords
+pub mod CountedRows

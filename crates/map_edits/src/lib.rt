@@ -4,9 +4,15 @@
 //! `specs/EngineStates` evaluates each on whole grids. The engine is proved against these.
 #![tactic(auto)]
 
+ghost use Rattle.map_edits.specs.CountedRows.{CountedRows};
 ghost use Rattle.map_edits.specs.Sessions.{Sessions};
 
 /// Worked sessions are what the definitions make of them.
 pub fn worked_sessions()
     ensures { Sessions }
+{}
+
+/// Worked sessions count, stamp and read as the definitions say.
+pub fn worked_counts()
+    ensures { CountedRows }
 {}
