@@ -12,3 +12,7 @@ pub mod Listed
 pub mod Dropped
 pub mod Evaluating
 pub mod Once
+pub mod Unchanged
+pub mod Summed
+pub mod Cuts
+pub mod Halves

@@ -25,3 +25,5 @@ pub mod Allowances
 pub mod CountedSessions
 pub mod SessionWords
 pub mod CountedRows
+pub mod CountLaws
+pub mod HalfLaws

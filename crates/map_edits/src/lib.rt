@@ -4,8 +4,12 @@
 //! `specs/EngineStates` evaluates each on whole grids. The engine is proved against these.
 #![tactic(auto)]
 
+mod laws;
+
 ghost use Rattle.map_edits.specs.CountedRows.{CountedRows};
 ghost use Rattle.map_edits.specs.Sessions.{Sessions};
+
+pub use laws::{allowance_law, depth_law, names_law, unchanged_law};
 
 /// Worked sessions are what the definitions make of them.
 pub fn worked_sessions()

@@ -1,0 +1,28 @@
+//! Laws of what an edit counts and may read.
+ghost use Rattle.map_edits.specs.CountLaws.{AcceptedReads, DepthIsPlace, FaultReads, NoneIsDeeper, OtherReads, UnchangedCountsNothing};
+ghost use Rattle.map_edits.specs.HalfLaws.{NamesAreAccepted};
+
+/// A statement that the edit did not write, with its operands' and its own cells as before, has no changed tile, no
+/// damage and no work.
+pub fn unchanged_law()
+    ensures { UnchangedCountsNothing }
+{}
+
+/// A sum over flat statements by depth is the sum over them in order of place.
+pub fn depth_law()
+    ensures { DepthIsPlace }
+{}
+
+/// What an accepted edit may read is told by its counts. One that is refused for a fault may read as much as if it had
+/// none, cut at the depth of the fault, and one that is refused otherwise nothing.
+pub fn allowance_law()
+    ensures accepted { AcceptedReads }
+    ensures fault { FaultReads }
+    ensures other { OtherReads }
+    ensures deepest { NoneIsDeeper }
+{}
+
+/// Where there are no procedures, an edit of the names does to them what the edit of the names alone does.
+pub fn names_law()
+    ensures { NamesAreAccepted }
+{}
