@@ -16,3 +16,7 @@ pub mod Unchanged
 pub mod Summed
 pub mod Cuts
 pub mod Halves
+pub mod Heads
+pub mod Groups
+pub mod GroupNeeds
+pub mod GroupEnds

@@ -27,3 +27,4 @@ pub mod SessionWords
 pub mod CountedRows
 pub mod CountLaws
 pub mod HalfLaws
+pub mod GroupLaws
