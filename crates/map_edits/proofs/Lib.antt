@@ -20,3 +20,7 @@ pub mod Heads
 pub mod Groups
 pub mod GroupNeeds
 pub mod GroupEnds
+pub mod GroupsKept
+pub mod GroupsListed
+pub mod LawfulEdits
+pub mod LawfulFaults

@@ -1,5 +1,6 @@
-//! Laws of what an edit counts and may read.
+//! Laws of edits: what each keeps, what it counts, and what it may read.
 ghost use Rattle.map_edits.specs.CountLaws.{AcceptedReads, DepthIsPlace, FaultReads, NoneIsDeeper, OtherReads, UnchangedCountsNothing};
+ghost use Rattle.map_edits.specs.GroupLaws.{LawfulStays, NoFaultStays};
 ghost use Rattle.map_edits.specs.HalfLaws.{NamesAreAccepted};
 
 /// A statement that the edit did not write, with its operands' and its own cells as before, has no changed tile, no
@@ -25,4 +26,11 @@ pub fn allowance_law()
 /// Where there are no procedures, an edit of the names does to them what the edit of the names alone does.
 pub fn names_law()
     ensures { NamesAreAccepted }
+{}
+
+/// What every accepted edit keeps: procedures are made one after another, the flat statements of a statement are rightly
+/// named, names stand apart, and there is no cycle. Where no layer has a fault, none has one after it.
+pub fn lawful_law()
+    ensures lawful { LawfulStays }
+    ensures faultless { NoFaultStays }
 {}
