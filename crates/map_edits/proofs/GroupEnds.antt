@@ -13,7 +13,7 @@ use Rattle.map_edits.proofs.Among.{same_name, bytes_eq-self, none_at, any_none}
 use Rattle.map_edits.proofs.Chains.{goes_on, chains_end, no_cycle_from_ends, reaches_up}
 use Rattle.map_edits.proofs.Kept.{ends_up}
 use Rattle.map_edits.proofs.Heads.{head_of, head_undotted, IsHeaded}
-use Rattle.map_edits.proofs.GroupNeeds.{in_among, EachFlat, IsNear}
+use Rattle.map_edits.proofs.GroupNeeds.{in_among, EachFlat, IsNear, plain_apart, apart_from}
 
 -- ---- each chain from a name ends
 
@@ -40,18 +40,6 @@ module _ (mid new : List Node) (n : Name) (fs : List Flat) (room : length fs + l
     (near : (m q : Name) → is_among q (needs_in new m) ≡ true → IsNear (head_of m) q)
     (own : EachFlat (λ f. needs_in new f.name ≡ needs_of f.op) fs)
     (met : AreMet [] fs) (there : (m : Name) → bytes_eq n (head_of m) ≡ true → (needs_in new m ≡ []) ⊎ IsIn m (flat_names fs)) (self : IsIn n (flat_names fs)) where
-  -- a name that isn't n, and has no dot or another front than n
-  apart_from : (m q : Name) → bytes_eq n (head_of m) ≡ false → IsNear (head_of m) q → bytes_eq q n ≡ false → bytes_eq n (head_of q) ≡ false
-  apart_from m q away (inl plain) differs = false_from_ne_true (bytes_eq n (head_of q)) (λ same.
-      let is : n ≡ q = same_name n (head_of q) same ∙ head_undotted q plain in
-      both_ways (bytes_eq q n) differs (ap (λ p. bytes_eq p n) (sym is) ∙ bytes_eq-self n))
-  apart_from m q away (inr head) differs = ap (bytes_eq n) head ∙ away
-
-  plain_apart : (q : Name) → has_dot q ≡ false → bytes_eq q n ≡ false → bytes_eq n (head_of q) ≡ false
-  plain_apart q plain differs = false_from_ne_true (bytes_eq n (head_of q)) (λ same.
-      let is : n ≡ q = same_name n (head_of q) same ∙ head_undotted q plain in
-      both_ways (bytes_eq q n) differs (ap (λ p. bytes_eq p n) (sym is) ∙ bytes_eq-self n))
-
   not_here : (j : ℕ) (m : Name) → reaches j new n m ≡ false → bytes_eq m n ≡ false
   not_here zero m e = e
   not_here (suc j) m e = (or_parts (bytes_eq m n) (list_any (reaches j new n) (needs_in new m)) e).0
@@ -64,7 +52,7 @@ module _ (mid new : List Node) (n : Name) (fs : List Flat) (room : length fs + l
       let later = (or_parts (bytes_eq m n) (list_any (reaches j new n) (needs_in new m)) r).1 in
       any_none (goes_on (suc k) new) (needs_in new m) (λ t a.
           let free : reaches j new n t ≡ false = none_at (reaches j new n) (needs_in new m) t a later in
-          as_before k j t (apart_from m t away (near m t a) (not_here j t free)) (none_at (goes_on (suc k) mid) (needs_in mid m) t (ap (is_among t) (sym (others m away)) ∙ a) e) (omega arith) free)
+          as_before k j t (apart_from n m t away (near m t a) (not_here j t free)) (none_at (goes_on (suc k) mid) (needs_in mid m) t (ap (is_among t) (sym (others m away)) ∙ a) e) (omega arith) free)
 
   -- ---- what n is made of
 
@@ -84,7 +72,7 @@ module _ (mid new : List Node) (n : Name) (fs : List Flat) (room : length fs + l
       go : (q : Name) → reaches (suc b) new n q ≡ false → IsMet known q → Ends new q
       go q clear (inl plain) =
           let differs : bytes_eq q n ≡ false = not_here (suc b) q clear in
-          (suc (length mid), as_before (length mid) (suc b) q (plain_apart q plain differs) (chains_end mid none q) (omega arith) clear)
+          (suc (length mid), as_before (length mid) (suc b) q (plain_apart n q plain differs) (chains_end mid none q) (omega arith) clear)
       go q clear (inr at) = each_at (EndsFree b) q known each at (or_parts (bytes_eq q n) (list_any (reaches b new n) (needs_in new q)) clear).1
 
   free_walk : (b : ℕ) (known : List Name) (gs : List Flat) → length mid ≤ b → EachFlat (λ f. needs_in new f.name ≡ needs_of f.op) gs → AreMet known gs → Each (EndsFree b) known
@@ -118,14 +106,14 @@ module _ (mid new : List Node) (n : Name) (fs : List Flat) (room : length fs + l
     where
       go : (q : Name) → is_among q (needs_in new m) ≡ true → (b : Bool) → bytes_eq q n ≡ b → (bytes_eq n (head_of q) ≡ false → goes_on k mid q ≡ false → Ends new q) → Ends new q
       go q a true same rest = subst (Ends new) (sym (same_name q n same)) own_ends
-      go q a false differs rest = rest (apart_from m q away (near m q a) differs) (none_at (goes_on k mid) (needs_in mid m) q (ap (is_among q) (sym (others m away)) ∙ a) e)
+      go q a false differs rest = rest (apart_from n m q away (near m q a) differs) (none_at (goes_on k mid) (needs_in mid m) q (ap (is_among q) (sym (others m away)) ∙ a) e)
 
   plain_ends : (q : Name) → has_dot q ≡ false → Ends new q
   plain_ends q plain = go (bytes_eq q n) refl
     where
       go : (b : Bool) → bytes_eq q n ≡ b → Ends new q
       go true same = subst (Ends new) (sym (same_name q n same)) own_ends
-      go false differs = other_ends (suc (length mid)) q (plain_apart q plain differs) (chains_end mid none q)
+      go false differs = other_ends (suc (length mid)) q (plain_apart n q plain differs) (chains_end mid none q)
 
   inner_ends : (known : List Name) (gs : List Flat) → EachFlat (λ f. needs_in new f.name ≡ needs_of f.op) gs → AreMet known gs → Each (Ends new) known → Each (Ends new) (after known gs)
   inner_ends known [] is needs each = each

@@ -1,6 +1,6 @@
 -- What the flat statements of a statement need.
 use Rattle.std.proofs.Common.{◌≡◌, ℕ, Bool, true, false, cond, ◌||◌, List, [], ◌∷◌, ◌++◌, map, find, Option, Some, None, option_map, bytes_eq, refl, sym, ap, subst, ◌∙◌, ◌⊎◌, inl, inr}
-use Rattle.std.proofs.lemmas.Bool.{true≢false, false≢true}
+use Rattle.std.proofs.lemmas.Bool.{true≢false, false≢true, both_ways, false_from_ne_true}
 use Rattle.map_defs.specs.Ops.{Name, Op, needs_of}
 use Rattle.map_defs.specs.Statements.{Flat}
 use Rattle.map_defs.specs.FlatNames.{IsIn, AreApart, Each, has_dot, IsMet, AreMet, AreFlats, flat_names}
@@ -11,7 +11,7 @@ use Rattle.map_edits.specs.Laws.{is_among}
 use Rattle.map_edits.specs.GroupLaws.{IsGroup}
 use Rattle.map_edits.proofs.Among.{same_name, bytes_eq-self}
 use Rattle.map_edits.proofs.Looks.{making_needs}
-use Rattle.map_edits.proofs.Heads.{head_of, IsHeaded, all_headed}
+use Rattle.map_edits.proofs.Heads.{head_of, head_undotted, IsHeaded, all_headed}
 use Rattle.map_edits.proofs.Groups.{def_layers}
 
 pub in_among : (m : Name) (ms : List Name) → is_among m ms ≡ true → IsIn m ms
@@ -95,3 +95,16 @@ pub group_near : (n : Name) (d : Def) (m q : Name) → IsUndotted n → IsGroup 
 group_near n (source grid) m q plain group a =
     absurd (false≢true (ap (is_among q) (sym (source_needs n m (record { name = n; making = given_grid grid }) (bytes_eq n m) refl)) ∙ a))
 group_near n (statement written flats) m q plain group a = found_near n flats m q (needs_near n [] flats tt (all_headed n flats plain group) group.met) a
+
+-- ---- names of other fronts
+
+-- a name without a dot that isn't n has another front
+pub plain_apart : (n q : Name) → has_dot q ≡ false → bytes_eq q n ≡ false → bytes_eq n (head_of q) ≡ false
+plain_apart n q plain differs = false_from_ne_true (bytes_eq n (head_of q)) (λ same.
+    let is : n ≡ q = same_name n (head_of q) same ∙ head_undotted q plain in
+    both_ways (bytes_eq q n) differs (ap (λ p. bytes_eq p n) (sym is) ∙ bytes_eq-self n))
+
+-- and so has what a name of another front needs
+pub apart_from : (n m q : Name) → bytes_eq n (head_of m) ≡ false → IsNear (head_of m) q → bytes_eq q n ≡ false → bytes_eq n (head_of q) ≡ false
+apart_from n m q away (inl plain) differs = plain_apart n q plain differs
+apart_from n m q away (inr head) differs = ap (bytes_eq n) head ∙ away

@@ -44,7 +44,7 @@ needs_by_head : (es : List Entry) (m : Name) → AreGroups es → IsApart es →
 needs_by_head es m groups apart = needs_in-layers (layers es) m ∙ ap making_needs (making_by_head es m groups apart)
 
 -- what is needed has no dot, or begins with the same name
-all_near : (es : List Entry) → AreGroups es → IsApart es → (m q : Name) → is_among q (needs_in (nodes_of es) m) ≡ true → IsNear (head_of m) q
+pub all_near : (es : List Entry) → AreGroups es → IsApart es → (m q : Name) → is_among q (needs_in (nodes_of es) m) ≡ true → IsNear (head_of m) q
 all_near es groups apart m q a = go (find_def es (head_of m)) refl (ap (is_among q) (sym (needs_by_head es m groups apart)) ∙ a)
   where
     go : (o : Option Def) → find_def es (head_of m) ≡ o → is_among q (making_needs (group_making m o)) ≡ true → IsNear (head_of m) q
@@ -59,7 +59,7 @@ module _ (es : List Entry) (n : Name) (groups : AreGroups es) (apart : IsApart e
       making_by_head (drop_entry es n) m (groups_drop es n groups) (apart_drop es n apart)
       ∙ ap (group_making m) (ap (find_def (drop_entry es n)) (sym (same_name n (head_of m) same)) ∙ find_drop es n)
 
-  making_stays : (m : Name) → bytes_eq n (head_of m) ≡ false → find_making (layers (drop_entry es n)) m ≡ find_making (layers es) m
+  pub making_stays : (m : Name) → bytes_eq n (head_of m) ≡ false → find_making (layers (drop_entry es n)) m ≡ find_making (layers es) m
   making_stays m differs =
       making_by_head (drop_entry es n) m (groups_drop es n groups) (apart_drop es n apart)
       ∙ ap (group_making m) (find_drop_other es n (head_of m) (bytes_eq-turned n (head_of m) differs)) ∙ sym (making_by_head es m groups apart)
@@ -97,6 +97,12 @@ module _ (es : List Entry) (n : Name) (d : Def) (groups : AreGroups es) (apart :
       needs_by_head (put_entry es n d) m (groups_put es n d groups plain group) (apart_put es n d apart)
       ∙ ap (λ o. making_needs (group_making m o)) (find_put_other es n d (head_of m) (bytes_eq-turned n (head_of m) differs))
       ∙ sym (needs_by_head es m groups apart) ∙ sym (needs_stay es n groups apart m differs)
+
+  -- a layer of another front is made as before
+  pub put_makings : (m : Name) → bytes_eq n (head_of m) ≡ false → find_making (layers (put_entry es n d)) m ≡ find_making (layers es) m
+  put_makings m differs =
+      making_by_head (put_entry es n d) m (groups_put es n d groups plain group) (apart_put es n d apart)
+      ∙ ap (group_making m) (find_put_other es n d (head_of m) (bytes_eq-turned n (head_of m) differs)) ∙ sym (making_by_head es m groups apart)
 
   put_own : (m : Name) → bytes_eq n (head_of m) ≡ true → needs_in (nodes_of (put_entry es n d)) m ≡ making_needs (find_making (def_layers n d) m)
   put_own m same =

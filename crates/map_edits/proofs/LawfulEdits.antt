@@ -1,5 +1,5 @@
 -- What each accepted edit keeps, though a statement may stand for several flat ones.
-use Rattle.std.proofs.Common.{◌≡◌, ℕ, ℤ, ◌+◌, Bool, true, false, cond, nat_lt, List, [], ◌∷◌, ◌++◌, length, count_by, Option, Some, None, is_some, Result, Ok, Err, refl, sym, ap, subst, ◌∙◌, if◌then◌else◌}
+use Rattle.std.proofs.Common.{◌≡◌, ℕ, ℤ, ◌+◌, Bool, true, false, cond, nat_lt, List, [], ◌∷◌, ◌++◌, length, count_by, Option, Some, None, is_some, bytes_eq, Result, Ok, Err, refl, sym, ap, subst, ◌∙◌, if◌then◌else◌}
 use Rattle.std.proofs.lemmas.Bool.{true≢false}
 use Rattle.map_nums.specs.Grids.{Grid, constant}
 use Rattle.map_defs.specs.Ops.{Name}
@@ -11,7 +11,7 @@ use Rattle.map_defs.specs.Calls.{wrong_call}
 use Rattle.map_defs.specs.Depths.{is_looped}
 use Rattle.map_defs.proofs.Naming.{expansion_naming}
 use Rattle.map_defs.proofs.Totals.{made_bodies, made_more}
-use Rattle.map_edits.specs.Entries.{Def, source, statement, Entry, find_def, put_entry, drop_entry, nodes_of}
+use Rattle.map_edits.specs.Entries.{Def, source, statement, Entry, find_def, put_entry, drop_entry, layers, find_making, nodes_of}
 use Rattle.map_edits.specs.EngineStates.{EngineState}
 use Rattle.map_edits.specs.Faults.{Fault, fault_of}
 use Rattle.map_edits.specs.Refusals.{Which, procedures, labels, symbols, Refusal, unknown, exists_already, beyond, sources}
@@ -20,7 +20,7 @@ use Rattle.map_edits.specs.Painting.{is_within, painted}
 use Rattle.map_edits.specs.EditForms.{Edit, load, new_layer, paint, define, drop_name, Rectangle}
 use Rattle.map_edits.specs.EntriesAfter.{same_size, add_source, paint_source, put_statement, entries_after}
 use Rattle.map_edits.specs.Edits.{with_entries}
-use Rattle.map_edits.specs.Laws.{HasNoCycle, IsApart}
+use Rattle.map_edits.specs.Laws.{HasNoCycle, IsApart, edited}
 use Rattle.map_edits.specs.Marks.{Mark, put_mark}
 use Rattle.map_edits.specs.WholeStates.{WholeState}
 use Rattle.map_edits.specs.WholeEdits.{WholeEdit, of_names, define_procedure, label, symbol}
@@ -31,8 +31,9 @@ use Rattle.map_edits.specs.Touches.{Touch, touch_of}
 use Rattle.map_edits.specs.GroupLaws.{AreGroups, IsLawful, IsPlainEdit, IsSaid, LawfulStays}
 use Rattle.map_edits.proofs.Accepted.{cond_err, cond_ok, bounded_is}
 use Rattle.map_edits.proofs.Puts.{apart_put, apart_drop}
+use Rattle.map_edits.proofs.Heads.{head_of}
 use Rattle.map_edits.proofs.Groups.{groups_put, groups_drop}
-use Rattle.map_edits.proofs.GroupsKept.{drop_keeps_none, source_keeps_none, statement_keeps_none}
+use Rattle.map_edits.proofs.GroupsKept.{making_stays, put_makings, drop_keeps_none, source_keeps_none, statement_keeps_none}
 
 -- entries of groups, apart, without a cycle
 pub record AreGood (es : List Entry) : Type 0 where
@@ -40,39 +41,50 @@ pub record AreGood (es : List Entry) : Type 0 where
   pub apart : IsApart es
   pub none_looped : HasNoCycle (nodes_of es)
 
+-- they are good, and each layer of another front than n is made as before
+pub record IsGoodChange (es : List Entry) (n : Name) (new : List Entry) : Type 0 where
+  pub good : AreGood new
+  pub makings : (m : Name) → bytes_eq n (head_of m) ≡ false → find_making (layers new) m ≡ find_making (layers es) m
+
 module _ (es new : List Entry) (n : Name) (good : AreGood es) (plain : IsUndotted n) where
-  source_good : (grid : Grid) (o : Result (List Entry) Refusal) → o ≡ Ok (put_entry es n (source grid)) → o ≡ Ok new → AreGood new
+  source_good : (grid : Grid) (o : Result (List Entry) Refusal) → o ≡ Ok (put_entry es n (source grid)) → o ≡ Ok new → IsGoodChange es n new
   source_good grid o is e =
       let both : Ok (put_entry es n (source grid)) ≡ Ok new = sym is ∙ e in
       let same : put_entry es n (source grid) ≡ new = cc in
-      subst AreGood same (record { groups = groups_put es n (source grid) good.groups plain tt; apart = apart_put es n (source grid) good.apart; none_looped = source_keeps_none es n good.groups good.apart good.none_looped plain grid })
+      subst (IsGoodChange es n) same (record {
+        good = record { groups = groups_put es n (source grid) good.groups plain tt; apart = apart_put es n (source grid) good.apart; none_looped = source_keeps_none es n good.groups good.apart good.none_looped plain grid };
+        makings = put_makings es n (source grid) good.groups good.apart plain tt;
+      })
 
-  added_good : (grid : Grid) → add_source es n grid ≡ Ok new → AreGood new
+  added_good : (grid : Grid) → add_source es n grid ≡ Ok new → IsGoodChange es n new
   added_good grid e = source_good grid (Ok (put_entry es n (source grid))) refl (cond_ok (nat_lt (count_by is_source es) most_sources) (beyond sources) (Ok (put_entry es n (source grid))) new e)
 
   module _ (ps : List Procedure) (made : AreMade ps) (written : Written) (names : Each IsUndotted (written_names written)) where
-    put_good : (o : Result (List Flat) WrongCall) → expansion_of ps n written ≡ o → put_statement es n written o ≡ Ok new → AreGood new
+    put_good : (o : Result (List Flat) WrongCall) → expansion_of ps n written ≡ o → put_statement es n written o ≡ Ok new → IsGoodChange es n new
     put_good (Err (not_defined p)) is e = absurd cc
     put_good (Err (wrong_count given wanted)) is e = absurd cc
     put_good (Ok flats) is e =
         let d : Def = statement written flats in
         let group = expansion_naming ps n written flats (made_bodies [] ps made) names is in
         let r = bounded_is n new (put_entry es n d) e in
-        subst AreGood (sym r.0) (record { groups = groups_put es n d good.groups plain group; apart = apart_put es n d good.apart; none_looped = statement_keeps_none es n good.groups good.apart good.none_looped plain written flats group r.1 })
+        subst (IsGoodChange es n) (sym r.0) (record {
+          good = record { groups = groups_put es n d good.groups plain group; apart = apart_put es n d good.apart; none_looped = statement_keeps_none es n good.groups good.apart good.none_looped plain written flats group r.1 };
+          makings = put_makings es n d good.groups good.apart plain group;
+        })
 
-    define_good : (o : Option Def) → define_with ps es n written o ≡ Ok new → AreGood new
+    define_good : (o : Option Def) → define_with ps es n written o ≡ Ok new → IsGoodChange es n new
     define_good (Some (source grid)) e = absurd cc
     define_good (Some (statement w flats)) e = put_good (expansion_of ps n written) refl e
     define_good None e = put_good (expansion_of ps n written) refl e
 
-paint_good : (s : EngineState) (new : List Entry) (n : Name) (r : Rectangle) (cell : Option ℤ) (o : Option Def) → AreGood s.entries → IsUndotted n → paint_source s n r cell o ≡ Ok new → AreGood new
+paint_good : (s : EngineState) (new : List Entry) (n : Name) (r : Rectangle) (cell : Option ℤ) (o : Option Def) → AreGood s.entries → IsUndotted n → paint_source s n r cell o ≡ Ok new → IsGoodChange s.entries n new
 paint_good s new n r cell None good plain e = absurd cc
 paint_good s new n r cell (Some (statement w flats)) good plain e = absurd cc
 paint_good s new n r cell (Some (source grid)) good plain e =
     let put : Result (List Entry) Refusal = Ok (put_entry s.entries n (source (painted s.size r cell grid))) in
     source_good s.entries new n good plain (painted s.size r cell grid) put refl (cond_ok (is_within s.size r) _ put new e)
 
-entries_good : (ps : List Procedure) (s : EngineState) (edit : Edit) (new : List Entry) → AreMade ps → AreGood s.entries → IsPlainEdit edit → entries_with ps s edit ≡ Ok new → AreGood new
+pub entries_good : (ps : List Procedure) (s : EngineState) (edit : Edit) (new : List Entry) → AreMade ps → AreGood s.entries → IsPlainEdit edit → entries_with ps s edit ≡ Ok new → IsGoodChange s.entries (edited edit) new
 entries_good ps s (load n grid) new made good plain e =
     let free = cond_err (is_some (find_def s.entries n)) _ (cond (same_size grid.size s.size) (add_source s.entries n grid) (Err _)) new e in
     added_good s.entries new n good plain grid (cond_ok (same_size grid.size s.size) _ (add_source s.entries n grid) new free.1)
@@ -82,7 +94,10 @@ entries_good ps s (define n written) new made good plain e = define_good s.entri
 entries_good ps s (drop_name n) new made good plain e =
     let is : Ok (drop_entry s.entries n) ≡ Ok new = cond_ok (is_some (find_def s.entries n)) _ (Ok (drop_entry s.entries n)) new e in
     let same : drop_entry s.entries n ≡ new = cc in
-    subst AreGood same (record { groups = groups_drop s.entries n good.groups; apart = apart_drop s.entries n good.apart; none_looped = drop_keeps_none s.entries n good.groups good.apart good.none_looped })
+    subst (IsGoodChange s.entries n) same (record {
+      good = record { groups = groups_drop s.entries n good.groups; apart = apart_drop s.entries n good.apart; none_looped = drop_keeps_none s.entries n good.groups good.apart good.none_looped };
+      makings = making_stays s.entries n good.groups good.apart;
+    })
 
 -- ---- the whole state
 
@@ -120,7 +135,7 @@ module _ (s t : WholeState) (l : IsLawful s) where
       let good = entries_good s.procedures s.names edit es l.made (good_of s l) plain is in
       let made : WholeState = record s { names = with_entries s.names es; labels = marks_after edit s.labels; symbols = marks_after edit s.symbols } in
       let same : made ≡ t = cc in
-      subst IsLawful same (lawful_by made l.made good)
+      subst IsLawful same (lawful_by made l.made good.good)
 
   procedure_lawful : (p : Procedure) (o : Option WrongCall) → find_procedure s.procedures p.name ≡ None → IsBody p.body → wrong_call s.procedures p.body ≡ o → with_procedure s p o ≡ Ok t → IsLawful t
   procedure_lawful p (Some (not_defined q)) new body is e = absurd cc

@@ -75,6 +75,6 @@ module _ (s t : WholeState) (l : IsLawful s) (none : fault_of s.names ≡ None) 
       as_counted t.names (ap (λ (u : WholeState). u.names) (sym (within_is 4096 (length (put_mark s.symbols n z (sign ∷ []))) symbols _ t r)))
 
 pub no_fault_stays : NoFaultStays
-no_fault_stays s e a l said none is =
+no_fault_stays s e a l none is =
     let r = done_is s e a is in
     subst (λ u. fault_of u ≡ None) r.names (untested s r.state l none e r.is r.faultless)

@@ -24,3 +24,4 @@ pub mod GroupsKept
 pub mod GroupsListed
 pub mod LawfulEdits
 pub mod LawfulFaults
+pub mod LawfulValues

@@ -47,4 +47,4 @@ LawfulStays = (s : WholeState) (e : WholeEdit) (a : Accepted) → IsLawful s →
 
 -- no accepted edit leaves a fault, though the rows of some have none
 abbrev pub NoFaultStays : Type 0
-NoFaultStays = (s : WholeState) (e : WholeEdit) (a : Accepted) → IsLawful s → IsSaid e → fault_of s.names ≡ None → accept_counted s e ≡ Ok a → fault_of a.state.names ≡ None
+NoFaultStays = (s : WholeState) (e : WholeEdit) (a : Accepted) → IsLawful s → fault_of s.names ≡ None → accept_counted s e ≡ Ok a → fault_of a.state.names ≡ None

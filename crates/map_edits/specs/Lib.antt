@@ -28,3 +28,4 @@ pub mod CountedRows
 pub mod CountLaws
 pub mod HalfLaws
 pub mod GroupLaws
+pub mod ValueLaws

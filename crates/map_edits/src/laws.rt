@@ -2,6 +2,7 @@
 ghost use Rattle.map_edits.specs.CountLaws.{AcceptedReads, DepthIsPlace, FaultReads, NoneIsDeeper, OtherReads, UnchangedCountsNothing};
 ghost use Rattle.map_edits.specs.GroupLaws.{LawfulStays, NoFaultStays};
 ghost use Rattle.map_edits.specs.HalfLaws.{NamesAreAccepted};
+ghost use Rattle.map_edits.specs.ValueLaws.{DefinedLacksNone, NoneIsLawful, OthersKeepValues, ValueIsMade};
 
 /// A statement that the edit did not write, with its operands' and its own cells as before, has no changed tile, no
 /// damage and no work.
@@ -31,6 +32,15 @@ pub fn names_law()
 /// What every accepted edit keeps: procedures are made one after another, the flat statements of a statement are rightly
 /// named, names stand apart, and there is no cycle. Where no layer has a fault, none has one after it.
 pub fn lawful_law()
+    ensures first { NoneIsLawful }
     ensures lawful { LawfulStays }
     ensures faultless { NoFaultStays }
+{}
+
+/// A layer's grid is made of those of its operands, and more steps change nothing. It has one exactly where it lacks no
+/// name. An edit changes the grids of the edited name's layers, and of those from which the name is reached.
+pub fn value_law()
+    ensures made { ValueIsMade }
+    ensures defined { DefinedLacksNone }
+    ensures others { OthersKeepValues }
 {}
