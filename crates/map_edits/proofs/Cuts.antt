@@ -1,5 +1,5 @@
 -- What a refused edit may read is what it might read if it had no fault, cut at a depth.
-use Rattle.std.proofs.Common.{◌≡◌, ℕ, ◌+◌, ◌*◌, ◌≤◌, Bool, true, false, cond, ◌&&◌, nat_le, List, [], ◌∷◌, length, filter, sum_by, Option, Some, None, Result, Ok, Err, refl, sym, ap, subst, ◌∙◌, arith, if◌then◌else◌}
+use Rattle.std.proofs.Common.{◌≡◌, ℕ, ◌≤◌, Bool, true, false, cond, nat_le, List, [], ◌∷◌, length, filter, sum_by, Option, Some, None, Result, Ok, Err, refl, sym, ap, subst, arith}
 use Rattle.std.proofs.lemmas.Bool.{false≢true, le-leb}
 use Rattle.std.proofs.lemmas.List.Sums.{sum_by-cons}
 use Rattle.map_defs.specs.Depths.{depth_in}
@@ -7,7 +7,6 @@ use Rattle.map_edits.specs.Entries.{LayerDef, layers, nodes_of}
 use Rattle.map_edits.specs.EngineStates.{EngineState}
 use Rattle.map_edits.specs.Faults.{Fault}
 use Rattle.map_edits.specs.Refusals.{Refusal}
-use Rattle.map_edits.specs.Laws.{HasNoCycle}
 use Rattle.map_edits.specs.WholeStates.{WholeState}
 use Rattle.map_edits.specs.WholeEdits.{WholeEdit}
 use Rattle.map_edits.specs.Attempts.{attempted}
@@ -40,7 +39,7 @@ pub none_is_deeper : NoneIsDeeper
 none_is_deeper t none =
     filter_all (λ (l : LayerDef). nat_le (depth_in (nodes_of t.entries) l.name) (length (layers t.entries)))
     (λ l. let deep = depth_in_le_nodes (nodes_of t.entries) none l.name in let same = length-nodes t.entries in
-        le-leb (depth_in (nodes_of t.entries) l.name) (length (layers t.entries)) (omega arith))
+    le-leb (depth_in (nodes_of t.entries) l.name) (length (layers t.entries)) (omega arith))
     (defined_layers t)
 
 within_self : (a : Reads) → IsWithin a a

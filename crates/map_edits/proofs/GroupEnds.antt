@@ -1,7 +1,7 @@
 -- A statement that is put brings no cycle where its own name isn't looped, though it stands for several flat ones.
-use Rattle.std.proofs.Common.{◌≡◌, ℕ, zero, suc, ◌+◌, ◌≤◌, Bool, true, false, ◌||◌, List, [], ◌∷◌, ◌++◌, map, length, Option, Some, None, bytes_eq, refl, sym, ap, subst, ◌∙◌, ◌⊎◌, inl, inr, arith}
+use Rattle.std.proofs.Common.{◌≡◌, ℕ, zero, suc, ◌+◌, ◌≤◌, Bool, true, false, ◌||◌, List, [], ◌∷◌, length, bytes_eq, refl, sym, ap, subst, ◌∙◌, ◌⊎◌, inl, inr, arith}
 use Rattle.std.specs.List.{list_any}
-use Rattle.std.proofs.lemmas.Bool.{true≢false, false≢true, both_ways, or_parts, or_left, or_right, false_from_ne_true, cases_lt}
+use Rattle.std.proofs.lemmas.Bool.{true≢false, both_ways, or_parts, or_left, or_right, false_from_ne_true}
 use Rattle.map_defs.specs.Ops.{Name, needs_of}
 use Rattle.map_defs.specs.Statements.{Flat}
 use Rattle.map_defs.specs.FlatNames.{IsIn, Each, has_dot, IsMet, AreMet, flat_names}
@@ -12,7 +12,7 @@ use Rattle.map_defs.proofs.FlatNames.{after, each_at, each_more}
 use Rattle.map_edits.proofs.Among.{same_name, bytes_eq-self, none_at, any_none}
 use Rattle.map_edits.proofs.Chains.{goes_on, chains_end, no_cycle_from_ends, reaches_up}
 use Rattle.map_edits.proofs.Kept.{ends_up}
-use Rattle.map_edits.proofs.Heads.{head_of, head_undotted, IsHeaded}
+use Rattle.map_edits.proofs.Heads.{head_of}
 use Rattle.map_edits.proofs.GroupNeeds.{in_among, EachFlat, IsNear, plain_apart, apart_from}
 
 -- ---- each chain from a name ends
@@ -51,8 +51,8 @@ module _ (mid new : List Node) (n : Name) (fs : List Flat) (room : length fs + l
   as_before (suc k) (suc j) m away e h r =
       let later = (or_parts (bytes_eq m n) (list_any (reaches j new n) (needs_in new m)) r).1 in
       any_none (goes_on (suc k) new) (needs_in new m) (λ t a.
-          let free : reaches j new n t ≡ false = none_at (reaches j new n) (needs_in new m) t a later in
-          as_before k j t (apart_from n m t away (near m t a) (not_here j t free)) (none_at (goes_on (suc k) mid) (needs_in mid m) t (ap (is_among t) (sym (others m away)) ∙ a) e) (omega arith) free)
+      let free : reaches j new n t ≡ false = none_at (reaches j new n) (needs_in new m) t a later in
+      as_before k j t (apart_from n m t away (near m t a) (not_here j t free)) (none_at (goes_on (suc k) mid) (needs_in mid m) t (ap (is_among t) (sym (others m away)) ∙ a) e) (omega arith) free)
 
   -- ---- what n is made of
 

@@ -1,12 +1,12 @@
 -- What the flat statements of a statement need.
-use Rattle.std.proofs.Common.{◌≡◌, ℕ, Bool, true, false, cond, ◌||◌, List, [], ◌∷◌, ◌++◌, map, find, Option, Some, None, option_map, bytes_eq, refl, sym, ap, subst, ◌∙◌, ◌⊎◌, inl, inr}
-use Rattle.std.proofs.lemmas.Bool.{true≢false, false≢true, both_ways, false_from_ne_true}
-use Rattle.map_defs.specs.Ops.{Name, Op, needs_of}
+use Rattle.std.proofs.Common.{◌≡◌, Bool, true, false, cond, ◌||◌, List, [], ◌∷◌, map, find, Some, None, option_map, bytes_eq, refl, sym, ap, subst, ◌∙◌, ◌⊎◌, inl, inr}
+use Rattle.std.proofs.lemmas.Bool.{false≢true, both_ways, false_from_ne_true}
+use Rattle.map_defs.specs.Ops.{Name, needs_of}
 use Rattle.map_defs.specs.Statements.{Flat}
-use Rattle.map_defs.specs.FlatNames.{IsIn, AreApart, Each, has_dot, IsMet, AreMet, AreFlats, flat_names}
+use Rattle.map_defs.specs.FlatNames.{IsIn, AreApart, Each, has_dot, IsMet, AreMet, flat_names}
 use Rattle.map_defs.specs.MadeProcedures.{IsUndotted}
 use Rattle.map_defs.proofs.FlatNames.{each_at, each_more}
-use Rattle.map_edits.specs.Entries.{Def, source, statement, Making, given_grid, by_op, LayerDef, flat_layer, find_making}
+use Rattle.map_edits.specs.Entries.{Def, source, statement, given_grid, by_op, LayerDef, flat_layer, find_making}
 use Rattle.map_edits.specs.Laws.{is_among}
 use Rattle.map_edits.specs.GroupLaws.{IsGroup}
 use Rattle.map_edits.proofs.Among.{same_name, bytes_eq-self}

@@ -1,17 +1,15 @@
 -- What is found by a name, where a statement may stand for several flat ones.
-use Rattle.std.proofs.Common.{◌≡◌, ℕ, ◌+◌, ◌≤◌, Bool, true, false, cond, not, List, [], ◌∷◌, ◌++◌, map, find, length, Option, Some, None, option_map, bytes_eq, refl, sym, ap, subst, ◌∙◌, arith, ◌⊎◌, inl, inr}
-use Rattle.std.proofs.lemmas.Bool.{true≢false, false≢true}
+use Rattle.std.proofs.Common.{◌≡◌, ◌+◌, ◌≤◌, Bool, true, false, cond, not, List, [], ◌∷◌, ◌++◌, map, find, length, Option, Some, None, option_map, bytes_eq, refl, sym, ap, subst, ◌∙◌, arith}
+use Rattle.std.proofs.lemmas.Bool.{true≢false}
 use Rattle.std.proofs.lemmas.List.{length-append}
-use Rattle.map_nums.specs.Grids.{Grid}
-use Rattle.map_defs.specs.Ops.{Name, Op, needs_of}
-use Rattle.map_defs.specs.Statements.{Flat, Written}
-use Rattle.map_defs.specs.FlatNames.{IsIn, AreApart, Each, flat_names}
+use Rattle.map_defs.specs.Ops.{Name}
+use Rattle.map_defs.specs.Statements.{Flat}
+use Rattle.map_defs.specs.FlatNames.{Each, flat_names}
 use Rattle.map_defs.specs.MadeProcedures.{IsUndotted}
-use Rattle.map_edits.specs.Entries.{Def, source, statement, Entry, find_def, put_entry, drop_entry, Making, given_grid, by_op, LayerDef, flat_layer, layers_of, layers, find_making}
+use Rattle.map_edits.specs.Entries.{Def, source, statement, Entry, find_def, put_entry, drop_entry, Making, given_grid, LayerDef, flat_layer, layers_of, layers, find_making}
 use Rattle.map_edits.specs.Laws.{IsApart}
 use Rattle.map_edits.specs.GroupLaws.{IsGroup, AreGroups}
 use Rattle.map_edits.proofs.Among.{same_name, bytes_eq-self}
-use Rattle.map_edits.proofs.Puts.{first_is_not}
 use Rattle.map_edits.proofs.Heads.{head_of, head_undotted, IsHeaded, all_headed}
 
 -- ---- lists of layers

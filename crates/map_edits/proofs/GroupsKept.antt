@@ -1,6 +1,6 @@
 -- Edits bring no cycle, though a statement may stand for several flat ones.
-use Rattle.std.proofs.Common.{◌≡◌, ℕ, suc, ◌+◌, ◌≤◌, Bool, true, false, cond, List, [], ◌∷◌, ◌++◌, map, find, length, Option, Some, None, option_map, bytes_eq, refl, sym, ap, subst, ◌∙◌, ◌⊎◌, inl, inr, arith}
-use Rattle.std.proofs.lemmas.Bool.{true≢false, false≢true}
+use Rattle.std.proofs.Common.{◌≡◌, Bool, true, false, cond, List, [], ◌∷◌, ◌++◌, map, find, Option, Some, None, option_map, bytes_eq, refl, sym, ap, subst, ◌∙◌, ◌⊎◌, inl, inr, arith}
+use Rattle.std.proofs.lemmas.Bool.{false≢true}
 use Rattle.std.proofs.lemmas.List.{length-map}
 use Rattle.std.proofs.lemmas.Option.{none-some}
 use Rattle.map_nums.specs.Grids.{Grid}
@@ -11,7 +11,7 @@ use Rattle.map_defs.specs.MadeProcedures.{IsUndotted}
 use Rattle.map_defs.specs.Nodes.{needs_in}
 use Rattle.map_defs.specs.Depths.{is_looped}
 use Rattle.map_defs.proofs.FlatNames.{each_at}
-use Rattle.map_edits.specs.Entries.{Def, source, statement, Entry, find_def, put_entry, drop_entry, Making, by_op, flat_layer, layers, find_making, nodes_of}
+use Rattle.map_edits.specs.Entries.{Def, source, statement, Entry, find_def, put_entry, drop_entry, by_op, flat_layer, layers, find_making, nodes_of}
 use Rattle.map_edits.specs.Laws.{is_among, HasNoCycle, IsApart}
 use Rattle.map_edits.specs.GroupLaws.{IsGroup, AreGroups}
 use Rattle.map_edits.proofs.Among.{same_name, bytes_eq-self, bytes_eq-turned}
@@ -20,7 +20,7 @@ use Rattle.map_edits.proofs.Puts.{find_put, find_put_other, find_drop, find_drop
 use Rattle.map_edits.proofs.Kept.{no_cycle_fewer}
 use Rattle.map_edits.proofs.Heads.{head_of, IsHeaded, all_headed}
 use Rattle.map_edits.proofs.Groups.{def_layers, group_making, making_by_head, groups_put, groups_drop, put_longer}
-use Rattle.map_edits.proofs.GroupNeeds.{EachFlat, flats_more, flats_made, named_or_none, IsNear, group_near}
+use Rattle.map_edits.proofs.GroupNeeds.{flats_more, flats_made, named_or_none, IsNear, group_near}
 use Rattle.map_edits.proofs.GroupEnds.{group_keeps_no_cycle}
 
 -- ---- one entry

@@ -1,12 +1,11 @@
 -- Each node is the one that is found by its name, though a statement may stand for several flat ones.
-use Rattle.std.proofs.Common.{◌≡◌, ℕ, Bool, true, false, cond, ◌&&◌, ◌==◌, List, [], ◌∷◌, ◌++◌, map, filter, find, length, Option, Some, None, is_some, option_map, bytes_eq, refl, sym, ap, subst, ◌∙◌}
+use Rattle.std.proofs.Common.{◌≡◌, Bool, true, false, ◌&&◌, ◌==◌, List, [], ◌∷◌, ◌++◌, map, filter, length, Some, None, is_some, option_map, bytes_eq, refl, sym, ap, ◌∙◌}
 use Rattle.std.specs.Bool.{⊤}
 use Rattle.std.specs.List.{range_with_len}
-use Rattle.std.proofs.lemmas.Bool.{true≢false, and_parts}
+use Rattle.std.proofs.lemmas.Bool.{and_parts}
 use Rattle.std.proofs.lemmas.Option.{none-some}
-use Rattle.map_defs.specs.Ops.{Name, needs_of}
+use Rattle.map_defs.specs.Ops.{Name}
 use Rattle.map_defs.specs.Statements.{Flat}
-use Rattle.map_defs.specs.FlatNames.{IsIn, AreApart, Each, flat_names}
 use Rattle.map_defs.specs.Nodes.{Node, find_node}
 use Rattle.map_defs.specs.Depths.{depth_in, by_depth}
 use Rattle.map_edits.specs.Entries.{Def, source, statement, Entry, find_def, Making, by_op, LayerDef, flat_layer, layers_of, layers, find_making, node_of_layer, nodes_of}

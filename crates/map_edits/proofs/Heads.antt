@@ -1,10 +1,10 @@
 -- The front of a name, before its first dot: that of a flat statement is its statement's name.
-use Rattle.std.proofs.Common.{◌≡◌, ℕ, Bool, true, false, cond, ◌||◌, ◌==◌, List, [], ◌∷◌, ◌++◌, map, find, Option, Some, None, option_map, bytes_eq, refl, sym, ap, subst, ◌∙◌, if◌then◌else◌}
-use Rattle.std.proofs.lemmas.Bool.{true≢false, false≢true}
-use Rattle.map_defs.specs.Ops.{Name, Op}
+use Rattle.std.proofs.Common.{◌≡◌, Bool, true, false, cond, ◌||◌, ◌==◌, List, [], ◌∷◌, ◌++◌, refl, sym, ap, subst, ◌∙◌, if◌then◌else◌}
+use Rattle.std.proofs.lemmas.Bool.{true≢false}
+use Rattle.map_defs.specs.Ops.{Name}
 use Rattle.map_defs.specs.Statements.{Flat}
 use Rattle.map_defs.specs.Expansion.{dotted}
-use Rattle.map_defs.specs.FlatNames.{IsIn, AreApart, Each, has_dot, IsInside, AreFlats, flat_names}
+use Rattle.map_defs.specs.FlatNames.{Each, has_dot, IsInside, AreFlats, flat_names}
 use Rattle.map_defs.specs.MadeProcedures.{IsUndotted}
 use Rattle.map_defs.proofs.FlatNames.{each_more, each_join}
 

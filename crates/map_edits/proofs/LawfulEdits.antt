@@ -1,5 +1,5 @@
 -- What each accepted edit keeps, though a statement may stand for several flat ones.
-use Rattle.std.proofs.Common.{◌≡◌, ℕ, ℤ, ◌+◌, Bool, true, false, cond, nat_lt, List, [], ◌∷◌, ◌++◌, length, count_by, Option, Some, None, is_some, bytes_eq, Result, Ok, Err, refl, sym, ap, subst, ◌∙◌, if◌then◌else◌}
+use Rattle.std.proofs.Common.{◌≡◌, ℕ, ℤ, ◌+◌, Bool, true, false, cond, nat_lt, List, [], ◌∷◌, length, count_by, Option, Some, None, is_some, bytes_eq, Result, Ok, Err, refl, sym, ap, subst, ◌∙◌}
 use Rattle.std.proofs.lemmas.Bool.{true≢false}
 use Rattle.map_nums.specs.Grids.{Grid, constant}
 use Rattle.map_defs.specs.Ops.{Name}
@@ -8,26 +8,25 @@ use Rattle.map_defs.specs.FlatNames.{Each}
 use Rattle.map_defs.specs.MadeProcedures.{IsUndotted, written_names, IsBody, AreMade}
 use Rattle.map_defs.specs.Expansion.{WrongCall, not_defined, wrong_count, find_procedure, expansion_of}
 use Rattle.map_defs.specs.Calls.{wrong_call}
-use Rattle.map_defs.specs.Depths.{is_looped}
 use Rattle.map_defs.proofs.Naming.{expansion_naming}
 use Rattle.map_defs.proofs.Totals.{made_bodies, made_more}
 use Rattle.map_edits.specs.Entries.{Def, source, statement, Entry, find_def, put_entry, drop_entry, layers, find_making, nodes_of}
 use Rattle.map_edits.specs.EngineStates.{EngineState}
-use Rattle.map_edits.specs.Faults.{Fault, fault_of}
+use Rattle.map_edits.specs.Faults.{Fault}
 use Rattle.map_edits.specs.Refusals.{Which, procedures, labels, symbols, Refusal, unknown, exists_already, beyond, sources}
 use Rattle.map_edits.specs.Limits.{most_sources, is_source}
 use Rattle.map_edits.specs.Painting.{is_within, painted}
 use Rattle.map_edits.specs.EditForms.{Edit, load, new_layer, paint, define, drop_name, Rectangle}
-use Rattle.map_edits.specs.EntriesAfter.{same_size, add_source, paint_source, put_statement, entries_after}
+use Rattle.map_edits.specs.EntriesAfter.{same_size, add_source, paint_source, put_statement}
 use Rattle.map_edits.specs.Edits.{with_entries}
 use Rattle.map_edits.specs.Laws.{HasNoCycle, IsApart, edited}
-use Rattle.map_edits.specs.Marks.{Mark, put_mark}
+use Rattle.map_edits.specs.Marks.{put_mark}
 use Rattle.map_edits.specs.WholeStates.{WholeState}
 use Rattle.map_edits.specs.WholeEdits.{WholeEdit, of_names, define_procedure, label, symbol}
 use Rattle.map_edits.specs.NamesAfter.{define_with, entries_with}
 use Rattle.map_edits.specs.Attempts.{unless_more, marks_after, with_names, with_procedure, with_labels, with_symbols, attempted}
 use Rattle.map_edits.specs.Counted.{Accepted, fault_after, done, unless_fault, of_attempt, accept_counted}
-use Rattle.map_edits.specs.Touches.{Touch, touch_of}
+use Rattle.map_edits.specs.Touches.{touch_of}
 use Rattle.map_edits.specs.GroupLaws.{AreGroups, IsLawful, IsPlainEdit, IsSaid, LawfulStays}
 use Rattle.map_edits.proofs.Accepted.{cond_err, cond_ok, bounded_is}
 use Rattle.map_edits.proofs.Puts.{apart_put, apart_drop}

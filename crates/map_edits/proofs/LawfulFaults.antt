@@ -1,5 +1,5 @@
 -- No accepted edit leaves a fault, though a statement may stand for several flat ones.
-use Rattle.std.proofs.Common.{◌≡◌, ℕ, ℤ, ◌+◌, Bool, true, false, cond, List, [], ◌∷◌, length, Option, Some, None, is_some, Result, Ok, Err, refl, sym, ap, subst, ◌∙◌, if◌then◌else◌}
+use Rattle.std.proofs.Common.{◌≡◌, ◌+◌, List, [], ◌∷◌, length, Option, Some, None, is_some, Result, Ok, Err, refl, sym, ap, subst, ◌∙◌}
 use Rattle.map_defs.specs.Ops.{Name}
 use Rattle.map_defs.specs.Statements.{Procedure}
 use Rattle.map_defs.specs.Expansion.{WrongCall, not_defined, wrong_count, find_procedure}
@@ -9,15 +9,14 @@ use Rattle.map_edits.specs.Entries.{Entry, find_def, drop_entry, layers, find_ma
 use Rattle.map_edits.specs.EngineStates.{EngineState, value_of}
 use Rattle.map_edits.specs.Faults.{fault_of_layer, fault_of}
 use Rattle.map_edits.specs.Refusals.{procedures, labels, symbols, Refusal, unknown, exists_already}
-use Rattle.map_edits.specs.EditForms.{Edit, load, new_layer, paint, define, drop_name}
+use Rattle.map_edits.specs.EditForms.{load, new_layer, paint, define, drop_name}
 use Rattle.map_edits.specs.EntriesAfter.{entries_after}
 use Rattle.map_edits.specs.Edits.{with_entries}
-use Rattle.map_edits.specs.Marks.{Mark, put_mark}
+use Rattle.map_edits.specs.Marks.{put_mark}
 use Rattle.map_edits.specs.WholeStates.{WholeState}
 use Rattle.map_edits.specs.WholeEdits.{WholeEdit, of_names, define_procedure, label, symbol}
-use Rattle.map_edits.specs.NamesAfter.{entries_with}
-use Rattle.map_edits.specs.Attempts.{counted, with_names, with_procedure, with_labels, with_symbols, attempted}
-use Rattle.map_edits.specs.Counted.{Accepted, fault_after}
+use Rattle.map_edits.specs.Attempts.{with_names, with_procedure, with_labels, with_symbols, attempted}
+use Rattle.map_edits.specs.Counted.{fault_after}
 use Rattle.map_edits.specs.GroupLaws.{IsLawful, NoFaultStays}
 use Rattle.map_edits.proofs.Listed.{each_more, IsListed}
 use Rattle.map_edits.proofs.Dropped.{IsLess, none_first, listed_faultless}

@@ -1,7 +1,6 @@
 -- An edit changes no value but those that read what it edits, though a statement may stand for several flat ones.
-use Rattle.std.proofs.Common.{◌≡◌, ℕ, Bool, true, false, cond, ◌||◌, ◌==◌, List, [], ◌∷◌, length, bytes_eq, Result, Ok, Err, refl, sym, ap, subst, ◌∙◌, ◌⊎◌, inl, inr}
+use Rattle.std.proofs.Common.{◌≡◌, Bool, true, false, cond, ◌==◌, List, [], ◌∷◌, length, bytes_eq, Result, Ok, Err, refl, sym, ap, subst, ◌∙◌, ◌⊎◌, inl, inr}
 use Rattle.std.proofs.lemmas.Bool.{true≢false, eqb-true}
-use Rattle.map_nums.specs.Grids.{Size}
 use Rattle.map_defs.specs.Ops.{Name}
 use Rattle.map_defs.specs.FlatNames.{IsInside}
 use Rattle.map_defs.specs.Nodes.{needs_in}

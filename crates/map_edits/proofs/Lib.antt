@@ -22,6 +22,7 @@ pub mod GroupNeeds
 pub mod GroupEnds
 pub mod GroupsKept
 pub mod GroupsListed
+pub mod GroupsOnce
 pub mod LawfulEdits
 pub mod LawfulFaults
 pub mod LawfulValues

@@ -123,7 +123,7 @@ module _ {X : Type 0} (f : X → ℕ) (flat : X → Bool) (rank : X → ℕ) whe
 
   pub sum_within : (k : ℕ) (xs : List X) → sum_by f (flat_map (λ d. filter (λ x. flat x && (rank x == d)) xs) (range_with_len 1 k)) ≡ sum_by f (filter (is_between k) xs)
   sum_within k xs =
-      sum_ranked xs 1 k ∙ sum_same (between 1 (1 + k)) (λ x. if is_between k x then f x else 0) xs 
+      sum_ranked xs 1 k ∙ sum_same (between 1 (1 + k)) (λ x. if is_between k x then f x else 0) xs
       (λ x. one_test (flat x) (nat_le 1 (rank x)) (nat_lt (rank x) (1 + k)) (f x) ∙ ap (λ b. if flat x && (nat_le 1 (rank x) && b) then f x else 0) (lt_le (rank x) k)) ∙ sym (sum_filter f (is_between k) xs)
 
 pub depth_is_place : DepthIsPlace

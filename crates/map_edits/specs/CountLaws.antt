@@ -28,11 +28,10 @@ abbrev pub UnchangedCountsNothing : Type 0
 UnchangedCountsNothing = (touch : Touch) (s t : EngineState) (n : Name) (op : Op) (w : Cells) → is_whole t.entries touch n ≡ false
     → operands_in s op ≡ operands_in t op → cells_of s n ≡ Some w → cells_of t n ≡ Some w → CountsNothing touch s t (record { name = n; making = by_op op })
 
--- the flat statements of depths 1 to k, by depth
+-- the flat statements of depths 1 to k, by depth, and the same in order of place
 abbrev pub flats_to : ℕ → List Node → List Node
 flats_to k nodes = flat_map (λ d. filter (λ (node : Node). is_some node.needs && (depth_in nodes node.name == d)) nodes) (range_with_len 1 k)
 
--- in order of place
 abbrev pub flats_within : ℕ → List Node → List Node
 flats_within k nodes = filter (λ (node : Node). is_some node.needs && (nat_le 1 (depth_in nodes node.name) && nat_le (depth_in nodes node.name) k)) nodes
 

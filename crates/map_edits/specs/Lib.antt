@@ -29,3 +29,4 @@ pub mod CountLaws
 pub mod HalfLaws
 pub mod GroupLaws
 pub mod ValueLaws
+pub mod ListingLaws

@@ -1,5 +1,5 @@
 -- The stamps after an edit.
-use Rattle.std.specs.Prelude.{ℕ, ◌==◌, List, [], map, slice_index_or, unwrap_or, if◌then◌else◌}
+use Rattle.std.specs.Prelude.{◌==◌, [], map, slice_index_or, unwrap_or, if◌then◌else◌}
 use Rattle.std.specs.List.{list_any}
 use Rattle.map_nums.specs.Tiles.{tiles}
 use Rattle.map_edits.specs.Entries.{LayerDef}

@@ -2,6 +2,7 @@
 ghost use Rattle.map_edits.specs.CountLaws.{AcceptedReads, DepthIsPlace, FaultReads, NoneIsDeeper, OtherReads, UnchangedCountsNothing};
 ghost use Rattle.map_edits.specs.GroupLaws.{LawfulStays, NoFaultStays};
 ghost use Rattle.map_edits.specs.HalfLaws.{NamesAreAccepted};
+ghost use Rattle.map_edits.specs.ListingLaws.{AllAreListed, AreListed};
 ghost use Rattle.map_edits.specs.ValueLaws.{DefinedLacksNone, NoneIsLawful, OthersKeepValues, ValueIsMade};
 
 /// A statement that the edit did not write, with its operands' and its own cells as before, has no changed tile, no
@@ -43,4 +44,10 @@ pub fn value_law()
     ensures made { ValueIsMade }
     ensures defined { DefinedLacksNone }
     ensures others { OthersKeepValues }
+{}
+
+/// By depth each flat statement of a lawful state stands once, after those that it needs.
+pub fn listing_law()
+    ensures listed { AreListed }
+    ensures all { AllAreListed }
 {}

@@ -9,7 +9,7 @@ mod laws;
 ghost use Rattle.map_edits.specs.CountedRows.{CountedRows};
 ghost use Rattle.map_edits.specs.Sessions.{Sessions};
 
-pub use laws::{allowance_law, depth_law, lawful_law, names_law, unchanged_law, value_law};
+pub use laws::{allowance_law, depth_law, lawful_law, listing_law, names_law, unchanged_law, value_law};
 
 /// Worked sessions are what the definitions make of them.
 pub fn worked_sessions()
