@@ -1,5 +1,5 @@
 -- No name stands twice, though a statement may stand for several flat ones.
-use Rattle.std.proofs.Common.{◌≡◌, Bool, true, false, cond, ◌||◌, List, [], ◌∷◌, ◌++◌, map, Option, Some, None, option_map, bytes_eq, refl, sym, ap, subst, ◌∙◌, inl, inr}
+use Rattle.std.proofs.Common.{◌≡◌, Bool, true, false, ◌||◌, List, [], ◌∷◌, map, None, option_map, bytes_eq, refl, sym, ap, subst, ◌∙◌, inl, inr}
 use Rattle.std.proofs.lemmas.Bool.{or_from}
 use Rattle.std.proofs.lemmas.List.{map-append}
 use Rattle.map_defs.specs.Ops.{Name}
@@ -7,8 +7,7 @@ use Rattle.map_defs.specs.Statements.{Flat}
 use Rattle.map_defs.specs.FlatNames.{IsIn, AreApart, Each, flat_names}
 use Rattle.map_defs.specs.MadeProcedures.{IsUndotted}
 use Rattle.map_defs.specs.Nodes.{Node}
-use Rattle.map_defs.specs.Depths.{by_depth}
-use Rattle.map_edits.specs.Entries.{Def, source, statement, Entry, find_def, LayerDef, flat_layer, layers_of, layers, node_of_layer, nodes_of}
+use Rattle.map_edits.specs.Entries.{Def, source, statement, Entry, find_def, flat_layer, layers_of, layers, node_of_layer, nodes_of}
 use Rattle.map_edits.specs.Laws.{is_named_in, IsApart}
 use Rattle.map_edits.specs.GroupLaws.{IsGroup, AreGroups}
 use Rattle.map_edits.specs.ListingLaws.{AreListed, AllAreListed}

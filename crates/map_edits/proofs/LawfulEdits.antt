@@ -25,6 +25,7 @@ use Rattle.map_edits.specs.WholeStates.{WholeState}
 use Rattle.map_edits.specs.WholeEdits.{WholeEdit, of_names, define_procedure, label, symbol}
 use Rattle.map_edits.specs.NamesAfter.{define_with, entries_with}
 use Rattle.map_edits.specs.Attempts.{unless_more, marks_after, with_names, with_procedure, with_labels, with_symbols, attempted}
+use Rattle.map_edits.specs.StampsAfter.{stamped}
 use Rattle.map_edits.specs.Counted.{Accepted, fault_after, done, unless_fault, of_attempt, accept_counted}
 use Rattle.map_edits.specs.Touches.{touch_of}
 use Rattle.map_edits.specs.GroupLaws.{AreGroups, IsLawful, IsPlainEdit, IsSaid, LawfulStays}
@@ -159,6 +160,7 @@ module _ (s t : WholeState) (l : IsLawful s) where
 pub record IsDone (s : WholeState) (e : WholeEdit) (a : Accepted) : Type 0 where
   pub state : WholeState
   pub is : attempted s e ≡ Ok state
+  pub whole : stamped s state ≡ a.state
   pub names : state.names ≡ a.state.names
   pub procedures : state.procedures ≡ a.state.procedures
   pub faultless : fault_after e state ≡ None
@@ -167,7 +169,7 @@ module _ (s : WholeState) (e : WholeEdit) (a : Accepted) where
   by_fault : (t : WholeState) (o : Option Fault) → attempted s e ≡ Ok t → fault_after e t ≡ o → unless_fault (touch_of e) s t o ≡ Ok a → IsDone s e a
   by_fault t None tried fault is =
       let same : done (touch_of e) s t ≡ a = cc in
-      record { state = t; is = tried; names = ap (λ (b : Accepted). b.state.names) same; procedures = ap (λ (b : Accepted). b.state.procedures) same; faultless = fault }
+      record { state = t; is = tried; whole = ap (λ (b : Accepted). b.state) same; names = ap (λ (b : Accepted). b.state.names) same; procedures = ap (λ (b : Accepted). b.state.procedures) same; faultless = fault }
   by_fault t (Some f) tried fault is = absurd cc
 
   by_attempt : (o : Result WholeState Refusal) → attempted s e ≡ o → of_attempt s e o ≡ Ok a → IsDone s e a

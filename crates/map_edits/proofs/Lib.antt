@@ -26,3 +26,4 @@ pub mod GroupsOnce
 pub mod LawfulEdits
 pub mod LawfulFaults
 pub mod LawfulValues
+pub mod Stamped

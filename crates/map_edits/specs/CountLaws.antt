@@ -19,7 +19,7 @@ use Rattle.map_edits.specs.Counted.{Accepted, accept_counted}
 use Rattle.map_edits.specs.Allowances.{Reads, no_reads, reads_for, layers_to, edit_reads}
 
 pub record CountsNothing (touch : Touch) (s t : EngineState) (l : LayerDef) : Type 0 where
-  pub changed : changed_of s t l ≡ []
+  pub changed : changed_of s t l.name ≡ []
   pub damage : damage_of touch s t l ≡ []
   pub work : work_of touch s t l ≡ 0
 

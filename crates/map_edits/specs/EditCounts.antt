@@ -17,7 +17,7 @@ defined_layers s = filter (λ (l : LayerDef). is_some (value_of s l.name)) (laye
 
 abbrev pub counts_over : Touch → EngineState → EngineState → List LayerDef → Counts
 counts_over touch s t ls = record {
-  changed = sum_by (λ (l : LayerDef). length (changed_of s t l)) ls;
+  changed = sum_by (λ (l : LayerDef). length (changed_of s t l.name)) ls;
   evaluated = sum_by (λ (l : LayerDef). length (damage_of touch s t l)) ls;
   worked = sum_by (λ (l : LayerDef). work_of touch s t l) ls;
 }

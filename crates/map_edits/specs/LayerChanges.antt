@@ -23,8 +23,8 @@ abbrev pub operands_in : EngineState → Op → List Cells
 operands_in s op = map (λ u. unwrap_or (term_cells s.size (value_of s) u) []) (terms_of op)
 
 -- the tiles of a layer that changed, whoever wrote it
-abbrev pub changed_of : EngineState → EngineState → LayerDef → List ℕ
-changed_of s t l = changed_tiles t.size (cells_of s l.name) (now_of t l.name)
+abbrev pub changed_of : EngineState → EngineState → Name → List ℕ
+changed_of s t n = changed_tiles t.size (cells_of s n) (now_of t n)
 
 abbrev pub damage_of : Touch → EngineState → EngineState → LayerDef → List ℕ
 damage_of touch s t l = of_making l.making

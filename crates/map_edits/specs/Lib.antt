@@ -30,3 +30,4 @@ pub mod HalfLaws
 pub mod GroupLaws
 pub mod ValueLaws
 pub mod ListingLaws
+pub mod StampLaws

@@ -3,6 +3,7 @@ ghost use Rattle.map_edits.specs.CountLaws.{AcceptedReads, DepthIsPlace, FaultRe
 ghost use Rattle.map_edits.specs.GroupLaws.{LawfulStays, NoFaultStays};
 ghost use Rattle.map_edits.specs.HalfLaws.{NamesAreAccepted};
 ghost use Rattle.map_edits.specs.ListingLaws.{AllAreListed, AreListed};
+ghost use Rattle.map_edits.specs.StampLaws.{StampsAreKept};
 ghost use Rattle.map_edits.specs.ValueLaws.{DefinedLacksNone, NoneIsLawful, OthersKeepValues, ValueIsMade};
 
 /// A statement that the edit did not write, with its operands' and its own cells as before, has no changed tile, no
@@ -50,4 +51,9 @@ pub fn value_law()
 pub fn listing_law()
     ensures listed { AreListed }
     ensures all { AllAreListed }
+{}
+
+/// A layer that is defined has its stamps, and no other has some.
+pub fn stamp_law()
+    ensures { StampsAreKept }
 {}

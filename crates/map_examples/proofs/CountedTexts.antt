@@ -1,12 +1,11 @@
 -- What sessions of edits and requests are replied, counts included.
-use Rattle.std.proofs.Common.{◌≡◌, ℕ, pos, negsuc, List, [], ◌∷◌, ◌++◌, replicate, Some, None, refl, codes}
+use Rattle.std.proofs.Common.{◌≡◌, ℕ, pos, negsuc, List, [], ◌∷◌, Some, None, refl, codes}
 use Rattle.std.specs.Fmt.{digits}
 use Rattle.map_nums.specs.Grids.{Cells}
-use Rattle.map_nums.specs.declared.Stat.TheVariants.{Sum, Product, Minimum, Maximum}
+use Rattle.map_nums.specs.declared.Stat.TheVariants.{Sum, Product, Minimum}
 use Rattle.map_nums.specs.Stats.{maximum_of, minimum_of}
 use Rattle.map_nums.specs.Tiles.{tiles_across, tiles_down, tiles_in, tile_top, tile_left, tile_of}
 use Rattle.map_defs.specs.Local.{local_grid}
-use Rattle.map_defs.specs.Zonal.{zonal_grid, zone_numbers}
 use Rattle.map_defs.specs.Drainage.{direction_grid, direction_at, winner_at}
 use Rattle.map_defs.specs.Flow.{flow_grid, flow_at, course_of, downstream_of}
 use Rattle.map_defs.specs.Sight.{sight_grid, sight_at, sees}
@@ -21,12 +20,11 @@ use Rattle.map_defs.specs.Tiles.{is_in_square}
 use Rattle.map_defs.specs.Differences.{changed_tiles}
 use Rattle.map_defs.specs.Damage.{op_damage}
 use Rattle.map_defs.specs.Work.{op_work}
-use Rattle.map_defs.specs.Ops.{layer_term, number_term, local_op, zonal_op, direction_op, flow_op, spread_op, sight_op, region_op}
-use Rattle.map_defs.specs.Statements.{call, plain}
-use Rattle.grid_text.specs.Printed.{grid_text}
+use Rattle.map_defs.specs.Ops.{layer_term, number_term, direction_op, flow_op, spread_op, sight_op, region_op}
+use Rattle.map_defs.specs.Statements.{call}
 use Rattle.map_edits.specs.EngineStates.{value_of}
 use Rattle.map_edits.specs.Faults.{fault_of}
-use Rattle.map_edits.specs.EditForms.{new_layer, drop_name, paint}
+use Rattle.map_edits.specs.EditForms.{new_layer, drop_name}
 use Rattle.map_edits.specs.WholeEdits.{of_names, define_procedure, label, symbol}
 use Rattle.map_edits.specs.Counted.{accept_counted}
 use Rattle.map_edits.specs.SessionWords.{with_number, twice, twice_of}
@@ -93,3 +91,10 @@ drains : played 3 3 (loads A (by 3 3) (nums (9 ∷ 4 ∷ 9 ∷ 9 ∷ 5 ∷ 4 ∷
     ≡ codes "ok 1 changed 1 evaluated 1 worked 0\nok 2 changed 1 evaluated 1 worked 0\nok 3 changed 1 evaluated 1 worked 18\nshow D 3 3\n305\n310\n211\nshow W 3 3\n161\n143\n111\n"
 unfolding digits direction_grid direction_at winner_at flow_grid flow_at course_of downstream_of tiles_across tiles_down tiles_in tile_top tile_left tile_of operate expansion_of lacks missing is_looped by_depth is_in_square changed_tiles op_damage op_work value_of fault_of accept_counted
 drains = refl
+
+-- labels stay over a rewriting, and go with a drop
+marks : played 1 1 (loads A (by 1 1) (nums (7 ∷ [])) ∷ writes B (with_number Sum A 1) ∷ does (label A (pos 7) (codes "low")) ∷ does (label B (pos 8) (codes "high")) ∷ does (label B (pos 8) (codes "higher")) ∷ writes B (with_number Product A 1)
+    ∷ writes B (with_number Sum A 1) ∷ asks (the_legend B) ∷ does (of_names (drop_name A)) ∷ asks (the_legend B) ∷ asks (the_stamps B) ∷ does (of_names (new_layer A (some 7))) ∷ asks (the_legend A) ∷ asks (the_legend B) ∷ [])
+    ≡ codes "ok 1 changed 1 evaluated 1 worked 0\nok 2 changed 1 evaluated 1 worked 0\nok 3 changed 0 evaluated 0 worked 0\nok 4 changed 0 evaluated 0 worked 0\nok 5 changed 0 evaluated 0 worked 0\nok 6 changed 1 evaluated 1 worked 0\nok 7 changed 1 evaluated 1 worked 0\nlegend B 1\n8 1 8 higher\nok 8 changed 0 evaluated 0 worked 0\nundefined B: A\nundefined B: A\nok 9 changed 2 evaluated 2 worked 0\nlegend A 1\n7 1 7\nlegend B 1\n8 1 8 higher\n"
+unfolding digits tiles_across tiles_down tiles_in tile_top tile_left tile_of local_grid operate expansion_of lacks missing is_looped by_depth is_in_square changed_tiles op_damage op_work value_of fault_of accept_counted
+marks = refl

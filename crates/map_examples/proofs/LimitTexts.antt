@@ -1,5 +1,5 @@
 -- How many names, procedures, labels and symbols there may be.
-use Rattle.std.proofs.Common.{◌≡◌, ℕ, pos, List, [], ◌∷◌, ◌++◌, map, length, Option, Some, None, Result, Ok, Err, refl, codes, decimal}
+use Rattle.std.proofs.Common.{◌≡◌, ℕ, pos, List, [], ◌∷◌, ◌++◌, map, Option, Some, None, Result, Ok, Err, refl, codes, decimal}
 use Rattle.std.specs.List.{range_with_len}
 use Rattle.std.specs.Fmt.{digits}
 use Rattle.map_nums.specs.Grids.{Grid}
@@ -14,7 +14,7 @@ use Rattle.map_edits.specs.Refusals.{Refusal, beyond, sources, statements, zonal
 use Rattle.map_edits.specs.EditForms.{new_layer, define}
 use Rattle.map_edits.specs.Marks.{Mark}
 use Rattle.map_edits.specs.WholeStates.{WholeState}
-use Rattle.map_edits.specs.WholeEdits.{WholeEdit, of_names, define_procedure, label, symbol}
+use Rattle.map_edits.specs.WholeEdits.{of_names, define_procedure, label, symbol}
 use Rattle.map_edits.specs.Attempts.{attempted}
 use Rattle.map_edits.specs.SessionWords.{with_number, twice, twice_of}
 use Rattle.map_examples.proofs.Scripts.{by, some}

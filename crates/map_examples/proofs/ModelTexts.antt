@@ -1,7 +1,6 @@
 -- Runs of a model file's lines.
-use Rattle.std.proofs.Common.{◌≡◌, ℕ, pos, List, [], ◌∷◌, ◌++◌, Some, None, refl, codes}
+use Rattle.std.proofs.Common.{◌≡◌, ℕ, pos, List, [], ◌∷◌, Some, None, refl, codes}
 use Rattle.std.specs.Fmt.{digits}
-use Rattle.map_nums.specs.Tiles.{tiles_in}
 use Rattle.map_defs.specs.Local.{local_grid}
 use Rattle.map_defs.specs.Operate.{operate}
 use Rattle.map_defs.specs.Expansion.{expansion_of}

@@ -2,7 +2,6 @@
 use Rattle.std.proofs.Common.{◌≡◌, ℕ, ◌+◌, ◌%◌, ◌==◌, pos, List, [], ◌∷◌, ◌++◌, map, flat_map, length, Some, None, refl, codes, decimal, if◌then◌else◌}
 use Rattle.std.specs.List.{range_with_len}
 use Rattle.std.specs.Fmt.{digits}
-use Rattle.map_nums.specs.Grids.{Cells, Grid}
 use Rattle.map_nums.specs.declared.Stat.TheVariants.{Maximum, Mean}
 use Rattle.map_nums.specs.Stats.{maximum_of, minimum_of}
 use Rattle.map_nums.specs.Tiles.{tiles_across, tiles_down, tiles_in, tile_top, tile_left, tile_of}

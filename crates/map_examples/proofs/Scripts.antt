@@ -1,10 +1,9 @@
 -- Sessions of edits and requests, as plain data, and what is replied.
-use Rattle.std.proofs.Common.{ℕ, ℤ, pos, false, List, [], ◌∷◌, ◌++◌, map, replicate, Option, Some, None, Result, Ok, Err, codes}
-use Rattle.map_nums.specs.Grids.{Size, Cells, Grid}
+use Rattle.std.proofs.Common.{ℕ, ℤ, pos, List, [], ◌∷◌, ◌++◌, map, Option, Some, Result, Ok, Err}
+use Rattle.map_nums.specs.Grids.{Size, Cells}
 use Rattle.map_defs.specs.Ops.{Name, Op}
 use Rattle.map_defs.specs.Statements.{Written, plain}
-use Rattle.grid_text.specs.declared.Header.{Header}
-use Rattle.map_edits.specs.EditForms.{load, new_layer, paint, define, drop_name}
+use Rattle.map_edits.specs.EditForms.{load, paint, define}
 use Rattle.map_edits.specs.Refusals.{Refusal}
 use Rattle.map_edits.specs.WholeStates.{WholeState, no_names}
 use Rattle.map_edits.specs.WholeEdits.{WholeEdit, of_names}

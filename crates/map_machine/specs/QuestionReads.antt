@@ -1,5 +1,5 @@
 -- How much the answer to a request may read; a blank line, a refused line and quit read nothing.
-use Rattle.std.specs.Prelude.{ℕ, ◌+◌, ◌*◌, ◌&&◌, is_some, if◌then◌else◌}
+use Rattle.std.specs.Prelude.{◌+◌, ◌*◌, ◌&&◌, is_some, if◌then◌else◌}
 use Rattle.map_nums.specs.Tiles.{tiles_in}
 use Rattle.map_defs.specs.Ops.{Name}
 use Rattle.map_edits.specs.EngineStates.{EngineState, value_of}
