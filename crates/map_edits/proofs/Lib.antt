@@ -27,3 +27,4 @@ pub mod LawfulEdits
 pub mod LawfulFaults
 pub mod LawfulValues
 pub mod Stamped
+pub mod Limited

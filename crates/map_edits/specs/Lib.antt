@@ -31,3 +31,4 @@ pub mod GroupLaws
 pub mod ValueLaws
 pub mod ListingLaws
 pub mod StampLaws
+pub mod LimitLaws

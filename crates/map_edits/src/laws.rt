@@ -2,6 +2,7 @@
 ghost use Rattle.map_edits.specs.CountLaws.{AcceptedReads, DepthIsPlace, FaultReads, NoneIsDeeper, OtherReads, UnchangedCountsNothing};
 ghost use Rattle.map_edits.specs.GroupLaws.{LawfulStays, NoFaultStays};
 ghost use Rattle.map_edits.specs.HalfLaws.{NamesAreAccepted};
+ghost use Rattle.map_edits.specs.LimitLaws.{FewStay};
 ghost use Rattle.map_edits.specs.ListingLaws.{AllAreListed, AreListed};
 ghost use Rattle.map_edits.specs.StampLaws.{StampsAreKept};
 ghost use Rattle.map_edits.specs.ValueLaws.{DefinedLacksNone, NoneIsLawful, OthersKeepValues, ValueIsMade};
@@ -56,4 +57,9 @@ pub fn listing_law()
 /// A layer that is defined has its stamps, and no other has some.
 pub fn stamp_law()
     ensures { StampsAreKept }
+{}
+
+/// Every accepted edit keeps the limits.
+pub fn limit_law()
+    ensures { FewStay }
 {}

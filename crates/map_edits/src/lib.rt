@@ -12,8 +12,8 @@ ghost use Rattle.map_edits.specs.CountedRows.{CountedRows};
 ghost use Rattle.map_edits.specs.Sessions.{Sessions};
 
 pub use laws::{
-    allowance_law, depth_law, lawful_law, listing_law, names_law, stamp_law, unchanged_law,
-    value_law,
+    allowance_law, depth_law, lawful_law, limit_law, listing_law, names_law, stamp_law,
+    unchanged_law, value_law,
 };
 
 /// Worked sessions are what the definitions make of them.
