@@ -17,11 +17,11 @@ use Rattle.map_edits.proofs.Agreeing.{put_keeps_values, drop_keeps_values}
 
 -- ---- an answer that isn't a refusal
 
-cond_err : (b : Bool) (r : Refusal) (o : Result (List Entry) Refusal) (es : List Entry) → cond b (Err r) o ≡ Ok es → (b ≡ false) × (o ≡ Ok es)
+pub cond_err : (b : Bool) (r : Refusal) (o : Result (List Entry) Refusal) (es : List Entry) → cond b (Err r) o ≡ Ok es → (b ≡ false) × (o ≡ Ok es)
 cond_err true r o es e = absurd cc
 cond_err false r o es e = (refl, e)
 
-cond_ok : (b : Bool) (r : Refusal) (o : Result (List Entry) Refusal) (es : List Entry) → cond b o (Err r) ≡ Ok es → o ≡ Ok es
+pub cond_ok : (b : Bool) (r : Refusal) (o : Result (List Entry) Refusal) (es : List Entry) → cond b o (Err r) ≡ Ok es → o ≡ Ok es
 cond_ok true r o es e = e
 cond_ok false r o es e = absurd cc
 
@@ -43,6 +43,16 @@ unfolding expansion_of
 plain_is_own n (statements.plain op) written flats e = let same : record { name = n; op = op } ∷ [] ≡ flats = cc in (op, sym same)
 plain_is_own n (statements.call p ts) written flats e = absurd cc
 
+-- a statement is within the limits, and not looped
+pub bounded_is : (n : Name) (new entries : List Entry) → bounded n entries ≡ Ok new → (new ≡ entries) × (is_looped (nodes_of entries) n ≡ false)
+bounded_is n new entries e =
+    let flats = cond_err (nat_lt most_flats (count_by is_flat (layers entries))) (beyond too_many) _ new e in
+    let zonal = cond_err (nat_lt most_zonals (count_by is_zonal (layers entries))) (beyond zonals) _ new flats.1 in
+    let looped = cond_err (is_looped (nodes_of entries) n) (cycle n) (Ok entries) new zonal.1 in
+    let is : Ok entries ≡ Ok new = looped.1 in
+    let same : new ≡ entries = cc in
+    (same, looped.0)
+
 module _ (es new : List Entry) (n : Name) (own : IsOwn es) where
   source_is_put : (grid : Grid) (o : Result (List Entry) Refusal) → o ≡ Ok (put_entry es n (source grid)) → o ≡ Ok new → IsChanged es n new
   source_is_put grid o is e =
@@ -53,20 +63,11 @@ module _ (es new : List Entry) (n : Name) (own : IsOwn es) where
   added_is : (grid : Grid) → add_source es n grid ≡ Ok new → IsChanged es n new
   added_is grid e = source_is_put grid (Ok (put_entry es n (source grid))) refl (cond_ok (nat_lt (count_by is_source es) most_sources) (beyond sources) (Ok (put_entry es n (source grid))) new e)
 
-  bounded_is : (entries : List Entry) → bounded n entries ≡ Ok new → (new ≡ entries) × (is_looped (nodes_of entries) n ≡ false)
-  bounded_is entries e =
-      let flats = cond_err (nat_lt most_flats (count_by is_flat (layers entries))) (beyond too_many) _ new e in
-      let zonal = cond_err (nat_lt most_zonals (count_by is_zonal (layers entries))) (beyond zonals) _ new flats.1 in
-      let looped = cond_err (is_looped (nodes_of entries) n) (cycle n) (Ok entries) new zonal.1 in
-      let is : Ok entries ≡ Ok new = looped.1 in
-      let same : new ≡ entries = cc in
-      (same, looped.0)
-
   put_is : (written : Written) (o : Result (List Flat) WrongCall) → ((flats : List Flat) → o ≡ Ok flats → IsOwnDef n (statement written flats)) → put_statement es n written o ≡ Ok new → IsChanged es n new
   put_is written (Err (not_defined p)) means e = absurd cc
   put_is written (Err (wrong_count given wanted)) means e = absurd cc
   put_is written (Ok flats) means e =
-      let r = bounded_is (put_entry es n (statement written flats)) e in
+      let r = bounded_is n new (put_entry es n (statement written flats)) e in
       inr (record { def = statement written flats; own = means flats refl; alone = ap (λ q. is_looped (nodes_of q) n) r.0 ∙ r.1; entries = r.0 })
 
   define_is : (written : Written) (o : Option Def) → define_entry es n written o ≡ Ok new → IsChanged es n new

@@ -59,14 +59,14 @@ reaches_settles (suc k) nodes n m e r =
     ap (λ b. b || list_any (reaches (suc k) nodes n) (needs_in nodes m)) parts.0 ∙ still
 
 module _ (nodes : List Node) (none : HasNoCycle nodes) (n : Name) where
-  abbrev IsFree : Name → Type 0
+  abbrev pub IsFree : Name → Type 0
   IsFree m = reaches (length nodes) nodes n m ≡ false
 
-  free_differs : (k : ℕ) (m : Name) → reaches k nodes n m ≡ false → bytes_eq m n ≡ false
+  pub free_differs : (k : ℕ) (m : Name) → reaches k nodes n m ≡ false → bytes_eq m n ≡ false
   free_differs zero m r = r
   free_differs (suc k) m r = (or_parts (bytes_eq m n) (list_any (reaches k nodes n) (needs_in nodes m)) r).0
 
-  free_needs : (m q : Name) → IsFree m → is_among q (needs_in nodes m) ≡ true → IsFree q
+  pub free_needs : (m q : Name) → IsFree m → is_among q (needs_in nodes m) ≡ true → IsFree q
   free_needs m q free a = none_at (reaches (length nodes) nodes n) (needs_in nodes m) q a (or_parts (bytes_eq m n) (list_any (reaches (length nodes) nodes n) (needs_in nodes m)) (reaches_settles (length nodes) nodes n m (chains_end nodes none m) free)).1
 
 module _ (s t : EngineState) (none_s : HasNoCycle (nodes_of s.entries)) (none_t : HasNoCycle (nodes_of t.entries)) (size : s.size ≡ t.size) (own : IsOwn s.entries) (n : Name) where

@@ -27,7 +27,7 @@ use Rattle.map_edits.proofs.Accepted.{accepted_is, drop_keeps}
 -- ---- operands that are there are the same
 
 -- either nothing, or what it was
-abbrev IsLess : {X : Type 0} → Option X → Option X → Type 0
+abbrev pub IsLess : {X : Type 0} → Option X → Option X → Type 0
 IsLess a b = (a ≡ None) ⊎ (a ≡ b)
 
 module _ (size : Size) (f g : Name → Option Grid) where
@@ -84,7 +84,7 @@ undefined_faultless s n e = ap (faulty v s.size n) e ∙ go (nat_lt most_viewers
     go true = refl
     go false = refl
 
-none_first : (f : Name → Option Fault) (xs : List Node) → Each (λ node. f node.name ≡ None) xs → first_some (map (λ (node : Node). f node.name) xs) ≡ None
+pub none_first : (f : Name → Option Fault) (xs : List Node) → Each (λ node. f node.name ≡ None) xs → first_some (map (λ (node : Node). f node.name) xs) ≡ None
 none_first f [] each = refl
 none_first f (x ∷ xs) each = ap (λ o. first_some (o ∷ map (λ (node : Node). f node.name) xs)) each.0 ∙ none_first f xs each.1
 
@@ -153,7 +153,7 @@ module _ (s t : EngineState) (none_s : HasNoCycle (nodes_of s.entries)) (none_t 
       go (inr same) = fault_by_value n (ap (viewers_of t) e ∙ viewers_same op same ∙ sym (ap (viewers_of s) d))
 
   -- a listed layer has no fault where none had before
-  listed_faultless : fault_of s ≡ None → (node : Node) → IsListed (nodes_of t.entries) node → fault_of_layer t node.name ≡ None
+  pub listed_faultless : fault_of s ≡ None → (node : Node) → IsListed (nodes_of t.entries) node → fault_of_layer t node.name ≡ None
   unfolding fault_of
   listed_faultless none node is = go (less node.name) (node.needs) refl
     where
@@ -193,7 +193,7 @@ drop_has_no_fault s t n size is well none =
 
 -- ---- every edit
 
-dropped_entries : (s t : EngineState) (n : Name) → entries_after s (drop_name n) ≡ Ok t.entries → t.entries ≡ drop_entry s.entries n
+pub dropped_entries : (s t : EngineState) (n : Name) → entries_after s (drop_name n) ≡ Ok t.entries → t.entries ≡ drop_entry s.entries n
 dropped_entries s t n e = go (is_some (find_def s.entries n)) e
   where
     go : (b : Bool) → cond b (Ok (drop_entry s.entries n)) (Err (unknown n)) ≡ Ok t.entries → t.entries ≡ drop_entry s.entries n

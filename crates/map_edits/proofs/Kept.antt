@@ -31,7 +31,7 @@ goes_on_down zero k nodes n h e = refl
 goes_on_down (suc j) zero nodes n h e = absurd (omega arith)
 goes_on_down (suc j) (suc k) nodes n h e = any_more (goes_on k nodes) (goes_on j nodes) (needs_in nodes n) (λ m. goes_on_down j k nodes m (omega arith)) e
 
-ends_up : (j k : ℕ) (nodes : List Node) (n : Name) → j ≤ k → goes_on j nodes n ≡ false → goes_on k nodes n ≡ false
+pub ends_up : (j k : ℕ) (nodes : List Node) (n : Name) → j ≤ k → goes_on j nodes n ≡ false → goes_on k nodes n ≡ false
 ends_up j k nodes n h e = false_from_ne_true (goes_on k nodes n) (λ g. both_ways (goes_on j nodes n) e (goes_on_down j k nodes n h g))
 
 reaches_not_here : (j : ℕ) (nodes : List Node) (n m : Name) → reaches j nodes n m ≡ false → bytes_eq m n ≡ false

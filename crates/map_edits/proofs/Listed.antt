@@ -27,7 +27,7 @@ pub each_append : (P : Node → Type 0) (xs ys : List Node) → Each P xs → Ea
 each_append P [] ys first rest = rest
 each_append P (x ∷ xs) ys first rest = (first.0, each_append P xs ys first.1 rest)
 
-each_filter : (P : Node → Type 0) (p : Node → Bool) (xs : List Node) → Each P xs → Each (λ x. P x × (p x ≡ true)) (filter p xs)
+pub each_filter : (P : Node → Type 0) (p : Node → Bool) (xs : List Node) → Each P xs → Each (λ x. P x × (p x ≡ true)) (filter p xs)
 each_filter P p [] each = tt
 each_filter P p (x ∷ xs) each = go (p x) refl (each_filter P p xs each.1)
   where
@@ -35,7 +35,7 @@ each_filter P p (x ∷ xs) each = go (p x) refl (each_filter P p xs each.1)
     go true h rest = ((each.0, h), rest)
     go false h rest = rest
 
-each_flat_map : (P : Node → Type 0) (f : ℕ → List Node) → ((d : ℕ) → Each P (f d)) → (ds : List ℕ) → Each P (flat_map f ds)
+pub each_flat_map : (P : Node → Type 0) (f : ℕ → List Node) → ((d : ℕ) → Each P (f d)) → (ds : List ℕ) → Each P (flat_map f ds)
 each_flat_map P f each [] = tt
 each_flat_map P f each (d ∷ ds) = each_append P (f d) (flat_map f ds) (each d) (each_flat_map P f each ds)
 
@@ -50,11 +50,11 @@ each_at P (x ∷ xs) each (suc k) node e = each_at P xs each.1 k node e
 
 -- ---- the nodes of entries
 
-abbrev IsFoundIn : List Node → Node → Type 0
+abbrev pub IsFoundIn : List Node → Node → Type 0
 IsFoundIn nodes node = find_node nodes node.name ≡ Some node
 
 -- what is found behind a node with a name of its own
-found_behind : (x : Node) (xs : List Node) → find_node xs x.name ≡ None → (node : Node) → IsFoundIn xs node → IsFoundIn (x ∷ xs) node
+pub found_behind : (x : Node) (xs : List Node) → find_node xs x.name ≡ None → (node : Node) → IsFoundIn xs node → IsFoundIn (x ∷ xs) node
 found_behind x xs alone node found = go (bytes_eq x.name node.name) refl
   where
     go : (b : Bool) → bytes_eq x.name node.name ≡ b → cond b (Some x) (find_node xs node.name) ≡ Some node
@@ -71,7 +71,7 @@ none_found (Some x) e = absurd (true≢false e)
 pub not_there : (es : List Entry) (n : Name) → IsOwn es → find_def es n ≡ None → find_node (nodes_of es) n ≡ None
 not_there es n own e = none_found (find_node (nodes_of es) n) (is_some-layers (layers es) n ∙ ap is_some (making_by_entry es n own ∙ ap def_making e))
 
-one_more : (x : Node) (xs : List Node) → find_node xs x.name ≡ None → Each (IsFoundIn xs) xs → Each (IsFoundIn (x ∷ xs)) (x ∷ xs)
+pub one_more : (x : Node) (xs : List Node) → find_node xs x.name ≡ None → Each (IsFoundIn xs) xs → Each (IsFoundIn (x ∷ xs)) (x ∷ xs)
 one_more x xs alone each = (found_first x xs, each_more (IsFoundIn xs) (IsFoundIn (x ∷ xs)) (found_behind x xs alone) xs each)
 
 found_parts : (a : Name) (d : Def) (es : List Entry) → IsOwnDef a d → find_node (nodes_of es) a ≡ None → Each (IsFoundIn (nodes_of es)) (nodes_of es)

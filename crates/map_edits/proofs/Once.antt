@@ -19,7 +19,7 @@ IsOnce (x ∷ xs) = (is_named_in x.name xs ≡ false) × IsOnce xs
 
 -- ---- nodes
 
-not_found : (xs : List Node) (n : Name) → find_node xs n ≡ None → is_named_in n xs ≡ false
+pub not_found : (xs : List Node) (n : Name) → find_node xs n ≡ None → is_named_in n xs ≡ false
 not_found [] n e = refl
 not_found (x ∷ xs) n e = go (bytes_eq x.name n) refl e (not_found xs n)
   where
@@ -56,7 +56,7 @@ once_filter p (x ∷ xs) once = go (p x) (once_filter p xs once.1)
     go true rest = (named_filter p x.name xs once.0, rest)
     go false rest = rest
 
-once_append : (xs ys : List Node) → IsOnce xs → IsOnce ys → Each (λ x. is_named_in x.name ys ≡ false) xs → IsOnce (xs ++ ys)
+pub once_append : (xs ys : List Node) → IsOnce xs → IsOnce ys → Each (λ x. is_named_in x.name ys ≡ false) xs → IsOnce (xs ++ ys)
 once_append [] ys first rest apart = rest
 once_append (x ∷ xs) ys first rest apart =
     (list_any-append (λ (y : Node). bytes_eq y.name x.name) xs ys ∙ or_from (is_named_in x.name xs) (is_named_in x.name ys) first.0 apart.0, once_append xs ys first.1 rest apart.1)
@@ -86,7 +86,7 @@ module _ (nodes : List Node) (once : IsOnce nodes) where
   unfolding by_depth
   by_depth_once = ranked_once 1 (length nodes)
 
-once_between : (node : Node) (after before : List Node) → IsOnce (before ++ node ∷ after) → (is_named_in node.name before ≡ false) × (is_named_in node.name after ≡ false)
+pub once_between : (node : Node) (after before : List Node) → IsOnce (before ++ node ∷ after) → (is_named_in node.name before ≡ false) × (is_named_in node.name after ≡ false)
 once_between node after [] once = (refl, once.0)
 once_between node after (b ∷ before) once =
     let rest = once_between node after before once.1 in

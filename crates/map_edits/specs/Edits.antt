@@ -5,7 +5,7 @@ use Rattle.map_edits.specs.Entries.{Entry}
 use Rattle.map_edits.specs.EngineStates.{EngineState}
 use Rattle.map_edits.specs.Faults.{Fault, fault_of}
 pub use Rattle.map_edits.specs.EditForms.{Rectangle, Edit, load, new_layer, paint, define, drop_name}
-pub use Rattle.map_edits.specs.Refusals.{Which, sources, statements, zonals, Refusal, unknown, is_derived, exists_already, wrong_size, beyond, cycle, fault, no_procedure, wrong_terms}
+pub use Rattle.map_edits.specs.Refusals.{Which, sources, statements, zonals, labels, symbols, procedures, Refusal, unknown, is_derived, exists_already, wrong_size, beyond, cycle, fault, no_procedure, wrong_terms}
 pub use Rattle.map_edits.specs.Limits.{most_sources, most_flats, most_zonals, is_source, is_flat, is_zonal}
 pub use Rattle.map_edits.specs.Painting.{is_within, holds, painted}
 pub use Rattle.map_edits.specs.EntriesAfter.{same_size, add_source, paint_source, bounded, put_statement, define_entry, entries_after}

@@ -1,5 +1,5 @@
 -- The state that the engine keeps of the map machine, and the grid of each layer. It keeps no grid of a statement.
-use Rattle.std.specs.Prelude.{ℕ, zero, suc, List, [], ◌∷◌, map, length, Option, Some, None, option_map}
+use Rattle.std.specs.Prelude.{ℕ, zero, suc, List, [], map, length, Option, Some, None, option_map}
 use Rattle.map_nums.specs.Grids.{Size, Cells, Grid, constant}
 pub use Rattle.map_nums.specs.Options.{all_some}
 use Rattle.map_defs.specs.Ops.{Name, Term, layer_term, number_term, terms_of}

@@ -1,5 +1,5 @@
 -- The first fault of a state: a defined statement with too many viewers, or with a value that no cell may hold.
-use Rattle.std.specs.Prelude.{ℕ, suc, ◌&&◌, nat_lt, List, [], ◌∷◌, map, position, Option, Some, None, is_some, if◌then◌else◌}
+use Rattle.std.specs.Prelude.{ℕ, suc, ◌&&◌, nat_lt, map, position, Option, Some, None, is_some, if◌then◌else◌}
 use Rattle.map_nums.specs.Grids.{Size, Cells, Grid, row_of, column_of}
 use Rattle.map_nums.specs.Answers.{is_wide}
 use Rattle.map_nums.specs.Options.{first_some}

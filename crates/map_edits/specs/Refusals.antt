@@ -8,6 +8,9 @@ pub data Which : Type 0 where
   sources : Which
   statements : Which
   zonals : Which
+  labels : Which
+  symbols : Which
+  procedures : Which
 
 pub data Refusal : Type 0 where
   unknown : Name → Refusal

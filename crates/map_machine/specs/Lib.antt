@@ -9,3 +9,12 @@ pub mod Loads
 pub mod Text
 pub mod Words
 pub mod Play
+pub mod CountedReplies
+pub mod Signs
+pub mod Displays
+pub mod Listing
+pub mod WholeAnswers
+pub mod QuestionReads
+pub mod ModelFiles
+pub mod SampleGrids
+pub mod SampleLines

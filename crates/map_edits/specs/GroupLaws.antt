@@ -1,0 +1,50 @@
+-- Laws of states in which a statement may stand for several flat ones.
+use Rattle.std.specs.Prelude.{◌≡◌, List, [], ◌∷◌, None, Ok, ⊤}
+use Rattle.map_defs.specs.Ops.{Name}
+use Rattle.map_defs.specs.FlatNames.{Each, IsInside, AreFlats}
+use Rattle.map_defs.specs.MadeProcedures.{IsUndotted, written_names, IsBody, AreMade}
+use Rattle.map_edits.specs.Entries.{Def, source, statement, Entry, nodes_of}
+use Rattle.map_edits.specs.Faults.{fault_of}
+use Rattle.map_edits.specs.EditForms.{Edit, load, new_layer, paint, define, drop_name}
+use Rattle.map_edits.specs.Laws.{HasNoCycle, IsApart}
+use Rattle.map_edits.specs.WholeStates.{WholeState}
+use Rattle.map_edits.specs.WholeEdits.{WholeEdit, of_names, define_procedure, label, symbol}
+use Rattle.map_edits.specs.Counted.{Accepted, accept_counted}
+
+-- a statement's own flat statement is the last, the others begin with its name and a dot, all differ, and each need with a dot is an earlier one
+abbrev pub IsGroup : Name → Def → Type 0
+IsGroup n (source grid) = ⊤
+IsGroup n (statement written flats) = AreFlats (IsInside n) n [] flats
+
+abbrev pub AreGroups : List Entry → Type 0
+AreGroups [] = ⊤
+AreGroups (e ∷ es) = IsUndotted e.name × IsGroup e.name e.def × AreGroups es
+
+-- what each accepted edit keeps
+pub record IsLawful (s : WholeState) : Type 0 where
+  pub made : AreMade s.procedures
+  pub groups : AreGroups s.names.entries
+  pub apart : IsApart s.names.entries
+  pub none_looped : HasNoCycle (nodes_of s.names.entries)
+
+-- names without a dot
+abbrev pub IsPlainEdit : Edit → Type 0
+IsPlainEdit (load n grid) = IsUndotted n
+IsPlainEdit (new_layer n cell) = IsUndotted n
+IsPlainEdit (paint n r cell) = IsUndotted n
+IsPlainEdit (define n written) = IsUndotted n × Each IsUndotted (written_names written)
+IsPlainEdit (drop_name n) = IsUndotted n
+
+-- what a line can say: names without a dot, and a procedure whose inner names are right
+abbrev pub IsSaid : WholeEdit → Type 0
+IsSaid (of_names edit) = IsPlainEdit edit
+IsSaid (define_procedure p) = IsBody p.body
+IsSaid (label n z text) = ⊤
+IsSaid (symbol n z sign) = ⊤
+
+abbrev pub LawfulStays : Type 0
+LawfulStays = (s : WholeState) (e : WholeEdit) (a : Accepted) → IsLawful s → IsSaid e → accept_counted s e ≡ Ok a → IsLawful a.state
+
+-- no accepted edit leaves a fault, though the rows of some have none
+abbrev pub NoFaultStays : Type 0
+NoFaultStays = (s : WholeState) (e : WholeEdit) (a : Accepted) → IsLawful s → fault_of s.names ≡ None → accept_counted s e ≡ Ok a → fault_of a.state.names ≡ None

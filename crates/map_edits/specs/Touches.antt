@@ -1,0 +1,47 @@
+-- What an edit touches: all that stands for a name, or a rectangle of a source.
+use Rattle.std.specs.Prelude.{ℕ, Bool, false, ◌&&◌, List, [], filter, bytes_eq, if◌then◌else◌}
+use Rattle.std.specs.List.{list_any}
+use Rattle.map_nums.specs.Grids.{Size}
+use Rattle.map_nums.specs.Tiles.{tiles}
+use Rattle.map_defs.specs.Ops.{Name}
+use Rattle.map_defs.specs.Differences.{tile_has}
+use Rattle.map_edits.specs.Entries.{Entry, LayerDef, layers_of}
+use Rattle.map_edits.specs.EditForms.{Rectangle, Edit, load, new_layer, paint, define, drop_name}
+use Rattle.map_edits.specs.Painting.{holds}
+use Rattle.map_edits.specs.WholeEdits.{WholeEdit, of_names, define_procedure, label, symbol}
+
+pub data Touch : Type 0 where
+  nothing : Touch
+  -- the source or the flat statements of a name
+  whole : Name → Touch
+  within : Name → Rectangle → Touch
+
+abbrev pub touch_of_names : Edit → Touch
+touch_of_names (load n grid) = whole n
+touch_of_names (new_layer n cell) = whole n
+touch_of_names (paint n r cell) = within n r
+touch_of_names (define n written) = whole n
+touch_of_names (drop_name n) = whole n
+
+-- an edit and its undoing touch the same; what isn't there afterwards doesn't count
+abbrev pub touch_of : WholeEdit → Touch
+touch_of (of_names edit) = touch_of_names edit
+touch_of (define_procedure p) = nothing
+touch_of (label n z text) = nothing
+touch_of (symbol n z sign) = nothing
+
+-- layer n is one of those that stand for name m
+abbrev pub stands_for : List Entry → Name → Name → Bool
+stands_for entries m n = list_any (λ (e : Entry). bytes_eq e.name m && list_any (λ (l : LayerDef). bytes_eq l.name n) (layers_of e)) entries
+
+-- all of layer n is touched
+abbrev pub is_whole : List Entry → Touch → Name → Bool
+is_whole entries (whole m) n = stands_for entries m n
+is_whole entries nothing n = false
+is_whole entries (within m r) n = false
+
+-- the tiles of source n that are touched
+abbrev pub source_damage : Size → Touch → Name → List ℕ
+source_damage size nothing n = []
+source_damage size (whole m) n = if bytes_eq m n then tiles size else []
+source_damage size (within m r) n = if bytes_eq m n then filter (tile_has size (holds size r)) (tiles size) else []
