@@ -4,6 +4,7 @@
 
 mod kernel;
 mod rings;
+mod roots;
 mod rows;
 mod values;
 

@@ -8,8 +8,9 @@ ghost use Rattle.incremental_ops.specs.declared.values.Shape.TheVariants.{Linkag
 ghost use Rattle.incremental_ops.specs.Shapes.{shape_cell, shape_of, linked, parted, leaning_of, slope_p_of, slope_q_of};
 
 use crate::rings::Ring;
+use crate::roots::root_of_squares;
 use layer_tiles::{Cell, Value};
-use map_nums::{VMAX, Wide, floor_root};
+use map_nums::{VMAX, Wide};
 
 /// An Incremental operation.
 #[derive(Clone, Copy, Debug, PartialEq, Eq)]
@@ -181,11 +182,13 @@ fn falling(slope: i64) -> i64
 /// The root of the slopes' squares, rounded down.
 #[tactic(auto, using(map_defs::proofs::Roots::floor_root_only))]
 fn gradient(p: i64, q: i64) -> u64
+    requires p_low { neg_ℤ (pos 17179869184) ≤ℤ p }
+    requires p_high { p ≤ℤ pos 17179869184 }
+    requires q_low { neg_ℤ (pos 17179869184) ≤ℤ q }
+    requires q_high { q ≤ℤ pos 17179869184 }
     ensures { result ≡ floor_root (nat_abs p * nat_abs p + nat_abs q * nat_abs q) }
 {
-    let down = p.unsigned_abs() as u128;
-    let right = q.unsigned_abs() as u128;
-    floor_root(down * down + right * right)
+    root_of_squares(p.unsigned_abs(), q.unsigned_abs())
 }
 
 /// The octant of an east and a north part.
