@@ -1,8 +1,9 @@
 //! A region that is reached place by place.
-ghost use Rattle.std.specs.Prelude.{◌≡◌, ◌<◌, ◌≤◌, ◌+◌, ◌*◌, ◌++◌, ◌∷◌, [], length, replicate, false, true, slice_set, slice_index_or, IfOk, OnOk, OnErr, IsSome, Some, ℤ};
+ghost use Rattle.std.specs.Prelude.{◌≡◌, ◌<◌, ◌≤◌, ◌+◌, ◌-◌, ◌*◌, ◌++◌, ◌∷◌, [], length, replicate, false, true, slice_set, slice_index_or, IfOk, OnOk, OnErr, IsSome, Some, ℤ};
 ghost use Rattle.map_nums.specs.Grids.{IsSize, cells_in, cell_at, row_of, gap};
 ghost use Rattle.layer_tiles.specs.Tallies.{RisesBy};
-ghost use Rattle.region_labels.specs.Flood.{is_marked, marks_in, reached, IsGrown, IsRowMarked, IsAllMarked, IsFlooded};
+ghost use Rattle.region_labels.specs.Flood.{is_marked, marks_in, reached, IsGrown, IsRowMarked, IsAllMarked, IsFlooded, IsJoined};
+ghost use Rattle.region_labels.specs.Touched.{IsMarkedFor};
 
 use layer_tiles::{Cell, Change, Extent, NoMemory, Tally};
 use std::alloc::Global;
@@ -181,7 +182,9 @@ pub fn reach_region<M: Tally>(
     requires some { IsSome value }
     ensures extent { flood.new.size ≡ flood.old.size }
     ensures ok { OnOk result ((z : ℤ) → value ≡ Some z → IsFlooded of.now.size of.now.cells z root flood.old.marks flood.new) }
-    ensures picks { RisesBy 0 (9 * length flood.new.found) (M.counts tally.old) (M.counts tally.new) }
+    ensures caused { (z : ℤ) → value ≡ Some z → IsMarkedFor (IsJoined of.now.size of.now.cells z root) flood.old.marks flood.new.marks }
+    ensures grows { marks_in flood.old.marks ≤ marks_in flood.new.marks }
+    ensures picks { RisesBy 0 (9 * (marks_in flood.new.marks - marks_in flood.old.marks)) (M.counts tally.old) (M.counts tally.new) }
 {
     flood.clear();
     flood.add(root)?;

@@ -6,6 +6,7 @@ ghost use Rattle.layer_tiles.specs.Tallies.{RisesBy};
 ghost use Rattle.tile_work.specs.Working.{IsSameWork, copies};
 ghost use Rattle.region_labels.specs.Flood.{is_marked, marks_in, Holds, IsJoined};
 ghost use Rattle.region_labels.specs.Touched.{IsMarkedFor, IsReachedFrom};
+ghost use Rattle.region_labels.specs.Copies.{IsCopiedAmong, CopiesWith};
 ghost use Rattle.region_labels.specs.Repairs.{IsLabelled, IsLabelStep, IsHandled, IsRowHandled, AreHandledRound};
 
 use crate::floods::{Flood, reach_region};
@@ -47,7 +48,9 @@ fn write_label<M: Tally>(
     ensures same { IsSameWork labels.old labels.new }
     ensures ok { OnOk result (IsLabelled found.now label labels.old.cells labels.new.cells) }
     ensures more { copies labels.old.copied ≤ copies labels.new.copied }
+    ensures copied { IsCopiedAmong labels.old.size found.now label labels.old.cells labels.old.copied labels.new.copied }
     ensures tally { OnOk result (RisesBy (copies labels.new.copied - copies labels.old.copied) (length found.now) (M.counts tally.old) (M.counts tally.new)) }
+    ensures wanted { OnErr result (RisesBy (copies labels.new.copied - copies labels.old.copied + 1) (length found.now) (M.counts tally.old) (M.counts tally.new)) }
 {
     for at in found {
         labels.put(*at, label, tally)?;
@@ -70,10 +73,13 @@ pub fn label_region<M: Tally>(
     ensures same { IsSameWork labels.old labels.new }
     ensures extent { flood.new.size ≡ flood.old.size }
     ensures ok { OnOk result (IsLabelStep of.now.size of.now.cells labels.old.cells flood.old.marks labels.new.cells flood.new.marks) }
-    ensures caused { OnOk result (IsMarkedFor (λ i. (z : ℤ) × IsJoined of.now.size of.now.cells z at i) flood.old.marks flood.new.marks) }
+    ensures caused { IsMarkedFor (λ i. (z : ℤ) × IsJoined of.now.size of.now.cells z at i) flood.old.marks flood.new.marks }
+    ensures grows { marks_in flood.old.marks ≤ marks_in flood.new.marks }
+    ensures copied { CopiesWith of.now.size of.now.cells labels.old.cells flood.old.marks labels.old.copied labels.new.copied }
     ensures handled { OnOk result (IsHandled of.now.cells flood.new.marks at) }
     ensures more { copies labels.old.copied ≤ copies labels.new.copied }
     ensures picks { OnOk result (RisesBy (copies labels.new.copied - copies labels.old.copied) (1 + 10 * (marks_in flood.new.marks - marks_in flood.old.marks)) (M.counts tally.old) (M.counts tally.new)) }
+    ensures wanted { OnErr result (RisesBy (copies labels.new.copied - copies labels.old.copied + 1) (1 + 10 * (marks_in flood.new.marks - marks_in flood.old.marks)) (M.counts tally.old) (M.counts tally.new)) }
 {
     let _extent = of.extent();
     if flood.has(at) {
@@ -106,10 +112,13 @@ fn label_row<M: Tally>(
     ensures same { IsSameWork labels.old labels.new }
     ensures extent { flood.new.size ≡ flood.old.size }
     ensures ok { OnOk result (IsLabelStep of.now.size of.now.cells labels.old.cells flood.old.marks labels.new.cells flood.new.marks) }
-    ensures caused { OnOk result (IsMarkedFor (IsReachedFrom of.now.size of.now.cells from) flood.old.marks flood.new.marks) }
+    ensures caused { IsMarkedFor (IsReachedFrom of.now.size of.now.cells from) flood.old.marks flood.new.marks }
+    ensures grows { marks_in flood.old.marks ≤ marks_in flood.new.marks }
+    ensures copied { CopiesWith of.now.size of.now.cells labels.old.cells flood.old.marks labels.old.copied labels.new.copied }
     ensures handled { OnOk result (IsRowHandled of.now.size of.now.cells from row flood.new.marks) }
     ensures more { copies labels.old.copied ≤ copies labels.new.copied }
     ensures picks { OnOk result (RisesBy (copies labels.new.copied - copies labels.old.copied) (3 + 10 * (marks_in flood.new.marks - marks_in flood.old.marks)) (M.counts tally.old) (M.counts tally.new)) }
+    ensures wanted { OnErr result (RisesBy (copies labels.new.copied - copies labels.old.copied + 1) (3 + 10 * (marks_in flood.new.marks - marks_in flood.old.marks)) (M.counts tally.old) (M.counts tally.new)) }
 {
     let columns = of.extent().columns();
     let column = from % columns;
@@ -136,10 +145,13 @@ pub fn label_round<M: Tally>(
     ensures same { IsSameWork labels.old labels.new }
     ensures extent { flood.new.size ≡ flood.old.size }
     ensures ok { OnOk result (IsLabelStep of.now.size of.now.cells labels.old.cells flood.old.marks labels.new.cells flood.new.marks) }
-    ensures caused { OnOk result (IsMarkedFor (IsReachedFrom of.now.size of.now.cells from) flood.old.marks flood.new.marks) }
+    ensures caused { IsMarkedFor (IsReachedFrom of.now.size of.now.cells from) flood.old.marks flood.new.marks }
+    ensures grows { marks_in flood.old.marks ≤ marks_in flood.new.marks }
+    ensures copied { CopiesWith of.now.size of.now.cells labels.old.cells flood.old.marks labels.old.copied labels.new.copied }
     ensures handled { OnOk result (AreHandledRound of.now.size of.now.cells flood.new.marks from) }
     ensures more { copies labels.old.copied ≤ copies labels.new.copied }
     ensures picks { OnOk result (RisesBy (copies labels.new.copied - copies labels.old.copied) (9 + 10 * (marks_in flood.new.marks - marks_in flood.old.marks)) (M.counts tally.old) (M.counts tally.new)) }
+    ensures wanted { OnErr result (RisesBy (copies labels.new.copied - copies labels.old.copied + 1) (9 + 10 * (marks_in flood.new.marks - marks_in flood.old.marks)) (M.counts tally.old) (M.counts tally.new)) }
 {
     let extent = of.extent();
     let row = from / extent.columns();

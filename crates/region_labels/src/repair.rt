@@ -12,6 +12,7 @@ ghost use Rattle.map_defs.specs.Work.{is_touched, first_work, op_work};
 ghost use Rattle.map_defs.specs.Ops.{Term, region_op};
 ghost use Rattle.region_labels.specs.Touched.{IsMarkedFor, IsTouchedBy};
 ghost use Rattle.region_labels.specs.Flood.{is_marked, marks_in, Holds};
+ghost use Rattle.region_labels.specs.Copies.{IsCopiedAt, IsCopiedWith, CopiesWith};
 ghost use Rattle.region_labels.specs.Repairs.{IsClearedAt, IsCleared, IsLabelStep, IsHandled, AreHandledRound, HoldsChanged, HoldsExactly, IsPickedBy, IsBaseFor, IsPatchFor};
 
 use crate::floods::Flood;
@@ -34,6 +35,8 @@ fn clear_label<M: Tally>(
     ensures ok { OnOk result (IsClearedAt of.now.cells at labels.old.cells labels.new.cells) }
     ensures more { copies labels.old.copied ≤ copies labels.new.copied }
     ensures picks { OnOk result (RisesBy (copies labels.new.copied - copies labels.old.copied) 2 (M.counts tally.old) (M.counts tally.new)) }
+    ensures copied { IsCopiedAt of.now.size of.now.cells at labels.old.cells labels.old.copied labels.new.copied }
+    ensures wanted { OnErr result (RisesBy (copies labels.new.copied - copies labels.old.copied + 1) 2 (M.counts tally.old) (M.counts tally.new)) }
 {
     if of.cell(at, tally).get().is_some() {
         return Ok(());
@@ -54,6 +57,9 @@ fn clear_labels<M: Tally>(
     ensures ok { OnOk result (IsCleared of.now.cells changed.now labels.old.cells labels.new.cells) }
     ensures more { copies labels.old.copied ≤ copies labels.new.copied }
     ensures picks { OnOk result (RisesBy (copies labels.new.copied - copies labels.old.copied) (2 * length changed.now) (M.counts tally.old) (M.counts tally.new)) }
+    ensures copied { IsCopiedWith of.now.size of.now.cells labels.old.cells labels.old.copied labels.new.copied }
+    ensures wanted { OnErr result (RisesBy (copies labels.new.copied - copies labels.old.copied + 1) (2 * length changed.now) (M.counts tally.old) (M.counts tally.new)) }
+    ensures some { OnErr result (0 < length changed.now) }
 {
     for at in changed {
         clear_label(of, *at, labels, tally)?;
@@ -77,9 +83,13 @@ fn label_rounds<M: Tally>(
     ensures extent { flood.new.size ≡ flood.old.size }
     ensures ok { OnOk result (IsLabelStep of.now.size of.now.cells labels.old.cells flood.old.marks labels.new.cells flood.new.marks) }
     ensures handled { OnOk result ((k : ℕ) → k < length changed.now → AreHandledRound of.now.size of.now.cells flood.new.marks (slice_index_or changed.now k 0)) }
-    ensures caused { OnOk result (IsMarkedFor (IsTouchedBy of.now.size of.now.cells changed.now) flood.old.marks flood.new.marks) }
+    ensures caused { IsMarkedFor (IsTouchedBy of.now.size of.now.cells changed.now) flood.old.marks flood.new.marks }
+    ensures grows { marks_in flood.old.marks ≤ marks_in flood.new.marks }
+    ensures copied { CopiesWith of.now.size of.now.cells labels.old.cells flood.old.marks labels.old.copied labels.new.copied }
     ensures more { copies labels.old.copied ≤ copies labels.new.copied }
     ensures picks { OnOk result (RisesBy (copies labels.new.copied - copies labels.old.copied) (9 * length changed.now + 10 * (marks_in flood.new.marks - marks_in flood.old.marks)) (M.counts tally.old) (M.counts tally.new)) }
+    ensures wanted { OnErr result (RisesBy (copies labels.new.copied - copies labels.old.copied + 1) (9 * length changed.now + 10 * (marks_in flood.new.marks - marks_in flood.old.marks)) (M.counts tally.old) (M.counts tally.new)) }
+    ensures some { OnErr result (0 < length changed.now) }
 {
     for at in changed {
         label_round(of, *at, flood, labels, tally)?;
@@ -101,9 +111,12 @@ fn label_all<M: Tally>(
     ensures extent { flood.new.size ≡ flood.old.size }
     ensures ok { OnOk result (IsLabelStep of.now.size of.now.cells labels.old.cells flood.old.marks labels.new.cells flood.new.marks) }
     ensures handled { OnOk result ((i : ℕ) → i < cells_in of.now.size → IsHandled of.now.cells flood.new.marks i) }
-    ensures caused { OnOk result (IsMarkedFor (λ i. IsSome (cell_at of.now.cells i)) flood.old.marks flood.new.marks) }
+    ensures caused { IsMarkedFor (λ i. IsSome (cell_at of.now.cells i)) flood.old.marks flood.new.marks }
+    ensures grows { marks_in flood.old.marks ≤ marks_in flood.new.marks }
+    ensures copied { CopiesWith of.now.size of.now.cells labels.old.cells flood.old.marks labels.old.copied labels.new.copied }
     ensures more { copies labels.old.copied ≤ copies labels.new.copied }
     ensures picks { OnOk result (RisesBy (copies labels.new.copied - copies labels.old.copied) (cells_in of.now.size + 10 * (marks_in flood.new.marks - marks_in flood.old.marks)) (M.counts tally.old) (M.counts tally.new)) }
+    ensures wanted { OnErr result (RisesBy (copies labels.new.copied - copies labels.old.copied + 1) (cells_in of.now.size + 10 * (marks_in flood.new.marks - marks_in flood.old.marks)) (M.counts tally.old) (M.counts tally.new)) }
 {
     for at in 0..of.extent().cells() {
         label_region(of, at, flood, labels, tally)?;
