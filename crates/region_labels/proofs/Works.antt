@@ -39,7 +39,7 @@ repaired_by s extent was now old changed la lb lc fa fb tiles n right all e size
     record {
       regions = subst (AreRegions s now) (sym is) regions;
       work = work_counted s now lc.cells regions fb.marks changed l.size l.whole handled
-              (λ i m. elim (caused i m) as (λ _. IsTouchedBy s now changed i) [ inl h ↦ absurd (both_ways (is_marked fa.marks i) (none i) h) | inr t ↦ t ])
+          (λ i m. elim (caused i m) as (λ _. IsTouchedBy s now changed i) [ inl h ↦ absurd (both_ways (is_marked fa.marks i) (none i) h) | inr t ↦ t ])
           ∙ ap (λ (xs : Cells). length (filter (is_touched s xs changed) (places s))) (sym is);
     }
 
@@ -50,7 +50,7 @@ same_test true b f h = sym (f refl)
 same_test false true f h = h refl
 same_test false false f h = refl
 
-label_some : (s : Size) (now : Cells) (i : ℕ) (label : Option ℤ) → (c : Option ℤ) → cell_at now i ≡ c → IsSome c → IsRegionLabel s now i label → is_some label ≡ true
+pub label_some : (s : Size) (now : Cells) (i : ℕ) (label : Option ℤ) → (c : Option ℤ) → cell_at now i ≡ c → IsSome c → IsRegionLabel s now i label → is_some label ≡ true
 label_some s now i label None e some r = absurd (both_ways false refl some)
 label_some s now i label (Some z) e some r = let P : Option ℤ → Type 0 = λ c. IsLabelOf s now i c label in let r' : IsLabelOf s now i (Some z) label = subst P e r in ap is_some r'.1
 

@@ -72,6 +72,10 @@ HoldsExactly s before tiles = (t : ℕ) → t < tiles_in s → IsSome (patch_get
 abbrev pub IsPickedBy : ℕ → TallyState → TallyState → Type 0
 IsPickedBy picks before after = after.picks ≤ before.picks + picks
 
+-- at most these more looks
+abbrev pub IsLookedBy : ℕ → TallyState → TallyState → Type 0
+IsLookedBy looks before after = after.looks ≤ before.looks + looks
+
 -- the operand was there, and the layer has its regions before
 abbrev pub IsBaseFor : ChangeState → Option LayerState → Type 0
 IsBaseFor of None = Unit {0}

@@ -1,19 +1,24 @@
 //! Region labels put right after a change.
-ghost use Rattle.std.specs.Prelude.{◌≡◌, ◌<◌, ◌≤◌, ◌+◌, ◌-◌, ◌*◌, ◌∷◌, length, OnOk, OnErr, IfOk, IfSome, IsSome, Some, None, false, replicate, ℕ, [], slice_index_or, filter};
+ghost use Rattle.std.specs.Prelude.{◌≡◌, ◌<◌, ◌≤◌, ◌+◌, ◌-◌, ◌*◌, ◌∷◌, length, OnOk, OnErr, IfOk, IfSome, IsSome, Some, None, false, replicate, ℕ, [], slice_index_or, filter, min};
 ghost use Rattle.std.specs.List.{All};
 ghost use Rattle.std.specs.Option.{option_copied};
-ghost use Rattle.map_nums.specs.Grids.{IsSize, cells_in, cell_at, places};
+ghost use Rattle.map_nums.specs.Grids.{IsSize, Cells, cells_in, cell_at, places};
 ghost use Rattle.map_defs.specs.Regions.{AreRegions};
 ghost use Rattle.layer_tiles.specs.Tallies.{RisesBy};
 ghost use Rattle.layer_tiles.specs.Changes.{cells_before};
 ghost use Rattle.layer_tiles.specs.Patches.{patched, HoldsAll};
 ghost use Rattle.tile_work.specs.Working.{IsSameWork, IsPatchTo, IsOld, before_of, base_of, copies};
+ghost use Rattle.map_defs.specs.Damage.{op_damage};
+ghost use Rattle.map_defs.specs.Differences.{differs, tile_has};
+ghost use Rattle.map_nums.specs.Tiles.{tiles};
+ghost use Rattle.layer_tiles.specs.Tiles.{tiles_in};
+ghost use Rattle.layer_tiles.specs.ChangeFacts.{HoldsNoUnchanged};
 ghost use Rattle.map_defs.specs.Work.{is_touched, first_work, op_work};
 ghost use Rattle.map_defs.specs.Ops.{Term, region_op};
 ghost use Rattle.region_labels.specs.Touched.{IsMarkedFor, IsTouchedBy};
 ghost use Rattle.region_labels.specs.Flood.{is_marked, marks_in, Holds};
 ghost use Rattle.region_labels.specs.Copies.{IsCopiedAt, IsCopiedWith, CopiesWith};
-ghost use Rattle.region_labels.specs.Repairs.{IsClearedAt, IsCleared, IsLabelStep, IsHandled, AreHandledRound, HoldsChanged, HoldsExactly, IsPickedBy, IsBaseFor, IsPatchFor};
+ghost use Rattle.region_labels.specs.Repairs.{IsClearedAt, IsCleared, IsLabelStep, IsHandled, AreHandledRound, HoldsChanged, HoldsExactly, IsPickedBy, IsLookedBy, IsBaseFor, IsPatchFor};
 
 use crate::floods::Flood;
 use crate::labels::{label_region, label_round};
@@ -132,16 +137,13 @@ pub struct Repair {
 }
 
 /// The labels of a map that had none.
-fn first_labels<M: Tally>(
-    alloc: Global,
-    of: &Change<'_>,
-    tally: &mut M,
-) -> Result<Repair, NoMemory>
+fn first_labels<M: Tally>(alloc: Global, of: &Change<'_>, tally: &mut M) -> Result<Repair, NoMemory>
     ensures size { IfOk result (λ r. r.patch.size ≡ of.now.size) }
     ensures regions { IfOk result (λ r. AreRegions of.now.size of.now.cells (patched of.now.size [] r.patch.tiles)) }
     ensures all { IfOk result (λ r. HoldsAll r.patch) }
     ensures worked { IfOk result (λ r. r.worked ≡ first_work of.now.size (patched of.now.size [] r.patch.tiles)) }
-    ensures picks { IfOk result (λ r. IsPickedBy (10 * r.worked) (M.counts tally.old) (M.counts tally.new)) }
+    ensures picks { (labels : Cells) → AreRegions of.now.size of.now.cells labels → IsPickedBy (10 * first_work of.now.size labels) (M.counts tally.old) (M.counts tally.new) }
+    ensures looks { IsLookedBy (2 * tiles_in of.now.size + 1) (M.counts tally.old) (M.counts tally.new) }
 {
     let extent = of.extent();
     let count = extent.cells();
@@ -170,7 +172,7 @@ fn repaired_labels<M: Tally>(
     ensures regions { IfOk result (λ r. AreRegions of.now.size of.now.cells (patched of.now.size base.now.cells r.patch.tiles)) }
     ensures exact { IfOk result (λ r. HoldsExactly of.now.size base.now.cells r.patch.tiles) }
     ensures worked { IfOk result (λ r. r.worked ≡ length changed.now + length (filter (is_touched of.now.size (patched of.now.size base.now.cells r.patch.tiles) changed.now) (places of.now.size))) }
-    ensures picks { IfOk result (λ r. IsPickedBy (11 * r.worked) (M.counts tally.old) (M.counts tally.new)) }
+    ensures bounds { (labels : Cells) → AreRegions of.now.size of.now.cells labels → RisesBy (2 * length (filter (tile_has of.now.size (differs base.now.cells labels)) (tiles of.now.size)) + min 1 (length changed.now)) (11 * length changed.now + 10 * length (filter (is_touched of.now.size labels changed.now) (places of.now.size))) (M.counts tally.old) (M.counts tally.new) }
 {
     let extent = of.extent();
     let _base = base.extent();
@@ -195,8 +197,10 @@ pub fn label_repair<M: Tally>(
     ensures regions { IfOk result (λ r. AreRegions of.now.size of.now.cells (patched of.now.size (base_of (before_of (option_copied base.entry))) r.patch.tiles)) }
     ensures exact { IfOk result (λ r. IsPatchFor of.now.size (option_copied base.entry) r.patch.tiles) }
     ensures worked { IfOk result (λ r. (t : Term) → r.worked ≡ op_work (region_op t) of.now.size (cells_before of.now ∷ []) (of.now.cells ∷ []) (before_of (option_copied base.entry)) (patched of.now.size (base_of (before_of (option_copied base.entry))) r.patch.tiles)) }
-    ensures picks { IfOk result (λ r. IsPickedBy (11 * r.worked) (M.counts tally.old) (M.counts tally.new)) }
+    ensures picks { (labels : Cells) → AreRegions of.now.size of.now.cells labels → (t : Term) → IsPickedBy (11 * op_work (region_op t) of.now.size (cells_before of.now ∷ []) (of.now.cells ∷ []) (before_of (option_copied base.entry)) labels) (M.counts tally.old) (M.counts tally.new) }
+    ensures looks { (labels : Cells) → AreRegions of.now.size of.now.cells labels → HoldsNoUnchanged of.now → (t : Term) → IsLookedBy (5 * length (op_damage (region_op t) of.now.size (cells_before of.now ∷ []) (of.now.cells ∷ []) (before_of (option_copied base.entry)) labels)) (M.counts tally.old) (M.counts tally.new) }
 {
+    let _kept = of.extent();
     match base {
         Some(layer) => repair_layer(alloc, layer, of, tally),
         None => first_labels(alloc, of, tally),
@@ -215,10 +219,11 @@ fn repair_layer<M: Tally>(
     ensures regions { IfOk result (λ r. AreRegions of.now.size of.now.cells (patched of.now.size base.now.cells r.patch.tiles)) }
     ensures exact { IfOk result (λ r. HoldsExactly of.now.size base.now.cells r.patch.tiles) }
     ensures worked { IfOk result (λ r. (t : Term) → r.worked ≡ op_work (region_op t) of.now.size (cells_before of.now ∷ []) (of.now.cells ∷ []) (Some base.now.cells) (patched of.now.size base.now.cells r.patch.tiles)) }
-    ensures picks { IfOk result (λ r. IsPickedBy (11 * r.worked) (M.counts tally.old) (M.counts tally.new)) }
+    ensures picks { (labels : Cells) → AreRegions of.now.size of.now.cells labels → (t : Term) → IsPickedBy (11 * op_work (region_op t) of.now.size (cells_before of.now ∷ []) (of.now.cells ∷ []) (Some base.now.cells) labels) (M.counts tally.old) (M.counts tally.new) }
+    ensures looks { (labels : Cells) → AreRegions of.now.size of.now.cells labels → HoldsNoUnchanged of.now → (t : Term) → IsLookedBy (5 * length (op_damage (region_op t) of.now.size (cells_before of.now ∷ []) (of.now.cells ∷ []) (Some base.now.cells) labels)) (M.counts tally.old) (M.counts tally.new) }
 {
     let _base = base.extent();
-    let _extent = of.extent();
+    let _kept = of.extent();
     let changed = changed_places(alloc, of, tally)?;
     repaired_labels(alloc, base, of, &changed, tally)
 }
