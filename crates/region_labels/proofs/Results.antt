@@ -1,0 +1,175 @@
+-- After all steps the labels are the regions.
+use Rattle.std.proofs.Common.{◌≡◌, ◌⊎◌, inl, inr, ℕ, zero, suc, ◌+◌, ◌<◌, ◌≤◌, Bool, true, false, List, [], ◌∷◌, length, get_or, take, map, replicate, Option, Some, None, IsSome, refl, sym, ◌∙◌, ap, subst, arith, ℤ}
+use Rattle.std.proofs.lemmas.Bool.{cases_lt, cases_Bool, cases_eq, both_ways, false_from_ne_true}
+use Rattle.std.proofs.lemmas.List.{get_or-replicate, length-replicate, get_or_past, get_or-set_same, get_or-set_other, length-set, ext_get_or}
+use Rattle.std.proofs.lemmas.List.FromFn.{get_or-map-range_with_len, length-map-range_with_len}
+use Rattle.std.specs.Prelude.{slice_set}
+use Rattle.map_nums.specs.Grids.{Size, Cells, cell_at, cells_in, places, is_neighbour}
+use Rattle.map_defs.specs.Cells.{same_cell}
+use Rattle.map_defs.specs.Regions.{Has, IsLabelOf, IsRegionLabel, AreRegions}
+use Rattle.map_defs.proofs.RegionCells.{same_is, same_so}
+use Rattle.layer_tiles.specs.Tiles.{Block}
+use Rattle.layer_tiles.specs.Patches.{patched}
+use Rattle.tile_work.specs.Working.{WorkState, IsSameWork, IsPatchTo, base_of, begun_cells}
+use Rattle.region_labels.specs.Flood.{is_marked, AreWhole, Holds, FloodState}
+use Rattle.region_labels.specs.Repairs.{IsLabelling, IsLabelStep, IsHandled, AreHandledRound, IsClearedAt, IsCleared, HoldsChanged}
+use Rattle.region_labels.proofs.Repairs.{label_kept}
+use Rattle.region_labels.proofs.Labelling.{take_holds, holds_take, take_last}
+
+-- before the first step
+pub no_marks : (n i : ℕ) → is_marked (replicate n false) i ≡ false
+no_marks n i = elim (cases_lt i n) as (λ _. is_marked (replicate n false) i ≡ false) [
+  | inl l ↦ get_or-replicate n i false false l
+  | inr l ↦ get_or_past (replicate n false) i false (omega (arith, l, length-replicate n false))
+]
+
+pub labelling_begun : (s : Size) (now labels : Cells) (n : ℕ) → n ≡ cells_in s → IsLabelling s now labels labels (replicate n false)
+labelling_begun s now labels n e = record {
+  size = length-replicate n false ∙ e;
+  whole = λ z i m. absurd (both_ways (is_marked (replicate n false) i) (no_marks n i) m);
+  right = λ i m. absurd (both_ways (is_marked (replicate n false) i) (no_marks n i) m);
+  other = λ i u. refl;
+}
+
+null_label : (s : Size) (now : Cells) (i : ℕ) (label : Option ℤ) → cell_at now i ≡ None → label ≡ None → IsRegionLabel s now i label
+null_label s now i label e n = let P : Option ℤ → Type 0 = λ c. IsLabelOf s now i c label in subst P (sym e) n
+
+null_was : (s : Size) (was : Cells) (i : ℕ) (label : Option ℤ) → cell_at was i ≡ None → IsRegionLabel s was i label → label ≡ None
+null_was s was i label e r = let P : Option ℤ → Type 0 = λ c. IsLabelOf s was i c label in subst P e r
+
+some_of : (c : Option ℤ) → (c ≡ None) ⊎ IsSome c
+some_of None = inl refl
+some_of (Some z) = inr refl
+
+none_some : (c : Option ℤ) → c ≡ None → IsSome c → ⊥
+none_some None e h = both_ways false refl h
+none_some (Some z) e h = cc
+
+-- a list has a place or not
+held_to : (found : List ℕ) (i n : ℕ) → n ≤ length found → Holds found i ⊎ ((k : ℕ) → k < n → get_or found k 0 ≡ i → ⊥)
+held_to found i zero l = inr (λ k m. absurd (omega (arith, m)))
+held_to found i (suc n) l = elim (held_to found i n (omega arith)) as (λ _. Holds found i ⊎ ((k : ℕ) → k < suc n → get_or found k 0 ≡ i → ⊥)) [
+  | inl h ↦ inl h
+  | inr h ↦ elim (cases_eq (get_or found n 0) i) as (λ _. Holds found i ⊎ ((k : ℕ) → k < suc n → get_or found k 0 ≡ i → ⊥)) [
+    | inl e ↦ inl (n, omega arith, e)
+    | inr e ↦ inr (λ k m q. elim (cases_lt k n) as (λ _. ⊥) [ inl p ↦ h k p q | inr p ↦ (let z : k ≡ n = omega (arith, m, p) in e (ap (λ j. get_or found j 0) (sym z) ∙ q)) ])
+  ]
+]
+
+is_held : (found : List ℕ) (i : ℕ) → Holds found i ⊎ (Holds found i → ⊥)
+is_held found i = elim (held_to found i (length found) (omega arith)) as (λ _. Holds found i ⊎ (Holds found i → ⊥)) [ inl h ↦ inl h | inr h ↦ inr (λ d. h d.0 d.1 d.2) ]
+
+-- ---- after a repair
+
+module _ (s : Size) (was now old cleared labels : Cells) (changed : List ℕ) (marks : List Bool) (right : AreRegions s was old) (all : HoldsChanged s was now changed) (clear : IsCleared now changed old cleared) (l : IsLabelling s now cleared labels marks) (handled : (k : ℕ) → k < length changed → AreHandledRound s now marks (get_or changed k 0)) where
+  handled_at : (c : ℕ) → Holds changed c → AreHandledRound s now marks c
+  handled_at c h = let P : ℕ → Type 0 = AreHandledRound s now marks in subst P h.2 (handled h.0 h.1)
+
+  -- the label is the one that stood there
+  kept_here : (i : ℕ) → is_marked marks i ≡ false → (Holds changed i → IsSome (cell_at now i)) → cell_at labels i ≡ cell_at old i
+  kept_here i u some = l.other i u ∙ clear.other i some
+
+  null_here : (i : ℕ) → i < cells_in s → is_marked marks i ≡ false → cell_at now i ≡ None → cell_at labels i ≡ None
+  null_here i m u e = elim (cases_Bool (same_cell (cell_at was i) (cell_at now i))) as (λ _. cell_at labels i ≡ None) [
+    | inl q ↦ (let same = same_is (cell_at was i) (cell_at now i) q in
+        let before : cell_at old i ≡ None = null_was s was i (cell_at old i) (same ∙ e) (right.each i m) in
+        elim (is_held changed i) as (λ _. cell_at labels i ≡ None) [
+          | inl h ↦ l.other i u ∙ clear.here i h e
+          | inr h ↦ kept_here i u (λ d. absurd (h d)) ∙ before
+        ])
+    | inr q ↦ l.other i u ∙ clear.here i (all i m (λ p. both_ways (same_cell (cell_at was i) (cell_at now i)) q (same_so (cell_at was i) (cell_at now i) p))) e
+  ]
+
+  pub label_now : (i : ℕ) → i < cells_in s → IsRegionLabel s now i (cell_at labels i)
+  label_now i m = elim (cases_Bool (is_marked marks i)) as (λ _. IsRegionLabel s now i (cell_at labels i)) [
+    | inl e ↦ l.right i e
+    | inr u ↦ elim (some_of (cell_at now i)) as (λ _. IsRegionLabel s now i (cell_at labels i)) [
+      | inl e ↦ null_label s now i (cell_at labels i) e (null_here i m u e)
+      | inr some ↦ (let P : Option ℤ → Type 0 = IsRegionLabel s now i in
+          subst P (sym (kept_here i u (λ _. some)))
+          (label_kept s was now marks l.whole (λ c k q. handled_at c (all c k q)) i (cell_at old i) m u (cell_at now i) refl some (right.each i m)))
+    ]
+  ]
+
+  pub regions_now : length labels ≡ cells_in s → AreRegions s now labels
+  regions_now n = record { full = n; each = label_now }
+
+-- ---- after the first labelling
+
+pub first_now : (s : Size) (now begun labels : Cells) (marks : List Bool) → ((i : ℕ) → i < cells_in s → cell_at begun i ≡ None) → IsLabelling s now begun labels marks → ((i : ℕ) → i < cells_in s → IsHandled now marks i) → length labels ≡ cells_in s → AreRegions s now labels
+first_now s now begun labels marks none l handled n = record {
+  full = n;
+  each = λ i m. elim (cases_Bool (is_marked marks i)) as (λ _. IsRegionLabel s now i (cell_at labels i)) [
+    | inl e ↦ l.right i e
+    | inr u ↦ elim (some_of (cell_at now i)) as (λ _. IsRegionLabel s now i (cell_at labels i)) [
+      | inl e ↦ null_label s now i (cell_at labels i) e (l.other i u ∙ none i m)
+      | inr some ↦ absurd (both_ways (is_marked marks i) u (handled i m some))
+    ]
+  ];
+}
+
+-- ---- clearing
+
+pub cleared_none : (now old : Cells) → IsCleared now [] old old
+cleared_none now old = record { count = refl; here = λ i h. absurd (omega (arith, h.1)); other = λ i h. refl }
+
+pub cleared_more : (now : Cells) (changed : List ℕ) (old cells new : Cells) (k at : ℕ) → k < length changed → at ≡ get_or changed k 0 → IsClearedAt now at cells new → IsCleared now (take k changed) old cells → IsCleared now (take (k + 1) changed) old new
+cleared_more now changed old cells new k at l e c h = record {
+  count = c.count ∙ h.count;
+  here = λ i d n. elim (take_holds changed k i l d) as (λ _. cell_at new i ≡ None) [
+    | inl q ↦ (let z : i ≡ at = q ∙ sym e in ap (cell_at new) z ∙ c.here (ap (cell_at now) (sym z) ∙ n))
+    | inr q ↦ elim (cases_eq i at) as (λ _. cell_at new i ≡ None) [
+      | inl z ↦ ap (cell_at new) z ∙ c.here (ap (cell_at now) (sym z) ∙ n)
+      | inr z ↦ c.other i (λ w. absurd (z w)) ∙ h.here i q n
+    ]
+  ];
+  other = λ i some. c.other i (λ w. some (let P : ℕ → Type 0 = Holds (take (k + 1) changed) in subst P (sym (w ∙ e)) (take_last changed k l))) ∙ h.other i (λ d. some (holds_take changed k i l d));
+}
+
+pub cleared_put : (now old new : Cells) (at : ℕ) → at < length old → new ≡ slice_set old at None → cell_at now at ≡ None → IsClearedAt now at old new
+cleared_put now old new at l e n = record {
+  count = ap length e ∙ length-set old at None;
+  here = λ _. rw (e) (get_or-set_same old at None None l);
+  other = λ i some. rw (e) (get_or-set_other old at i None None (λ q. none_some (cell_at now at) n (let P : ℕ → Type 0 = λ j. IsSome (cell_at now j) in subst P q (some q))));
+}
+
+pub cleared_kept : (now old : Cells) (at : ℕ) → IsSome (cell_at now at) → IsClearedAt now at old old
+cleared_kept now old at some = record { count = refl; here = λ n. absurd (none_some (cell_at now at) n some); other = λ i h. refl }
+
+-- ---- the layer that is worked on
+
+pub begun_same : (s : Size) (cells : Cells) → length cells ≡ cells_in s → begun_cells s (Some cells) ≡ cells
+unfolding begun_cells
+begun_same s cells n =
+    ext_get_or None (map (cell_at cells) (places s)) cells (length-map-range_with_len (cell_at cells) 0 (cells_in s) ∙ sym n)
+    (λ i l. let m : i < cells_in s = omega (arith, l, length-map-range_with_len (cell_at cells) 0 (cells_in s)) in get_or-map-range_with_len (cell_at cells) 0 (cells_in s) i i None m (omega arith))
+
+pub begun_null : (s : Size) (i : ℕ) → i < cells_in s → cell_at (begun_cells s None) i ≡ None
+unfolding begun_cells
+begun_null s i l = get_or-map-range_with_len (cell_at []) 0 (cells_in s) i i None l (omega arith)
+
+pub begun_count : (s : Size) (before : Option (List (Option ℤ))) → length (begun_cells s before) ≡ cells_in s
+unfolding begun_cells
+begun_count s before = length-map-range_with_len (cell_at (base_of before)) 0 (cells_in s)
+
+pub made : (s z : Size) (before : Option (List (Option ℤ))) (base cells : Cells) (tiles : List (ℕ × Block)) → z ≡ s → base_of before ≡ base → patched z (base_of before) tiles ≡ cells → patched s base tiles ≡ cells
+made s z before base cells tiles e f m = ap (λ (x : Size). patched x base tiles) (sym e) ∙ ap (λ (xs : Cells). patched z xs tiles) (sym f) ∙ m
+
+-- the patch of a first labelling
+pub first_made : (s extent : Size) (now : Cells) (la lb : WorkState) (fa fb : FloodState) (tiles : List (ℕ × Block)) (n : ℕ) → extent ≡ s → la.size ≡ extent → la.before ≡ None → la.cells ≡ begun_cells extent None → fa ≡ record { size = extent; marks = replicate n false; found = [] } → n ≡ cells_in extent → IsSameWork la lb → IsLabelStep s now la.cells fa.marks lb.cells fb.marks → ((i : ℕ) → i < cells_in s → IsHandled now fb.marks i) → IsPatchTo lb.size lb.before lb.cells tiles → AreRegions s now (patched s [] tiles)
+first_made s extent now la lb fa fb tiles n e size before cells flood count same step handled patch =
+    let c : la.cells ≡ begun_cells s None = cells ∙ ap (λ (z : Size). begun_cells z None) e in
+    let begun : IsLabelling s now la.cells la.cells fa.marks = subst (λ (f : FloodState). IsLabelling s now la.cells la.cells f.marks) (sym flood) (labelling_begun s now la.cells n (count ∙ ap cells_in e)) in
+    let regions : AreRegions s now lb.cells =
+    first_now s now la.cells lb.cells fb.marks (λ i l. ap (λ (xs : Cells). cell_at xs i) c ∙ begun_null s i l) (step.keeps la.cells begun) handled (same.count ∙ ap length c ∙ begun_count s None) in
+    subst (AreRegions s now) (sym (made s lb.size lb.before [] lb.cells tiles (same.size ∙ size ∙ e) (ap base_of (same.before ∙ before)) patch.makes)) regions
+
+-- the patch of a repair
+pub repaired_made : (s extent : Size) (was now old : Cells) (changed : List ℕ) (la lb lc : WorkState) (fa fb : FloodState) (tiles : List (ℕ × Block)) (n : ℕ) → AreRegions s was old → HoldsChanged s was now changed → extent ≡ s → la.size ≡ extent → la.before ≡ Some old → la.cells ≡ begun_cells extent (Some old) → fa ≡ record { size = extent; marks = replicate n false; found = [] } → n ≡ cells_in extent → IsSameWork la lb → IsCleared now changed la.cells lb.cells → IsSameWork lb lc → IsLabelStep s now lb.cells fa.marks lc.cells fb.marks → ((k : ℕ) → k < length changed → AreHandledRound s now fb.marks (get_or changed k 0)) → IsPatchTo lc.size lc.before lc.cells tiles → AreRegions s now (patched s old tiles)
+repaired_made s extent was now old changed la lb lc fa fb tiles n right all e size before cells flood count same clear same' step handled patch =
+    let c : la.cells ≡ old = cells ∙ ap (λ (z : Size). begun_cells z (Some old)) e ∙ begun_same s old right.full in
+    let begun : IsLabelling s now lb.cells lb.cells fa.marks = subst (λ (f : FloodState). IsLabelling s now lb.cells lb.cells f.marks) (sym flood) (labelling_begun s now lb.cells n (count ∙ ap cells_in e)) in
+    let clear' : IsCleared now changed old lb.cells = subst (λ (xs : Cells). IsCleared now changed xs lb.cells) c clear in
+    let regions : AreRegions s now lc.cells =
+    regions_now s was now old lb.cells lc.cells changed fb.marks right all clear' (step.keeps lb.cells begun) handled (same'.count ∙ same.count ∙ ap length c ∙ right.full) in
+    subst (AreRegions s now) (sym (made s lc.size lc.before old lc.cells tiles (same'.size ∙ same.size ∙ size ∙ e) (ap base_of (same'.before ∙ same.before ∙ before)) patch.makes)) regions

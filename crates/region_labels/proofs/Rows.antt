@@ -1,0 +1,86 @@
+-- Places by row and column, and what is reached round one of them.
+use Rattle.std.proofs.Common.{◌≡◌, ◌⊎◌, inl, inr, ℕ, suc, ◌+◌, ◌-◌, ◌*◌, ◌/◌, ◌%◌, ◌<◌, ◌≤◌, Bool, true, false, List, [], ◌∷◌, ◌++◌, length, get_or, min, Option, Some, None, IsSome, refl, sym, ◌∙◌, ap, subst, arith, ℤ}
+use Rattle.std.specs.Prelude.{slice_set}
+use Rattle.std.proofs.lemmas.Bool.{cases_lt, both_ways}
+use Rattle.std.proofs.lemmas.List.Sums.{sum_by-cons}
+use Rattle.std.proofs.lemmas.Nat.{div-mul-add, mod-mul-add, mul-add-lt, div-add-mod', div_below, mod_below}
+use Rattle.map_nums.specs.Grids.{Size, IsSize, Cells, cell_at, cells_in, row_of, column_of, gap, is_neighbour}
+use Rattle.map_defs.specs.Regions.{Has}
+use Rattle.region_labels.specs.Flood.{is_marked, one_if, marks_in, Holds, FloodState, reached, IsFlooding, IsFlooded, IsRound, IsRoundTo, IsGrown, IsRowMarked, IsRowPart, IsAllMarked, IsAllPart}
+use Rattle.region_labels.proofs.Walks.{near_is}
+use Rattle.region_labels.proofs.Flooding.{grown_then, grown_reached, reached_marked, flood_root}
+
+-- the place of a row and a column
+pub record IsPlace (s : Size) (row c j : ℕ) : Type 0 where
+  pub within : j < cells_in s
+  pub row_is : row_of s j ≡ row
+  pub column_is : column_of s j ≡ c
+
+in_grid : (s : Size) (row c : ℕ) → row < s.rows → c < s.columns → row * s.columns + c < cells_in s
+in_grid s row c r l = omega (arith, mul-add-lt row s.columns c s.rows r l)
+
+pub place_of : (s : Size) (row c columns : ℕ) → columns ≡ s.columns → row < s.rows → c < s.columns → IsPlace s row c (row * columns + c)
+place_of s row c columns e r l = rw (e) record { within = in_grid s row c r l; row_is = div-mul-add row s.columns c l; column_is = mod-mul-add row s.columns c l }
+
+pub only_place : (s : Size) (row c i j : ℕ) → IsPlace s row c j → row_of s i ≡ row → column_of s i ≡ c → i ≡ j
+only_place s row c i j p r q =
+    sym (div-add-mod' i s.columns) ∙ ap (λ n. n * s.columns + i % s.columns) (r ∙ sym p.row_is) ∙ ap (λ n. j / s.columns * s.columns + n) (q ∙ sym p.column_is) ∙ div-add-mod' j s.columns
+
+pub row_lt : (s : Size) (i : ℕ) → IsSize s → i < cells_in s → row_of s i < s.rows
+row_lt s i h l = div_below i s.columns s.rows h.some_column l
+
+pub column_lt : (s : Size) (i : ℕ) → IsSize s → column_of s i < s.columns
+column_lt s i h = mod_below i s.columns h.some_column
+
+-- ---- a step along a row
+
+module _ (s : Size) (cells : Cells) (value : Option ℤ) (from row c j : ℕ) (old f new : FloodState) (p : IsPlace s row c j) (rows : gap (row_of s from) row ≤ 1) (columns : gap (column_of s from) c ≤ 1) (size : length f.marks ≡ cells_in s) (is : new ≡ reached cells value j f) where
+  step_grown : IsGrown s cells value from f new
+  step_grown =
+      let P : FloodState → Type 0 = IsGrown s cells value from f in
+      subst P (sym is) (grown_reached s cells value from j f (rw (p.row_is) rows) (rw (p.column_is) columns) p.within size)
+
+  pub row_grown : IsGrown s cells value from old f → IsGrown s cells value from old new
+  row_grown g = grown_then s cells value from old f new g step_grown
+
+  pub row_near : IsRowPart s cells value from row c f.marks → IsRowPart s cells value from row (c + 1) new.marks
+  row_near near i l r q e k = elim (cases_lt (column_of s i) c) as (λ _. is_marked new.marks i ≡ true) [
+    | inl m ↦ step_grown.marked i (near i l r q e m)
+    | inr m ↦ (let same : i ≡ j = only_place s row c i j p r (omega (arith, k, m)) in
+        let here : is_marked new.marks j ≡ true = rw (is) (reached_marked cells value j f (omega (arith, p.within, size)) (ap (cell_at cells) (sym same) ∙ e)) in
+        ap (is_marked new.marks) same ∙ here)
+  ]
+
+-- ---- a region
+
+pub marks_most : (marks : List Bool) → marks_in marks ≤ length marks
+marks_most [] = omega arith
+marks_most (true ∷ marks) = omega (arith, marks_most marks, sum_by-cons one_if true marks)
+marks_most (false ∷ marks) = omega (arith, marks_most marks, sum_by-cons one_if false marks)
+
+-- no more places are found than there are
+pub few_found : (s : Size) (cells : Cells) (z : ℤ) (root : ℕ) (before : List Bool) (f : FloodState) → IsFlooding s cells z root before f → length f.found ≤ cells_in s
+few_found s cells z root before f h = omega (arith, h.counted, h.size, marks_most f.marks)
+
+pub some_value : (v : Option ℤ) → IsSome v → (z : ℤ) × (v ≡ Some z)
+some_value None h = absurd (both_ways false refl h)
+some_value (Some z) h = (z, refl)
+
+-- one more place has no further neighbour
+pub round_next : (s : Size) (cells : Cells) (z : ℤ) (value : Option ℤ) (head from : ℕ) (f new : FloodState) → value ≡ Some z → head < length f.found → from ≡ get_or f.found head 0 → IsGrown s cells value from f new → IsAllMarked s cells value from new.marks → IsRoundTo s cells z head f → IsRoundTo s cells z (head + 1) new
+round_next s cells z value head from f new e l at g near round k m j n has = elim (cases_lt k head) as (λ _. is_marked new.marks j ≡ true) [
+  | inl q ↦ g.marked j (round k q j (rw (g.stays k (omega (arith, q, l))) at n) has)
+  | inr q ↦ (let same : k ≡ head = omega (arith, m, q) in
+      let is : get_or new.found k 0 ≡ from = g.stays k (omega (arith, same, l)) ∙ ap (λ i. get_or f.found i 0) same ∙ sym at in
+      let d = near_is s from j (ap (λ i. is_neighbour s i j) (sym is) ∙ n) in
+      near j has.0 d.rows d.columns (has.1 ∙ sym e))
+]
+
+pub region_begun : (s : Size) (cells : Cells) (z : ℤ) (root : ℕ) (extent : Size) (marks : List Bool) (cleared f : FloodState) → length marks ≡ cells_in s → Has s cells z root → is_marked marks root ≡ false → cleared ≡ record { size = extent; marks = marks; found = [] } → f ≡ record cleared { marks = slice_set cleared.marks root true; found = cleared.found ++ root ∷ [] } → IsFlooding s cells z root marks f
+region_begun s cells z root extent marks cleared f n has new c e =
+    let is : f ≡ record { size = extent; marks = slice_set marks root true; found = root ∷ [] } = e ∙ ap (λ (x : FloodState). record x { marks = slice_set x.marks root true; found = x.found ++ root ∷ [] }) c in
+    let P : FloodState → Type 0 = IsFlooding s cells z root marks in
+    subst P (sym is) (flood_root s extent cells z root marks n has new)
+
+pub region_done : (s : Size) (cells : Cells) (z : ℤ) (root head : ℕ) (before : List Bool) (f : FloodState) → IsFlooding s cells z root before f → IsRoundTo s cells z head f → length f.found ≤ head → IsFlooded s cells z root before f
+region_done s cells z root head before f h round l = record { flooding = h; round = λ k m. round k (omega (arith, m, l)) }

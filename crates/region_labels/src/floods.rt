@@ -1,0 +1,198 @@
+//! A region that is reached place by place.
+ghost use Rattle.std.specs.Prelude.{◌≡◌, ◌<◌, ◌≤◌, ◌+◌, ◌-◌, ◌*◌, ◌++◌, ◌∷◌, [], length, replicate, false, true, slice_set, slice_index_or, IfOk, OnOk, OnErr, IsSome, Some, ℤ};
+ghost use Rattle.map_nums.specs.Grids.{IsSize, cells_in, cell_at, row_of, gap};
+ghost use Rattle.layer_tiles.specs.Tallies.{RisesBy};
+ghost use Rattle.region_labels.specs.Flood.{is_marked, marks_in, reached, IsGrown, IsRowMarked, IsAllMarked, IsFlooded, IsJoined};
+ghost use Rattle.region_labels.specs.Touched.{IsMarkedFor};
+
+use layer_tiles::{Cell, Change, Extent, NoMemory, Tally};
+use std::alloc::Global;
+use std::marker::Model;
+use tile_work::PlaceSet;
+
+/// The places that were reached so far, and those of the region in hand in the order in which they were reached.
+#[derive(Drop)]
+pub struct Flood {
+    marks: PlaceSet,
+    found: Vec<u32>,
+    /// How many places were reached.
+    count: u64,
+}
+
+impl Model for Flood {
+    ghost use Rattle.region_labels.specs.Flood.{FloodState};
+
+    ghost Value = { FloodState };
+
+    ghost use Rattle.std.specs.Prelude.{◌≡◌};
+    ghost use Rattle.region_labels.specs.Flood.{marks_in};
+
+    ghost view = { λ f. record { size = f.marks.size; marks = f.marks.marks; found = f.found.items } };
+
+    ghost invariant = { λ f. f.count ≡ marks_in f.marks.marks };
+}
+
+impl Flood {
+    /// No place was reached.
+    pub fn new(alloc: Global, extent: Extent) -> Result<Flood, NoMemory>
+        ensures { IfOk result (λ flood. flood ≡ record { size = extent; marks = replicate (cells_in extent) false; found = [] }) }
+    {
+        Ok(Flood {
+            marks: PlaceSet::new(alloc, extent)?,
+            found: Vec::new(alloc),
+            count: 0,
+        })
+    }
+
+    /// Whether a place was reached.
+    pub fn has(&self, at: u32) -> bool
+        requires { at < cells_in self.now.size }
+        ensures { result ≡ is_marked self.now.marks at }
+    {
+        self.marks.has(at)
+    }
+
+    /// One more place of the region in hand.
+    fn add(&mut self, at: u32) -> Result<(), NoMemory>
+        requires within { at < cells_in self.old.size }
+        requires new { is_marked self.old.marks at ≡ false }
+        ensures ok { OnOk result (self.new ≡ record self.old { marks = slice_set self.old.marks at true; found = self.old.found ++ at ∷ [] }) }
+        ensures err { OnErr result (self.new ≡ self.old) }
+    {
+        let _count = self.marks.extent().cells();
+        self.found.reserve(1)?;
+        self.marks.add(at)?;
+        self.found.push(at)?;
+        self.count += 1;
+        Ok(())
+    }
+
+    /// A next region is in hand.
+    fn clear(&mut self)
+        ensures { self.new ≡ record self.old { found = [] } }
+    {
+        self.found.clear();
+    }
+
+    /// How many places were reached.
+    pub fn count(&self) -> u64
+        ensures { result ≡ marks_in self.now.marks }
+    {
+        self.count
+    }
+
+    /// The places of the region in hand.
+    pub fn found(&self) -> &[u32]
+        ensures { result.now ≡ self.now.found }
+    {
+        &self.found
+    }
+}
+
+/// Reaches a place where it was not reached and has the cell. At most one pick.
+fn reach<M: Tally>(
+    of: &Change<'_>,
+    value: Cell,
+    at: u32,
+    flood: &mut Flood,
+    tally: &mut M,
+) -> Result<(), NoMemory>
+    requires within { at < cells_in of.now.size }
+    requires extent { flood.old.size ≡ of.now.size }
+    requires marks { length flood.old.marks ≡ cells_in of.now.size }
+    ensures ok { OnOk result (flood.new ≡ reached of.now.cells value at flood.old) }
+    ensures err { OnErr result (flood.new ≡ flood.old) }
+    ensures pick { RisesBy 0 1 (M.counts tally.old) (M.counts tally.new) }
+{
+    if flood.has(at) {
+        return Ok(());
+    }
+    if !of.cell(at, tally).same(&value) {
+        return Ok(());
+    }
+    flood.add(at)
+}
+
+/// Reaches the places of a row next to a place. At most three picks.
+fn reach_row<M: Tally>(
+    of: &Change<'_>,
+    value: Cell,
+    from: u32,
+    row: u32,
+    flood: &mut Flood,
+    tally: &mut M,
+) -> Result<(), NoMemory>
+    requires within { from < cells_in of.now.size }
+    requires row { row < of.now.size.rows }
+    requires close { gap (row_of of.now.size from) row ≤ 1 }
+    requires extent { flood.old.size ≡ of.now.size }
+    requires marks { length flood.old.marks ≡ cells_in of.now.size }
+    ensures grown { IsGrown of.now.size of.now.cells value from flood.old flood.new }
+    ensures near { OnOk result (IsRowMarked of.now.size of.now.cells value from row flood.new.marks) }
+    ensures picks { RisesBy 0 3 (M.counts tally.old) (M.counts tally.new) }
+{
+    let columns = of.extent().columns();
+    let column = from % columns;
+    let low = column.saturating_sub(1);
+    let high = (column + 2).min(columns);
+    for c in low..high {
+        reach(of, value, row * columns + c, flood, tally)?;
+    }
+    Ok(())
+}
+
+/// Reaches the neighbours of a place. At most nine picks.
+fn reach_all<M: Tally>(
+    of: &Change<'_>,
+    value: Cell,
+    from: u32,
+    flood: &mut Flood,
+    tally: &mut M,
+) -> Result<(), NoMemory>
+    requires within { from < cells_in of.now.size }
+    requires extent { flood.old.size ≡ of.now.size }
+    requires marks { length flood.old.marks ≡ cells_in of.now.size }
+    ensures grown { IsGrown of.now.size of.now.cells value from flood.old flood.new }
+    ensures near { OnOk result (IsAllMarked of.now.size of.now.cells value from flood.new.marks) }
+    ensures picks { RisesBy 0 9 (M.counts tally.old) (M.counts tally.new) }
+{
+    let extent = of.extent();
+    let row = from / extent.columns();
+    let low = row.saturating_sub(1);
+    let high = (row + 2).min(extent.rows());
+    for r in low..high {
+        reach_row(of, value, from, r, flood, tally)?;
+    }
+    Ok(())
+}
+
+/// Reaches the region of a place that was not reached. Nine picks a place at most.
+pub fn reach_region<M: Tally>(
+    of: &Change<'_>,
+    value: Cell,
+    root: u32,
+    flood: &mut Flood,
+    tally: &mut M,
+) -> Result<(), NoMemory>
+    requires within { root < cells_in of.now.size }
+    requires extent { flood.old.size ≡ of.now.size }
+    requires marks { length flood.old.marks ≡ cells_in of.now.size }
+    requires new { is_marked flood.old.marks root ≡ false }
+    requires cell { cell_at of.now.cells root ≡ value }
+    requires some { IsSome value }
+    ensures extent { flood.new.size ≡ flood.old.size }
+    ensures ok { OnOk result ((z : ℤ) → value ≡ Some z → IsFlooded of.now.size of.now.cells z root flood.old.marks flood.new) }
+    ensures caused { (z : ℤ) → value ≡ Some z → IsMarkedFor (IsJoined of.now.size of.now.cells z root) flood.old.marks flood.new.marks }
+    ensures grows { marks_in flood.old.marks ≤ marks_in flood.new.marks }
+    ensures picks { RisesBy 0 (9 * (marks_in flood.new.marks - marks_in flood.old.marks)) (M.counts tally.old) (M.counts tally.new) }
+{
+    flood.clear();
+    flood.add(root)?;
+    let mut head = 0;
+    while head < flood.found().len() {
+        let at = flood.found()[head];
+        reach_all(of, value, at, flood, tally)?;
+        head += 1;
+    }
+    Ok(())
+}
