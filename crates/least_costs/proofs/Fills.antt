@@ -50,7 +50,7 @@ module _ (g : Net) (closed : IsClosed g) (old d : ℕ → ℕ) (entries left : L
       let k = key_least key (min (d at) (equation g d at), at) entries all (now.queued at n) in
       omega (arith, o, k)
 
-  due : key < d at → IsDue g d key at
+  pub due : key < d at → IsDue g d key at
   due l =
       let e = is_equation l in
       record {
@@ -59,8 +59,11 @@ module _ (g : Net) (closed : IsClosed g) (old d : ℕ → ℕ) (entries left : L
         is_key = omega (arith, e, l);
       }
 
-  undue : d at ≤ key → IsDue g d key at → ⊥
-  undue l due = let o = over_here in due.disagrees (omega (arith, l, o, due.is_key))
+  undue : (at < g.size → d at ≤ key) → IsDue g d key at → ⊥
+  undue low due =
+      let o = over_here in
+      let l = low due.within in
+      due.disagrees (omega (arith, l, o, due.is_key))
 
   falls : (d' : ℕ → ℕ) → key < d at → IsSetTo d at key d' → (j : ℕ) → d' j ≤ d j
   falls d' l set j = elim (same_or j at) as (λ _. d' j ≤ d j) [

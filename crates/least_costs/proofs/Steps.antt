@@ -188,10 +188,10 @@ ranks_least g old d entries moved now w are_least = omega (arith, ranks_changed 
 
 -- the measure of the repair
 abbrev pub to_go : Net → (ℕ → ℕ) → (ℕ → ℕ) → List (ℕ × ℕ) → ℕ
-to_go g old d entries = 10 * (2 * g.size - ranks g.top old d g.size) + length entries
+to_go g old d entries = 11 * (2 * g.size - ranks g.top old d g.size) + length entries
 
 pub record Went (g : Net) (old d : ℕ → ℕ) (entries : List (ℕ × ℕ)) (d' : ℕ → ℕ) (entries' : List (ℕ × ℕ)) (moved more : ℕ) : Type 0 where
-  pub len : length entries' + 1 ≤ length entries + 9 * more
+  pub len : length entries' + 1 ≤ length entries + 10 * more
   pub repairing : IsRepairing g old d' entries' moved
   pub rises : ranks g.top old d g.size + more ≤ ranks g.top old d' g.size
   pub smaller : to_go g old d' entries' < to_go g old d entries

@@ -56,7 +56,7 @@ pub record IsTake (g : Net) (d : ℕ → ℕ) (entries : List (ℕ × ℕ)) (key
   pub value : IsSetTo d at (next_value g d at) d'
   pub kept : IsKept entries entries'
   pub queued : IsRise g d d' entries' at ⊎ IsFall g d d' entries' at
-  pub few : length entries' ≤ length entries + 9
+  pub few : length entries' ≤ length entries + 10
 
 pub record IsPassed (g : Net) (d : ℕ → ℕ) (entries : List (ℕ × ℕ)) (key at : ℕ) (d' : ℕ → ℕ) (entries' : List (ℕ × ℕ)) : Type 0 where
   pub due : IsDue g d key at → ⊥
@@ -91,14 +91,15 @@ pub record IsFilled (g : Net) (d : ℕ → ℕ) (entries : List (ℕ × ℕ)) (k
   pub kept : IsKept entries entries'
   pub fallen : OfferedFrom g d' entries' at
   pub over : AreOver g d' entries → AreOver g d' entries'
-  pub few : length entries' ≤ length entries + 9
+  pub few : length entries' ≤ length entries + 10
 
-pub record IsLeft (d : ℕ → ℕ) (entries : List (ℕ × ℕ)) (key at : ℕ) (d' : ℕ → ℕ) (entries' : List (ℕ × ℕ)) : Type 0 where
-  pub low : d at ≤ key
+-- the value was no higher, or there is no such place
+pub record IsLeft (g : Net) (d : ℕ → ℕ) (entries : List (ℕ × ℕ)) (key at : ℕ) (d' : ℕ → ℕ) (entries' : List (ℕ × ℕ)) : Type 0 where
+  pub low : at < g.size → d at ≤ key
   pub same : d' ≡ d
   pub entries_same : entries' ≡ entries
 
 -- what is done with an entry where values only fall
 abbrev pub IsFill : Net → (ℕ → ℕ) → List (ℕ × ℕ) → ℕ → ℕ → (ℕ → ℕ) → List (ℕ × ℕ) → Bool → Type 0
 IsFill g d entries key at d' entries' true = IsFilled g d entries key at d' entries'
-IsFill g d entries key at d' entries' false = IsLeft d entries key at d' entries'
+IsFill g d entries key at d' entries' false = IsLeft g d entries key at d' entries'
