@@ -1,0 +1,112 @@
+-- The places near a place give its equation.
+use Rattle.std.proofs.Common.{◌≡◌, ◌≢◌, ◌⊎◌, inl, inr, ℕ, suc, ◌+◌, ◌*◌, ◌/◌, ◌%◌, ◌<◌, ◌≤◌, min, true, false, refl, sym, ◌∙◌, ap, subst, arith}
+use Rattle.std.specs.Prelude.{is_some}
+use Rattle.std.proofs.lemmas.Bool.{cases_lt}
+use Rattle.std.proofs.lemmas.Nat.{div-add-mod', div_below, mod_below}
+use Rattle.map_nums.specs.Grids.{Size, IsSize, cell_at, cells_in, row_of, column_of, gap}
+use Rattle.map_defs.specs.Nets.{Net, IsWithin, equation}
+use Rattle.map_defs.specs.Spread.{friction_at, step_cost}
+use Rattle.map_defs.proofs.Nets.{equation_is, equation_only}
+use Rattle.friction_spread.specs.declared.ground.Spot.{Spot}
+use Rattle.friction_spread.specs.Costs.{GroundState, base_of, step_of, net_of}
+use Rattle.friction_spread.specs.Spots.{IsSpot, AreNear, weighed}
+use Rattle.friction_spread.proofs.Grounds.{IsJoined, leads, step_joined, step_none, no_loop, base_source, base_barrier, base_other}
+use Rattle.friction_spread.specs.Rows.{IsLowered, RowLowered, RowLoweredTo, RoundLoweredTo}
+
+-- ---- one step
+
+pub step_same : (g : GroundState) (j i : ℕ) → j ≡ i → suc g.limit ≤ step_of g j i
+step_same g j i e = let P : ℕ → Type 0 = λ k. suc g.limit ≤ step_of g k i in subst P (sym e) (no_loop g i)
+
+pub step_barrier : (g : GroundState) (j i : ℕ) → friction_at g.friction j ≡ 0 → step_of g j i ≡ suc g.limit
+step_barrier g j i e = step_none g j i (λ h. absurd (omega (arith, h.from_open, e)))
+
+pub step_to_barrier : (g : GroundState) (j i : ℕ) → friction_at g.friction i ≡ 0 → step_of g j i ≡ suc g.limit
+step_to_barrier g j i e = step_none g j i (λ h. absurd (omega (arith, h.to_open, e)))
+
+near_spots : (s : Size) (p q : Spot) → IsSpot s p → IsSpot s q → AreNear q p → (gap (row_of s p.at) (row_of s q.at) ≤ 1) × (gap (column_of s p.at) (column_of s q.at) ≤ 1)
+near_spots s p q a b n = (omega (arith, n.rows, a.row, b.row), omega (arith, n.columns, a.column, b.column))
+
+pub spots_joined : (g : GroundState) (p q : Spot) → IsSpot g.size p → IsSpot g.size q → AreNear q p → p.at ≢ q.at → 0 < friction_at g.friction p.at → 0 < friction_at g.friction q.at → IsJoined g p.at q.at
+spots_joined g p q a b n d o u = let m = near_spots g.size p q a b n in record { from = a.within; to = b.within; from_open = o; to_open = u; other = d; rows = m.0; columns = m.1 }
+
+cost_weighed : (g : GroundState) (p q : Spot) → IsSpot g.size p → IsSpot g.size q → step_cost g.size g.friction p.at q.at ≡ weighed p q (friction_at g.friction p.at) (friction_at g.friction q.at)
+unfolding step_cost
+cost_weighed g p q a b = rw (a.row, a.column, b.row, b.column) refl
+
+pub step_weighed : (g : GroundState) (p q : Spot) → IsSpot g.size p → IsSpot g.size q → AreNear q p → p.at ≢ q.at → 0 < friction_at g.friction p.at → 0 < friction_at g.friction q.at → step_of g p.at q.at ≡ weighed p q (friction_at g.friction p.at) (friction_at g.friction q.at)
+step_weighed g p q a b n d o u = step_joined g p.at q.at (spots_joined g p q a b n d o u) ∙ cost_weighed g p q a b
+
+-- ---- places by row and column
+
+pub only_spot : (s : Size) (p : Spot) (i : ℕ) → IsSpot s p → row_of s i ≡ p.row → column_of s i ≡ p.column → i ≡ p.at
+only_spot s p i h r c =
+    sym (div-add-mod' i s.columns) ∙ ap (λ n. n * s.columns + i % s.columns) (r ∙ h.row) ∙ ap (λ n. p.at / s.columns * s.columns + n) (c ∙ h.column) ∙ div-add-mod' p.at s.columns
+
+pub row_lt : (s : Size) (i : ℕ) → IsSize s → i < cells_in s → row_of s i < s.rows
+row_lt s i h l = div_below i s.columns s.rows h.some_column l
+
+pub column_lt : (s : Size) (i : ℕ) → IsSize s → column_of s i < s.columns
+column_lt s i h = mod_below i s.columns h.some_column
+
+-- ---- the least so far
+
+pub lowered_none : (g : Net) (d : ℕ → ℕ) (i best : ℕ) → IsLowered g d i best best
+lowered_none g d i best = record { most = omega arith; attained = inl refl }
+
+pub lowered_then : (g : Net) (d : ℕ → ℕ) (i a b c : ℕ) → IsLowered g d i a b → IsLowered g d i b c → IsLowered g d i a c
+lowered_then g d i a b c p q = record {
+  most = omega (arith, p.most, q.most);
+  attained = elim q.attained as (λ _. (c ≡ a) ⊎ ((j : ℕ) × (c ≡ d j + g.step j i))) [
+    | inl e ↦ elim p.attained as (λ _. (c ≡ a) ⊎ ((j : ℕ) × (c ≡ d j + g.step j i))) [ inl f ↦ inl (e ∙ f) | inr f ↦ inr (f.0, e ∙ f.1) ]
+    | inr e ↦ inr e
+  ];
+}
+
+pub lowered_by : (g : Net) (d : ℕ → ℕ) (i j a b : ℕ) → b ≡ min a (d j + g.step j i) → IsLowered g d i a b
+lowered_by g d i j a b e = record {
+  most = omega (arith, e);
+  attained = elim (cases_lt (d j + g.step j i) a) as (λ _. (b ≡ a) ⊎ ((j : ℕ) × (b ≡ d j + g.step j i))) [ inl l ↦ inr (j, omega (arith, e, l)) | inr l ↦ inl (omega (arith, e, l)) ];
+}
+
+pub row_next : (g : GroundState) (d : ℕ → ℕ) (i row k a b : ℕ) (p : Spot) → IsSpot g.size p → p.row ≡ row → p.column ≡ k → b ≡ min a (d p.at + step_of g p.at i) → RowLoweredTo (net_of g) g.size d i row k a → RowLoweredTo (net_of g) g.size d i row (k + 1) b
+row_next g d i row k a b p h r c e near j l q n m = elim (cases_lt (column_of g.size j) k) as (λ _. b ≤ d j + step_of g j i) [
+  | inl u ↦ omega (arith, near j l q n u, e)
+  | inr u ↦ (let same : j ≡ p.at = only_spot g.size p j h (q ∙ sym r) (omega (arith, m, u, c)) in
+      let P : ℕ → Type 0 = λ x. b ≤ d x + step_of g x i in
+      subst P (sym same) (omega (arith, e)))
+]
+
+pub round_next : (g : GroundState) (d : ℕ → ℕ) (i r a b : ℕ) → b ≤ a → RowLowered (net_of g) g.size d i r b → RoundLoweredTo (net_of g) g.size d i r a → RoundLoweredTo (net_of g) g.size d i (r + 1) b
+round_next g d i r a b h row near j l q n m = elim (cases_lt (row_of g.size j) r) as (λ _. b ≤ d j + step_of g j i) [
+  | inl u ↦ omega (arith, near j l q n u, h)
+  | inr u ↦ row j l (omega (arith, m, u)) n
+]
+
+-- ---- the equation
+
+pub equation_barrier : (g : GroundState) (d : ℕ → ℕ) (i : ℕ) → IsWithin (net_of g) d → friction_at g.friction i ≡ 0 → suc g.limit ≡ equation (net_of g) d i
+equation_barrier g d i w e =
+    equation_only (net_of g) d i _ _
+    (record { capped = omega arith; begun = omega (arith, base_barrier g i e); stepped = λ j. omega (arith, step_to_barrier g j i e); attained = inl refl })
+    (equation_is (net_of g) d w i)
+
+pub equation_source : (g : GroundState) (d : ℕ → ℕ) (i : ℕ) → IsWithin (net_of g) d → i < cells_in g.size → 0 < friction_at g.friction i → is_some (cell_at g.sources i) ≡ true → 0 ≡ equation (net_of g) d i
+equation_source g d i w l o e =
+    equation_only (net_of g) d i _ _
+    (record { capped = omega arith; begun = omega arith; stepped = λ j. omega arith; attained = inr (inl (sym (base_source g i l o e))) })
+    (equation_is (net_of g) d w i)
+
+pub equation_near : (g : GroundState) (d : ℕ → ℕ) (i high e : ℕ) → IsWithin (net_of g) d → is_some (cell_at g.sources i) ≡ false → IsLowered (net_of g) d i (suc g.limit) e → RoundLoweredTo (net_of g) g.size d i high e → ((j : ℕ) → j < cells_in g.size → gap (row_of g.size i) (row_of g.size j) ≤ 1 → row_of g.size j < high) → e ≡ equation (net_of g) d i
+equation_near g d i high e w s lowered near all =
+    equation_only (net_of g) d i _ _
+    (record {
+      capped = lowered.most;
+      begun = omega (arith, lowered.most, base_other g i s);
+      stepped = λ j. elim (cases_lt (step_of g j i) (suc g.limit)) as (λ _. e ≤ d j + step_of g j i) [
+        | inl l ↦ (let h = leads g j i l in let r : gap (row_of g.size i) (row_of g.size j) ≤ 1 = omega (arith, h.rows) in near j h.from r (omega (arith, h.columns)) (all j h.from r))
+        | inr l ↦ omega (arith, l, lowered.most)
+      ];
+      attained = elim lowered.attained as (λ _. (e ≡ suc g.limit) ⊎ ((e ≡ base_of g i) ⊎ ((j : ℕ) × (e ≡ d j + step_of g j i)))) [ inl q ↦ inl q | inr q ↦ inr (inr q) ];
+    })
+    (equation_is (net_of g) d w i)

@@ -1,0 +1,12 @@
+pub mod Grounds
+pub mod Least
+pub mod Rounds
+pub mod Taking
+pub mod Settling
+pub mod Shown
+pub mod Begun
+pub mod Results
+pub mod Mending
+pub mod Works
+pub mod Damaging
+pub mod Reading

@@ -1,0 +1,44 @@
+-- What one entry does to the working layer.
+use Rattle.std.proofs.Common.{◌≡◌, inl, inr, ℕ, ◌+◌, ◌-◌, ◌*◌, ◌<◌, ◌≤◌, List, ◌∷◌, Option, ℤ, sym, ◌∙◌, ap, subst, arith}
+use Rattle.std.specs.Prelude.{Result, Ok, Err, OnErr}
+use Rattle.std.specs.List.{All}
+use Rattle.std.specs.List.Sorted.{IsPermutation}
+use Rattle.map_nums.specs.Grids.{Size, cells_in}
+use Rattle.layer_tiles.specs.Tiles.{tile_of}
+use Rattle.tile_work.specs.Working.{WorkState, IsSameWork, base_of}
+use Rattle.least_costs.specs.Best.{IsRepairing}
+use Rattle.least_costs.specs.Queue.{IsDue}
+use Rattle.least_costs.proofs.Steps.{due_moves}
+use Rattle.friction_spread.specs.Costs.{GroundState, values, net_of}
+use Rattle.friction_spread.specs.Copied.{IsCopiedWhere, IsMoved, IsCaused}
+use Rattle.friction_spread.proofs.Grounds.{net_closed, net_costs, no_loop}
+
+pub same_then : (a b c : WorkState) → IsSameWork a b → IsSameWork b c → IsSameWork a c
+same_then a b c p q = record { size = q.size ∙ p.size; before = q.before ∙ p.before; count = q.count ∙ p.count }
+
+-- a place whose entry is due has another least cost than before
+pub due_moved : (g : GroundState) (before : Option (List (Option ℤ))) (d : ℕ → ℕ) (entries left : List (ℕ × ℕ)) (moved key at : ℕ) → IsRepairing (net_of g) (values g.limit (base_of before)) d entries moved → IsPermutation entries ((key, at) ∷ left) → All (λ (y : ℕ × ℕ). key ≤ y.0) entries → IsDue (net_of g) d key at → (at < cells_in g.size) × IsMoved g before at
+due_moved g before d entries left moved key at now popped all due = (due.within, λ c h. due_moves (net_of g) (net_closed g) (net_costs g) (no_loop g) (values g.limit (base_of before)) d entries left moved key at now popped all due (c at) (h at))
+
+pub moved_same : (g : GroundState) (a b : Option (List (Option ℤ))) (i : ℕ) → b ≡ a → IsMoved g a i → IsMoved g b i
+moved_same g a b i e h = let P : Option (List (Option ℤ)) → Type 0 = λ o. IsMoved g o i in subst P (sym e) h
+
+pub caused_then : (g : GroundState) (b c : WorkState) (at : ℕ) (cause : Type 0) → b.size ≡ g.size → IsSameWork b c → IsCopiedWhere b at cause c → (cause → (at < cells_in g.size) × IsMoved g b.before at) → IsCaused g b → IsCaused g c
+caused_then g b c at cause size same copied moves caused t e = elim (copied t e) as (λ _. (i : ℕ) × (i < cells_in g.size) × (t ≡ tile_of g.size i) × IsMoved g c.before i) [
+  | inl h ↦ (let r = caused t h in (r.0, r.1, r.2, moved_same g b.before c.before r.0 same.before r.3))
+  | inr h ↦ (let m = moves h.1 in (at, m.0, h.0 ∙ ap (λ (s : Size). tile_of s at) size, moved_same g b.before c.before at same.before m.1))
+]
+
+pub on_err : {T E Q : Type 0} (r : Result T E) → Q → OnErr r Q
+on_err (Ok x) q = tt
+on_err (Err e) q = q
+
+-- entries in the queue are picks yet to come
+pub picks_next : (a n n' r r' m : ℕ) → n' + 1 ≤ n + 10 * m → r + m ≤ r' → 21 * n ≤ a + 420 * r → (a + 420 * r - 21 * n) + (21 + 210 * m) ≤ a + 420 * r' - 21 * n'
+picks_next a n n' r r' m l k e = omega arith
+
+pub enough_next : (a n n' r r' m : ℕ) → n' + 1 ≤ n + 10 * m → r + m ≤ r' → 21 * n ≤ a + 420 * r → 21 * n' ≤ a + 420 * r'
+enough_next a n n' r r' m l k e = omega arith
+
+pub picks_last : (a n r w : ℕ) → r + 1 ≤ 2 * w → 21 * n ≤ a + 420 * r → (a + 420 * r - 21 * n) + 231 ≤ a + 840 * w
+picks_last a n r w l e = omega arith

@@ -1,0 +1,6 @@
+pub mod Costs
+pub mod Spots
+pub mod Rows
+pub mod Copied
+pub mod Near
+pub mod Repairs

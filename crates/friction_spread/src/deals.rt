@@ -1,0 +1,87 @@
+//! What is done with an entry of the queue.
+ghost use Rattle.std.specs.Prelude.{◌≡◌, ◌<◌, ◌≤◌, ◌+◌, ◌-◌, ◌*◌, ℕ, suc, IfOk, OnOk, OnErr, length};
+ghost use Rattle.std.specs.List.{Contains};
+ghost use Rattle.std.specs.Int.{from_bool};
+ghost use Rattle.layer_tiles.specs.Tallies.{RisesBy};
+ghost use Rattle.tile_work.specs.Working.{IsSameWork, base_of, copies};
+ghost use Rattle.least_costs.specs.Queue.{IsStep, IsDue, IsKept, is_first};
+ghost use Rattle.friction_spread.specs.Costs.{values, AreCosts, net_of};
+ghost use Rattle.friction_spread.specs.Copied.{IsCopiedWhere};
+
+use crate::costs::{cost_at, old_cost_at, write};
+use crate::equations::equation;
+use crate::ground::Ground;
+use crate::offers::offer_round;
+use crate::raises::raise_round;
+use layer_tiles::{NoMemory, Tally};
+use least_costs::Queue;
+use tile_work::Working;
+
+/// Whether a place was given a new value, and whether it had its old one until then.
+#[derive(Clone, Copy)]
+pub struct Dealt {
+    pub taken: bool,
+    pub first: bool,
+}
+
+/// What a place without a cost can have comes into the queue.
+fn offer_cost(queue: &mut Queue, cost: u64, top: u64, at: u32) -> Result<(), NoMemory>
+    ensures kept { OnOk result (IsKept queue.old queue.new) }
+    ensures there { OnOk result (cost < top → Contains queue.new (cost, at)) }
+    ensures len { OnOk result (length queue.new ≤ length queue.old + 1) }
+{
+    if cost < top {
+        queue.push(cost, at)?;
+    }
+    Ok(())
+}
+
+/// Deals with an entry that was taken out of the queue. Where the place disagrees and this is its key, a value above its equation's becomes it, and a value below becomes none.
+pub fn deal<M: Tally>(
+    ground: &Ground<'_>,
+    labels: &mut Working<'_>,
+    queue: &mut Queue,
+    key: u64,
+    at: u32,
+    tally: &mut M,
+) -> Result<Dealt, NoMemory>
+    requires size { labels.old.size ≡ ground.now.size }
+    requires costs { AreCosts ground.now.limit labels.old.cells }
+    ensures same { IsSameWork labels.old labels.new }
+    ensures did { IfOk result (λ dealt. IsStep (net_of ground.now) (values ground.now.limit labels.old.cells) queue.old key at (values ground.now.limit labels.new.cells) queue.new dealt.taken) }
+    ensures first { IfOk result (λ dealt. dealt.first ≡ is_first (values ground.now.limit (base_of labels.old.before)) (values ground.now.limit labels.old.cells) at dealt.taken) }
+    ensures costs { IfOk result (λ dealt. AreCosts ground.now.limit labels.new.cells) }
+    ensures copied { IsCopiedWhere labels.old at (IsDue (net_of ground.now) (values ground.now.limit labels.old.cells) key at) labels.new }
+    ensures more { copies labels.old.copied ≤ copies labels.new.copied }
+    ensures tally { IfOk result (λ dealt. RisesBy (copies labels.new.copied - copies labels.old.copied) (21 + 210 * from_bool dealt.taken) (M.counts tally.old) (M.counts tally.new)) }
+    ensures due { OnErr result (IsDue (net_of ground.now) (values ground.now.limit labels.old.cells) key at) }
+    ensures wanted { OnErr result (RisesBy (copies labels.new.copied - copies labels.old.copied + 1) 231 (M.counts tally.old) (M.counts tally.new)) }
+{
+    let passed = Dealt {
+        taken: false,
+        first: false,
+    };
+    if at >= ground.extent().cells() {
+        return Ok(passed);
+    }
+    let spot = ground.spot(at);
+    let value = cost_at(ground, labels, at, tally);
+    if value < key {
+        return Ok(passed);
+    }
+    let other = equation(ground, labels, spot, tally);
+    if value == other || value.min(other) != key {
+        return Ok(passed);
+    }
+    let first = old_cost_at(ground, labels, at, tally) == value;
+    let top = ground.top();
+    if other < value {
+        write(ground, labels, at, other, tally)?;
+        offer_round(ground, labels, queue, spot, other, tally)?;
+    } else {
+        write(ground, labels, at, top, tally)?;
+        offer_cost(queue, other, top, at)?;
+        raise_round(ground, labels, queue, spot, value, tally)?;
+    }
+    Ok(Dealt { taken: true, first })
+}

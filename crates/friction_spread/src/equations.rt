@@ -1,0 +1,124 @@
+//! What the equation of a place gives.
+ghost use Rattle.std.specs.Prelude.{◌≡◌, ◌<◌, ◌≤◌, ◌+◌, ◌*◌, ◌^◌, ℕ, suc, min, length};
+ghost use Rattle.map_nums.specs.Grids.{IsSize, cells_in, cell_at, row_of, gap};
+ghost use Rattle.map_defs.specs.Nets.{equation};
+ghost use Rattle.map_defs.specs.Spread.{friction_at};
+ghost use Rattle.layer_tiles.specs.Tallies.{RisesBy};
+ghost use Rattle.friction_spread.specs.Costs.{IsGround, values, AreCosts, step_of, net_of};
+ghost use Rattle.friction_spread.specs.Spots.{IsSpot, AreNear, weighed};
+ghost use Rattle.friction_spread.specs.Rows.{IsLowered, RowLowered};
+
+use crate::costs::cost_at;
+use crate::ground::{Ground, Spot};
+use layer_tiles::Tally;
+use tile_work::Working;
+
+/// What a step between neighbours of two frictions costs.
+pub fn weigh(from: Spot, to: Spot, friction: u64, own: u64) -> u64
+    requires { (friction < 2 ^ 31) × (own < 2 ^ 31) }
+    ensures value { result ≡ weighed from to friction own }
+    ensures low { result < 2 ^ 40 }
+{
+    let both = friction + own;
+    if from.row == to.row || from.column == to.column {
+        5 * both
+    } else {
+        7 * both
+    }
+}
+
+/// The lesser of `best` and the cost by a step from a place near. At most two picks.
+fn by_place<M: Tally>(
+    ground: &Ground<'_>,
+    labels: &Working<'_>,
+    to: Spot,
+    own: u64,
+    from: Spot,
+    best: u64,
+    tally: &mut M,
+) -> u64
+    requires size { labels.now.size ≡ ground.now.size }
+    requires spots { IsSpot ground.now.size to × IsSpot ground.now.size from }
+    requires near { AreNear to from }
+    requires own { (own ≡ friction_at ground.now.friction to.at) × (0 < own) × (own < 2 ^ 31) }
+    requires best { best ≤ suc ground.now.limit }
+    ensures value { result ≡ min best (values ground.now.limit labels.now.cells from.at + step_of ground.now from.at to.at) }
+    ensures picks { RisesBy 0 2 (M.counts tally.old) (M.counts tally.new) }
+{
+    if from.at == to.at {
+        return best;
+    }
+    let value = cost_at(ground, labels, from.at, tally);
+    if value >= best {
+        return best;
+    }
+    let friction = ground.friction(from.at, tally);
+    if friction == 0 {
+        return best;
+    }
+    best.min(value + weigh(from, to, friction, own))
+}
+
+/// The same over a row next to a place. At most six picks.
+fn by_row<M: Tally>(
+    ground: &Ground<'_>,
+    labels: &Working<'_>,
+    to: Spot,
+    own: u64,
+    row: u32,
+    best: u64,
+    tally: &mut M,
+) -> u64
+    requires size { labels.now.size ≡ ground.now.size }
+    requires spot { IsSpot ground.now.size to }
+    requires row { row < ground.now.size.rows }
+    requires close { gap to.row row ≤ 1 }
+    requires own { (own ≡ friction_at ground.now.friction to.at) × (0 < own) × (own < 2 ^ 31) }
+    requires best { best ≤ suc ground.now.limit }
+    ensures lowered { IsLowered (net_of ground.now) (values ground.now.limit labels.now.cells) to.at best result }
+    ensures near { RowLowered (net_of ground.now) ground.now.size (values ground.now.limit labels.now.cells) to.at row result }
+    ensures picks { RisesBy 0 6 (M.counts tally.old) (M.counts tally.new) }
+{
+    let columns = ground.extent().columns();
+    let low = to.column.saturating_sub(1);
+    let high = (to.column + 2).min(columns);
+    let mut least = best;
+    for c in low..high {
+        least = by_place(
+            ground,
+            labels,
+            to,
+            own,
+            ground.spot_at(row, c),
+            least,
+            tally,
+        );
+    }
+    least
+}
+
+/// What the equation of a place gives. At most twenty picks.
+pub fn equation<M: Tally>(ground: &Ground<'_>, labels: &Working<'_>, to: Spot, tally: &mut M) -> u64
+    requires size { labels.now.size ≡ ground.now.size }
+    requires count { length labels.now.cells ≡ cells_in ground.now.size }
+    requires spot { IsSpot ground.now.size to }
+    ensures value { result ≡ equation (net_of ground.now) (values ground.now.limit labels.now.cells) to.at }
+    ensures most { result ≤ suc ground.now.limit }
+    ensures picks { RisesBy 0 20 (M.counts tally.old) (M.counts tally.new) }
+{
+    let own = ground.friction(to.at, tally);
+    if own == 0 {
+        return ground.top();
+    }
+    if ground.is_source(to.at, tally) {
+        return 0;
+    }
+    let rows = ground.extent().rows();
+    let low = to.row.saturating_sub(1);
+    let high = (to.row + 2).min(rows);
+    let mut least = ground.top();
+    for r in low..high {
+        least = by_row(ground, labels, to, own, r, least, tally);
+    }
+    least
+}

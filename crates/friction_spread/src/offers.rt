@@ -1,0 +1,132 @@
+//! Costs through a place come into the queue, where they are below its neighbours'.
+ghost use Rattle.std.specs.Prelude.{◌≡◌, ◌<◌, ◌≤◌, ◌+◌, ◌*◌, ℕ, suc, length, OnOk};
+ghost use Rattle.map_nums.specs.Grids.{cells_in, gap};
+ghost use Rattle.map_defs.specs.Spread.{friction_at};
+ghost use Rattle.layer_tiles.specs.Tallies.{RisesBy};
+ghost use Rattle.least_costs.specs.Queue.{IsKept, IsOfferedBy, AreOver};
+ghost use Rattle.friction_spread.specs.Costs.{values, net_of};
+ghost use Rattle.friction_spread.specs.Spots.{IsSpot, AreNear};
+ghost use Rattle.friction_spread.specs.Rows.{RowOffered, RoundOffered};
+
+use crate::costs::cost_at;
+use crate::equations::weigh;
+use crate::ground::{Ground, Spot};
+use layer_tiles::{NoMemory, Tally};
+use least_costs::Queue;
+use tile_work::Working;
+
+/// The cost through a place near comes into the queue where it is below the place's value. At most two picks.
+fn offer<M: Tally>(
+    ground: &Ground<'_>,
+    labels: &Working<'_>,
+    queue: &mut Queue,
+    from: Spot,
+    value: u64,
+    own: u64,
+    to: Spot,
+    tally: &mut M,
+) -> Result<(), NoMemory>
+    requires size { labels.now.size ≡ ground.now.size }
+    requires spots { IsSpot ground.now.size from × IsSpot ground.now.size to }
+    requires near { AreNear to from }
+    requires value { value ≡ values ground.now.limit labels.now.cells from.at }
+    requires low { value ≤ suc ground.now.limit }
+    requires own { (own ≡ friction_at ground.now.friction from.at) × (0 < own) × (own < 2147483648) }
+    ensures kept { OnOk result (IsKept queue.old queue.new) }
+    ensures offered { OnOk result (IsOfferedBy (net_of ground.now) (values ground.now.limit labels.now.cells) queue.new from.at to.at) }
+    ensures over { OnOk result (AreOver (net_of ground.now) (values ground.now.limit labels.now.cells) queue.old → AreOver (net_of ground.now) (values ground.now.limit labels.now.cells) queue.new) }
+    ensures len { OnOk result (length queue.new ≤ length queue.old + 1) }
+    ensures picks { RisesBy 0 2 (M.counts tally.old) (M.counts tally.new) }
+{
+    if from.at == to.at {
+        return Ok(());
+    }
+    let there = cost_at(ground, labels, to.at, tally);
+    if there <= value {
+        return Ok(());
+    }
+    let friction = ground.friction(to.at, tally);
+    if friction == 0 {
+        return Ok(());
+    }
+    let cost = value + weigh(from, to, own, friction);
+    if cost >= there {
+        return Ok(());
+    }
+    queue.push(cost, to.at)?;
+    Ok(())
+}
+
+/// Those of a row next to it. At most six picks.
+fn offer_row<M: Tally>(
+    ground: &Ground<'_>,
+    labels: &Working<'_>,
+    queue: &mut Queue,
+    from: Spot,
+    value: u64,
+    own: u64,
+    row: u32,
+    tally: &mut M,
+) -> Result<(), NoMemory>
+    requires size { labels.now.size ≡ ground.now.size }
+    requires spot { IsSpot ground.now.size from }
+    requires row { row < ground.now.size.rows }
+    requires close { gap row from.row ≤ 1 }
+    requires value { value ≡ values ground.now.limit labels.now.cells from.at }
+    requires low { value ≤ suc ground.now.limit }
+    requires own { (own ≡ friction_at ground.now.friction from.at) × (0 < own) × (own < 2147483648) }
+    ensures kept { OnOk result (IsKept queue.old queue.new) }
+    ensures offered { OnOk result (RowOffered (net_of ground.now) ground.now.size (values ground.now.limit labels.now.cells) queue.new from.at row) }
+    ensures over { OnOk result (AreOver (net_of ground.now) (values ground.now.limit labels.now.cells) queue.old → AreOver (net_of ground.now) (values ground.now.limit labels.now.cells) queue.new) }
+    ensures len { OnOk result (length queue.new ≤ length queue.old + 3) }
+    ensures picks { RisesBy 0 6 (M.counts tally.old) (M.counts tally.new) }
+{
+    let columns = ground.extent().columns();
+    let low = from.column.saturating_sub(1);
+    let high = (from.column + 2).min(columns);
+    for c in low..high {
+        offer(
+            ground,
+            labels,
+            queue,
+            from,
+            value,
+            own,
+            ground.spot_at(row, c),
+            tally,
+        )?;
+    }
+    Ok(())
+}
+
+/// The costs through a place come into the queue where they are below the neighbours' values. At most 19 picks.
+pub fn offer_round<M: Tally>(
+    ground: &Ground<'_>,
+    labels: &Working<'_>,
+    queue: &mut Queue,
+    from: Spot,
+    value: u64,
+    tally: &mut M,
+) -> Result<(), NoMemory>
+    requires size { labels.now.size ≡ ground.now.size }
+    requires spot { IsSpot ground.now.size from }
+    requires value { value ≡ values ground.now.limit labels.now.cells from.at }
+    requires low { value ≤ suc ground.now.limit }
+    ensures kept { OnOk result (IsKept queue.old queue.new) }
+    ensures offered { OnOk result (RoundOffered (net_of ground.now) ground.now.size (values ground.now.limit labels.now.cells) queue.new from.at) }
+    ensures over { OnOk result (AreOver (net_of ground.now) (values ground.now.limit labels.now.cells) queue.old → AreOver (net_of ground.now) (values ground.now.limit labels.now.cells) queue.new) }
+    ensures len { OnOk result (length queue.new ≤ length queue.old + 9) }
+    ensures picks { RisesBy 0 19 (M.counts tally.old) (M.counts tally.new) }
+{
+    let own = ground.friction(from.at, tally);
+    if own == 0 {
+        return Ok(());
+    }
+    let rows = ground.extent().rows();
+    let low = from.row.saturating_sub(1);
+    let high = (from.row + 2).min(rows);
+    for r in low..high {
+        offer_row(ground, labels, queue, from, value, own, r, tally)?;
+    }
+    Ok(())
+}

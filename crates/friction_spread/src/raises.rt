@@ -1,0 +1,122 @@
+//! Neighbours of a place whose cost was taken away come into the queue.
+ghost use Rattle.std.specs.Prelude.{◌≡◌, ◌<◌, ◌≤◌, ◌+◌, ◌*◌, ◌^◌, ℕ, length, OnOk};
+ghost use Rattle.map_nums.specs.Grids.{cells_in, gap};
+ghost use Rattle.map_defs.specs.Spread.{friction_at};
+ghost use Rattle.layer_tiles.specs.Tallies.{RisesBy};
+ghost use Rattle.least_costs.specs.Queue.{IsKept, IsRisen};
+ghost use Rattle.friction_spread.specs.Costs.{values, net_of};
+ghost use Rattle.friction_spread.specs.Spots.{IsSpot, AreNear};
+ghost use Rattle.friction_spread.specs.Rows.{RowRisen, RoundRisen};
+
+use crate::costs::cost_at;
+use crate::equations::weigh;
+use crate::ground::{Ground, Spot};
+use crate::looks::look;
+use layer_tiles::{NoMemory, Tally};
+use least_costs::Queue;
+use tile_work::Working;
+
+/// A place near one whose cost was `value` comes into the queue if it disagrees, unless its own cost is below the cost through that place: then its equation did not rise, or stays above it. At most 23 picks.
+fn raise<M: Tally>(
+    ground: &Ground<'_>,
+    labels: &Working<'_>,
+    queue: &mut Queue,
+    from: Spot,
+    value: u64,
+    own: u64,
+    to: Spot,
+    tally: &mut M,
+) -> Result<(), NoMemory>
+    requires size { labels.now.size ≡ ground.now.size }
+    requires spots { IsSpot ground.now.size from × IsSpot ground.now.size to }
+    requires near { AreNear to from }
+    requires low { value ≤ 2 ^ 31 }
+    requires own { (own ≡ friction_at ground.now.friction from.at) × (0 < own) × (own < 2147483648) }
+    ensures kept { OnOk result (IsKept queue.old queue.new) }
+    ensures risen { OnOk result (IsRisen (net_of ground.now) value (values ground.now.limit labels.now.cells) queue.new from.at to.at) }
+    ensures len { OnOk result (length queue.new ≤ length queue.old + 1) }
+    ensures picks { RisesBy 0 23 (M.counts tally.old) (M.counts tally.new) }
+{
+    if from.at == to.at {
+        return Ok(());
+    }
+    let friction = ground.friction(to.at, tally);
+    if friction == 0 {
+        return Ok(());
+    }
+    let there = cost_at(ground, labels, to.at, tally);
+    if there < value + weigh(from, to, own, friction) {
+        return Ok(());
+    }
+    look(ground, labels, queue, to, tally)
+}
+
+/// Those of a row next to it. At most 69 picks.
+fn raise_row<M: Tally>(
+    ground: &Ground<'_>,
+    labels: &Working<'_>,
+    queue: &mut Queue,
+    from: Spot,
+    value: u64,
+    own: u64,
+    row: u32,
+    tally: &mut M,
+) -> Result<(), NoMemory>
+    requires size { labels.now.size ≡ ground.now.size }
+    requires spot { IsSpot ground.now.size from }
+    requires row { row < ground.now.size.rows }
+    requires close { gap row from.row ≤ 1 }
+    requires low { value ≤ 2 ^ 31 }
+    requires own { (own ≡ friction_at ground.now.friction from.at) × (0 < own) × (own < 2147483648) }
+    ensures kept { OnOk result (IsKept queue.old queue.new) }
+    ensures risen { OnOk result (RowRisen (net_of ground.now) ground.now.size value (values ground.now.limit labels.now.cells) queue.new from.at row) }
+    ensures len { OnOk result (length queue.new ≤ length queue.old + 3) }
+    ensures picks { RisesBy 0 69 (M.counts tally.old) (M.counts tally.new) }
+{
+    let columns = ground.extent().columns();
+    let low = from.column.saturating_sub(1);
+    let high = (from.column + 2).min(columns);
+    for c in low..high {
+        raise(
+            ground,
+            labels,
+            queue,
+            from,
+            value,
+            own,
+            ground.spot_at(row, c),
+            tally,
+        )?;
+    }
+    Ok(())
+}
+
+/// The neighbours of a place whose cost was `value` come into the queue, where its loss may make them disagree. At most 208 picks.
+pub fn raise_round<M: Tally>(
+    ground: &Ground<'_>,
+    labels: &Working<'_>,
+    queue: &mut Queue,
+    from: Spot,
+    value: u64,
+    tally: &mut M,
+) -> Result<(), NoMemory>
+    requires size { labels.now.size ≡ ground.now.size }
+    requires spot { IsSpot ground.now.size from }
+    requires low { value ≤ 2 ^ 31 }
+    ensures kept { OnOk result (IsKept queue.old queue.new) }
+    ensures risen { OnOk result (RoundRisen (net_of ground.now) ground.now.size value (values ground.now.limit labels.now.cells) queue.new from.at) }
+    ensures len { OnOk result (length queue.new ≤ length queue.old + 9) }
+    ensures picks { RisesBy 0 208 (M.counts tally.old) (M.counts tally.new) }
+{
+    let own = ground.friction(from.at, tally);
+    if own == 0 {
+        return Ok(());
+    }
+    let rows = ground.extent().rows();
+    let low = from.row.saturating_sub(1);
+    let high = (from.row + 2).min(rows);
+    for r in low..high {
+        raise_row(ground, labels, queue, from, value, own, r, tally)?;
+    }
+    Ok(())
+}

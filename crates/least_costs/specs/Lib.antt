@@ -1,0 +1,4 @@
+pub mod Ranks
+pub mod Entries
+pub mod Queue
+pub mod Best

@@ -1,0 +1,105 @@
+-- What is done with the places that disagree with their equation. They stand in a queue, each under the lesser of its value and its equation's.
+use Rattle.std.specs.Prelude.{◌≡◌, ◌≢◌, ◌⊎◌, ℕ, ◌+◌, ◌<◌, ◌≤◌, ◌==◌, List, length, min, Bool, true, false, if◌then◌else◌, nat_lt}
+use Rattle.std.specs.List.{Contains}
+use Rattle.map_defs.specs.Nets.{Net, equation}
+
+abbrev pub IsQueued : Net → (ℕ → ℕ) → List (ℕ × ℕ) → ℕ → Type 0
+IsQueued g d entries i = d i ≢ equation g d i → Contains entries (min (d i) (equation g d i), i)
+
+-- what stood in the queue stands there still
+abbrev pub IsKept : List (ℕ × ℕ) → List (ℕ × ℕ) → Type 0
+IsKept old new = (x : ℕ × ℕ) → Contains old x → Contains new x
+
+-- the place disagrees, and this is its key
+pub record IsDue (g : Net) (d : ℕ → ℕ) (key at : ℕ) : Type 0 where
+  pub within : at < g.size
+  pub disagrees : d at ≢ equation g d at
+  pub is_key : min (d at) (equation g d at) ≡ key
+
+-- the value after a take
+abbrev pub next_value : Net → (ℕ → ℕ) → ℕ → ℕ
+next_value g d at = let e = equation g d at in if nat_lt e (d at) then e else g.top
+
+-- the cost through c, if it is below i's value, stands in the queue
+abbrev pub IsOffered : Net → (ℕ → ℕ) → List (ℕ × ℕ) → ℕ → ℕ → Type 0
+IsOffered g d entries c i = d c + g.step c i < d i → Contains entries (d c + g.step c i, i)
+
+-- where a step leads
+abbrev pub IsOfferedBy : Net → (ℕ → ℕ) → List (ℕ × ℕ) → ℕ → ℕ → Type 0
+IsOfferedBy g d entries c i = g.step c i < g.top → IsOffered g d entries c i
+
+abbrev pub OfferedFrom : Net → (ℕ → ℕ) → List (ℕ × ℕ) → ℕ → Type 0
+OfferedFrom g d entries c = (i : ℕ) → IsOfferedBy g d entries c i
+
+-- where a step leads from c, whose value was v: the place stands in the queue if it disagrees and its value is not below the cost through c
+abbrev pub IsRisen : Net → ℕ → (ℕ → ℕ) → List (ℕ × ℕ) → ℕ → ℕ → Type 0
+IsRisen g v d entries c i = g.step c i < g.top → v + g.step c i ≤ d i → IsQueued g d entries i
+
+-- one value was set
+pub record IsSetTo (d : ℕ → ℕ) (at v : ℕ) (d' : ℕ → ℕ) : Type 0 where
+  pub here : d' at ≡ v
+  pub other : (j : ℕ) → j ≢ at → d' j ≡ d j
+
+-- the value was above the equation's, and fell to it
+pub record IsFall (g : Net) (d d' : ℕ → ℕ) (entries' : List (ℕ × ℕ)) (at : ℕ) : Type 0 where
+  pub above : equation g d at < d at
+  pub fallen : OfferedFrom g d' entries' at
+
+-- the value was below the equation's, and rose to `top`: the place, and those whose values are not below the cost through it, stand in the queue if they disagree
+pub record IsRise (g : Net) (d d' : ℕ → ℕ) (entries' : List (ℕ × ℕ)) (at : ℕ) : Type 0 where
+  pub below : d at ≤ equation g d at
+  pub here : IsQueued g d' entries' at
+  pub risen : (i : ℕ) → IsRisen g (d at) d' entries' at i
+
+pub record IsTake (g : Net) (d : ℕ → ℕ) (entries : List (ℕ × ℕ)) (key at : ℕ) (d' : ℕ → ℕ) (entries' : List (ℕ × ℕ)) : Type 0 where
+  pub due : IsDue g d key at
+  pub value : IsSetTo d at (next_value g d at) d'
+  pub kept : IsKept entries entries'
+  pub queued : IsRise g d d' entries' at ⊎ IsFall g d d' entries' at
+  pub few : length entries' ≤ length entries + 10
+
+pub record IsPassed (g : Net) (d : ℕ → ℕ) (entries : List (ℕ × ℕ)) (key at : ℕ) (d' : ℕ → ℕ) (entries' : List (ℕ × ℕ)) : Type 0 where
+  pub due : IsDue g d key at → ⊥
+  pub same : d' ≡ d
+  pub entries_same : entries' ≡ entries
+
+-- what is done with an entry
+abbrev pub IsStep : Net → (ℕ → ℕ) → List (ℕ × ℕ) → ℕ → ℕ → (ℕ → ℕ) → List (ℕ × ℕ) → Bool → Type 0
+IsStep g d entries key at d' entries' true = IsTake g d entries key at d' entries'
+IsStep g d entries key at d' entries' false = IsPassed g d entries key at d' entries'
+
+-- the place left its old value
+abbrev pub is_first : (ℕ → ℕ) → (ℕ → ℕ) → ℕ → Bool → Bool
+is_first old d at taken = if taken then old at == d at else false
+
+-- ---- rows of the places round place c
+
+-- ---- values that only fall
+
+-- k is no less than what the equation of i gives
+abbrev pub IsOver : Net → (ℕ → ℕ) → ℕ → ℕ → Type 0
+IsOver g d i k = (g.base i ≤ k) ⊎ ((j : ℕ) × (d j + g.step j i ≤ k))
+
+-- no entry has a key below its place's equation
+abbrev pub AreOver : Net → (ℕ → ℕ) → List (ℕ × ℕ) → Type 0
+AreOver g d entries = (x : ℕ × ℕ) → Contains entries x → IsOver g d x.1 x.0
+
+-- the value fell to the key
+pub record IsFilled (g : Net) (d : ℕ → ℕ) (entries : List (ℕ × ℕ)) (key at : ℕ) (d' : ℕ → ℕ) (entries' : List (ℕ × ℕ)) : Type 0 where
+  pub above : key < d at
+  pub value : IsSetTo d at key d'
+  pub kept : IsKept entries entries'
+  pub fallen : OfferedFrom g d' entries' at
+  pub over : AreOver g d' entries → AreOver g d' entries'
+  pub few : length entries' ≤ length entries + 10
+
+-- the value was no higher, or there is no such place
+pub record IsLeft (g : Net) (d : ℕ → ℕ) (entries : List (ℕ × ℕ)) (key at : ℕ) (d' : ℕ → ℕ) (entries' : List (ℕ × ℕ)) : Type 0 where
+  pub low : at < g.size → d at ≤ key
+  pub same : d' ≡ d
+  pub entries_same : entries' ≡ entries
+
+-- what is done with an entry where values only fall
+abbrev pub IsFill : Net → (ℕ → ℕ) → List (ℕ × ℕ) → ℕ → ℕ → (ℕ → ℕ) → List (ℕ × ℕ) → Bool → Type 0
+IsFill g d entries key at d' entries' true = IsFilled g d entries key at d' entries'
+IsFill g d entries key at d' entries' false = IsLeft g d entries key at d' entries'
