@@ -1,0 +1,23 @@
+-- The tables of a first flow.
+use Rattle.std.specs.Prelude.{◌≡◌, ℕ, ◌<◌, ℤ, pos, ◌+ℤ◌, ◌≤ℤ◌, List, length, Option}
+use Rattle.map_nums.specs.Grids.{Size, Cells, cell_at, cells_in}
+use Rattle.map_defs.specs.Flow.{downstream_of}
+use Rattle.drainage_flow.specs.FlowNets.{brought, flow_number}
+use Rattle.drainage_flow.specs.Pouring.{down_in, flow_in}
+
+-- where each of the first n places drains to
+pub record AreDowns (s : Size) (surface : Cells) (n : ℕ) (downs : List (Option ℕ)) : Type 0 where
+  pub count : length downs ≡ n
+  pub each : (c : ℕ) → c < n → down_in downs c ≡ downstream_of s surface c
+
+-- what each of the first n places brings
+pub record AreBrought (surface weights : Cells) (n : ℕ) (amounts : List ℤ) : Type 0 where
+  pub count : length amounts ≡ n
+  pub each : (c : ℕ) → c < n → flow_in amounts c ≡ brought (cell_at surface c) (cell_at weights c)
+  pub high : (c : ℕ) → c < n → flow_in amounts c ≤ℤ pos 2000000000
+  pub low : (c : ℕ) → c < n → pos 0 ≤ℤ (pos 2000000000 +ℤ flow_in amounts c)
+
+-- the flow at each place
+pub record AreFlows (s : Size) (surface weights : Cells) (flows : List ℤ) : Type 0 where
+  pub count : length flows ≡ cells_in s
+  pub each : (c : ℕ) → c < cells_in s → flow_in flows c ≡ flow_number s surface weights c

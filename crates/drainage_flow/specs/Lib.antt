@@ -1,0 +1,13 @@
+pub mod Nets
+pub mod FlowNets
+pub mod Queues
+pub mod Mending
+pub mod Steepest
+pub mod Around
+pub mod Pouring
+pub mod First
+pub mod Sides
+pub mod Settling
+pub mod Seeding
+pub mod Listing
+pub mod Overflows

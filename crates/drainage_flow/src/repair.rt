@@ -1,0 +1,80 @@
+//! The flow after an edit, from the flow before it and the places where an operand changed.
+ghost use Rattle.std.specs.Prelude.{◌≡◌, ◌<◌, ◌+◌, ◌*◌, ℕ, false, length, replicate, OnOk, IfOk, IsSome};
+ghost use Rattle.std.specs.List.{All, Contains};
+ghost use Rattle.map_nums.specs.Grids.{cells_in};
+ghost use Rattle.map_defs.specs.Flow.{flow_grid};
+ghost use Rattle.layer_tiles.specs.Tallies.{RisesBy};
+ghost use Rattle.layer_tiles.specs.Changes.{cells_before};
+ghost use Rattle.drainage_flow.specs.Settling.{AreCells, AreNewFlows, flow_changes};
+ghost use Rattle.drainage_flow.specs.Seeding.{IsSeededOf, MarkedAround};
+ghost use Rattle.drainage_flow.specs.Listing.{AreListed};
+
+use crate::queue::Queue;
+use crate::seed::renew_around;
+use crate::settle::settle;
+use layer_tiles::{Change, Layer, Tally};
+use map_nums::NoMemory;
+use std::alloc::Global;
+
+/// Renews the places round each changed one. At most 234 picks for each.
+fn renew_all<M: Tally>(
+    old: &Change<'_>,
+    surface: &Change<'_>,
+    weights: &Change<'_>,
+    changed: &[u32],
+    marks: &mut [bool],
+    queue: &mut Queue,
+    tally: &mut M,
+) -> Result<(), NoMemory>
+    requires surface { IsSome surface.now.before }
+    requires weights { IsSome weights.now.before }
+    requires old_size { old.now.size ≡ surface.now.size }
+    requires weights_size { weights.now.size ≡ surface.now.size }
+    requires within { All (λ c. c < cells_in surface.now.size) changed.now }
+    requires marks { length marks.old ≡ cells_in surface.now.size }
+    requires seeded { IsSeededOf surface.now weights.now old.now.cells queue.old marks.old }
+    ensures seeded { OnOk result (IsSeededOf surface.now weights.now old.now.cells queue.new marks.new) }
+    ensures marked { OnOk result ((c : ℕ) → Contains changed.now c → MarkedAround surface.now.size marks.new c) }
+    ensures picks { RisesBy 0 (234 * length changed.now) (M.counts tally.old) (M.counts tally.new) }
+{
+    for at in changed {
+        renew_around(old, surface, weights, *at, marks, queue, tally)?;
+    }
+    Ok(())
+}
+
+/// No place marked.
+fn no_marks(alloc: Global, count: usize) -> Result<Vec<bool>, NoMemory>
+    ensures { IfOk result (λ marks. marks.items ≡ replicate count false) }
+{
+    Ok(vec![in alloc; false; count]?)
+}
+
+/// The places whose flow an edit changes, each with its new flow, from the flow before and the places where an operand changed.
+pub fn mend<M: Tally>(
+    alloc: Global,
+    old: &Layer,
+    surface: &Change<'_>,
+    weights: &Change<'_>,
+    changed: &[u32],
+    tally: &mut M,
+) -> Result<Vec<(u32, i64)>, NoMemory>
+    requires surface { IsSome surface.now.before }
+    requires weights { IsSome weights.now.before }
+    requires old_size { old.now.size ≡ surface.now.size }
+    requires weights_size { weights.now.size ≡ surface.now.size }
+    requires cells { AreCells weights.now.cells }
+    requires right { old.now.cells ≡ (flow_grid surface.now.size (cells_before surface.now) (cells_before weights.now)).cells }
+    requires within { All (λ c. c < cells_in surface.now.size) changed.now }
+    requires listed { AreListed surface.now weights.now changed.now }
+    ensures flows { IfOk result (λ puts. AreNewFlows surface.now.size surface.now.cells weights.now.cells old.now.cells puts.items) }
+    ensures picks { RisesBy 0 (234 * length changed.now + 11 * flow_changes surface.now.size surface.now.cells weights.now.cells old.now.cells) (M.counts tally.old) (M.counts tally.new) }
+{
+    let before = Change::same(old);
+    let mut marks = no_marks(alloc, surface.extent().cells() as usize)?;
+    let mut queue = Queue::new(alloc);
+    renew_all(
+        &before, surface, weights, changed, &mut marks, &mut queue, tally,
+    )?;
+    settle(alloc, &before, surface, weights, queue, tally)
+}
