@@ -1,0 +1,5 @@
+pub mod Widening
+pub mod Bands
+pub mod Rows
+pub mod Turns
+pub mod Whole

@@ -1,0 +1,6 @@
+pub mod Classes
+pub mod Sets
+pub mod Damage
+pub mod Widened
+pub mod Added
+pub mod Seen
