@@ -1,5 +1,9 @@
 -- How many sources and flat statements there are after an edit.
 use Rattle.std.proofs.Common.{◌≡◌, ℕ, suc, ◌+◌, ◌≤◌, Bool, true, false, cond, not, List, [], ◌∷◌, ◌++◌, map, find, length, ◌-◌, count_by, Option, Some, None, is_some, option_map, bytes_eq, refl, sym, ap, subst, ◌∙◌, arith}
+use Rattle.std.specs.List.{All, AllByRecursion}
+use Rattle.std.proofs.lemmas.List.Elements.{recursion_from_All}
+use Rattle.map_nums.specs.Grids.{Size}
+use Rattle.live_engine.specs.Engines.{IsItem, IsHeld}
 use Rattle.std.proofs.lemmas.List.Sums.{sum_by-cons, sum_by-append}
 use Rattle.map_defs.specs.Ops.{Name, Op}
 use Rattle.map_defs.specs.Statements.{Flat, Written, plain, call}
@@ -7,7 +11,8 @@ use Rattle.statement_parser.specs.Views.{op_view, written_view}
 use Rattle.statement_parser.specs.declared.op.Op as seen
 use Rattle.statement_parser.specs.declared.line.Written as writtens
 use Rattle.statement_parser.specs.declared.line.Written.TheVariants as a_written
-use Rattle.statement_parser.proofs.Viewed.{by_view}
+use Rattle.map_lines.specs.Formed.{IsOp, IsWritten}
+use Rattle.map_lines.proofs.Viewed.{by_view}
 use Rattle.map_defs.specs.Expansion.{expansion_of}
 use Rattle.map_edits.specs.Entries.{Def, source, statement, Entry, find_def, put_entry, drop_entry, LayerDef, given_grid, by_op, flat_layer, layers, layers_of}
 use Rattle.map_edits.specs.Edits.{is_source, is_flat, is_zonal}
@@ -144,27 +149,31 @@ flats_drop (e ∷ es) n = go (bytes_eq e.name n) (flats_drop es n)
     go true rest = (at_most _ _ _ _ (count_by is_flat (layers_of e)) less whole rest).0
     go false rest = (at_most _ _ _ _ (count_by is_flat (layers_of e)) less whole rest).1
 
--- ---- no operation that a line can write is Zonal
+-- ---- no operation that is there is Zonal
 
-not_zonal : (o : seen.Op) → is_zonal (record { name = []; making = by_op (op_view o) }) ≡ false
-not_zonal o = by_view (λ op. is_zonal (record { name = []; making = by_op op }) ≡ false) (λ stat ts. refl) (λ l r. refl) (λ l r. refl) (λ t rs. refl) o
+not_zonal : (o : seen.Op) → IsOp (op_view o) → is_zonal (record { name = []; making = by_op (op_view o) }) ≡ false
+not_zonal o there = by_view (λ op. is_zonal (record { name = []; making = by_op op }) ≡ false) (λ stat ts. refl) (λ l r. refl) (λ l r. refl) (λ t rs. refl) (op_view o) there
 
 -- a statement that is one operation is one flat statement
 pub flats_is : (n : Name) (op : Op) → flats_of n (plain op) ≡ record { name = n; op = op } ∷ []
 unfolding expansion_of
 flats_is n op = refl
 
-zonals_first : (n : Name) (item : Item) → count_by is_zonal (layers_of (record { name = n; def = def_of n item })) ≡ 0
-zonals_first n (Source layer) = refl
-zonals_first n (Statement (a_written.Plain o)) = rw (flats_is n (op_view o)) (count_first is_zonal (record { name = n; making = by_op (op_view o) }) [] ∙ ap (λ b. cond b 1 0 + 0) (not_zonal o))
+zonals_first : (size : Size) (n : Name) (item : Item) → IsItem size item → count_by is_zonal (layers_of (record { name = n; def = def_of n item })) ≡ 0
+zonals_first size n (Source layer) there = refl
+zonals_first size n (Statement (a_written.Call p ts)) there = absurd there
+zonals_first size n (Statement (a_written.Plain o)) there = rw (flats_is n (op_view o)) (count_first is_zonal (record { name = n; making = by_op (op_view o) }) [] ∙ ap (λ b. cond b 1 0 + 0) (not_zonal o there))
 
-pub no_zonals : (items : List (List ℕ × Item)) → count_by is_zonal (layers (entries_of items)) ≡ 0
-no_zonals [] = refl
-no_zonals (e ∷ es) =
+none_zonal : (size : Size) (items : List (List ℕ × Item)) → AllByRecursion (IsHeld size) items → count_by is_zonal (layers (entries_of items)) ≡ 0
+none_zonal size [] held = refl
+none_zonal size (e ∷ es) held =
     let both = sum_by-append (λ l. cond (is_zonal l) 1 0) (layers_of (entry_of e)) (layers (entries_of es)) in
-    let first = zonals_first e.0 e.1 in
-    let rest = no_zonals es in
+    let first = zonals_first size e.0 e.1 held.0.1 in
+    let rest = none_zonal size es held.1 in
     omega (arith, both, first, rest)
+
+pub no_zonals : (size : Size) (items : List (List ℕ × Item)) → All (IsHeld size) items → count_by is_zonal (layers (entries_of items)) ≡ 0
+no_zonals size items held = none_zonal size items (recursion_from_All (IsHeld size) items held)
 
 -- ---- a statement is put
 
@@ -195,8 +204,9 @@ flats_put es n written op (Some (statement w fs)) own is other =
     omega (arith, before, after, longer, same)
 
 -- the nodes of a statement that is written
-pub statement_nodes_is : (n : Name) (written : writtens.Written) → written_node n (written_view written) ∷ [] ≡ statement_nodes (flats_of n (written_view written))
-statement_nodes_is n (a_written.Plain o) = ap statement_nodes (sym (flats_is n (op_view o)))
+pub statement_nodes_is : (n : Name) (written : writtens.Written) → IsWritten (written_view written) → written_node n (written_view written) ∷ [] ≡ statement_nodes (flats_of n (written_view written))
+statement_nodes_is n (a_written.Call p ts) there = absurd there
+statement_nodes_is n (a_written.Plain o) there = ap statement_nodes (sym (flats_is n (op_view o)))
 
 -- its last node has its name
 pub own_name_is : (n : Name) (w : Written) → own_name (written_node n w ∷ []) ≡ Some n

@@ -1,5 +1,5 @@
 -- What each edit makes of the entries, and why it is refused.
-use Rattle.std.proofs.Common.{◌≡◌, ℕ, ℤ, ◌+◌, ◌≤◌, ◌<◌, ◌^◌, Bool, true, false, cond, List, [], ◌∷◌, ◌++◌, length, count_by, nat_lt, nat_eq, IfSome, Option, Some, None, is_some, option_map, Ok, Err, bytes_eq, refl, sym, ap, subst, ◌∙◌, arith}
+use Rattle.std.proofs.Common.{◌≡◌, ℕ, ℤ, ◌+◌, ◌≤◌, ◌<◌, ◌^◌, Bool, true, false, cond, List, [], ◌∷◌, ◌++◌, length, count_by, nat_lt, nat_eq, IfSome, Option, Some, None, is_some, option_map, Ok, Err, bytes_eq, IsTrue, refl, sym, ap, subst, ◌∙◌, arith}
 use Rattle.std.specs.List.{All}
 use Rattle.std.proofs.lemmas.Bool.{lt-ltb, le-ltb, and_parts, eqb-true}
 use Rattle.std.specs.Map.{lookup, set_value}
@@ -44,7 +44,9 @@ use Rattle.live_engine.specs.declared.values.Halt.{Halt}
 use Rattle.live_engine.specs.declared.values.Halt.TheVariants as halts
 use Rattle.live_engine.proofs.Counts.{flats_is, no_zonals, statement_nodes_is}
 use Rattle.live_engine.proofs.Groupings.{nodes_in_groups, has_group_is, groups_put, groups_add, groups_drop}
-use Rattle.live_engine.proofs.Items.{find_item, entries_insert, entries_set, held_set}
+use Rattle.map_words.specs.Names.{is_plain}
+use Rattle.map_lines.specs.Formed.{IsWritten}
+use Rattle.live_engine.proofs.Items.{find_item, entries_insert, entries_set, held_insert, held_set}
 use Rattle.live_engine.proofs.Lawful.{nodes_few, nodes_put_few, lawful_define}
 use Rattle.live_engine.proofs.Accepting.{accept_err, placed_accepts, placed_kept}
 
@@ -141,9 +143,10 @@ module _ (s : EngineState) (n : Name) where
 abbrev defined : Name → Written → Def
 defined n w = statement w (flats_of n w)
 
-expansion_is : (n : Name) (written : writtens.Written) → expansion_of [] n (written_view written) ≡ Ok (flats_of n (written_view written))
+expansion_is : (n : Name) (written : writtens.Written) → IsWritten (written_view written) → expansion_of [] n (written_view written) ≡ Ok (flats_of n (written_view written))
 unfolding expansion_of
-expansion_is n (a_written.Plain o) = refl
+expansion_is n (a_written.Call p ts) formed = absurd formed
+expansion_is n (a_written.Plain o) formed = refl
 
 module _ (s : EngineState) (n : Name) (w : Written) where
   pub define_exists : kinds.Source ≡ standing_of (find_def s.entries n) → entries_after s (define n w) ≡ Err (exists_already n)
@@ -170,28 +173,30 @@ bounded_by n es many looped p q r =
     ∙ ap (λ z. cond many (Err (beyond statements)) (cond (nat_lt 24 z) (Err (beyond zonals)) (cond (is_looped (nodes_of es) n) (Err (cycle n)) (Ok es)))) q
     ∙ ap (λ l. cond many (Err (beyond statements)) (cond l (Err (cycle n)) (Ok es))) r
 
-pub own_defined : (n : Name) (written : writtens.Written) → IsOwnDef n (defined n (written_view written))
-own_defined n (a_written.Plain o) = (op_view o, flats_is n (op_view o))
+pub own_defined : (n : Name) (written : writtens.Written) → IsWritten (written_view written) → IsOwnDef n (defined n (written_view written))
+own_defined n (a_written.Call p ts) formed = absurd formed
+own_defined n (a_written.Plain o) formed = (op_view o, flats_is n (op_view o))
 
-pub count_defined : (k : ℕ) (es : List Entry) (n : Name) (written : writtens.Written) → ((v : Written) (op : Op) → k ≡ count_by is_flat (layers (put_entry es n (statement v (record { name = n; op = op } ∷ []))))) → k ≡ count_by is_flat (layers (put_entry es n (defined n (written_view written))))
-count_defined k es n (a_written.Plain o) all = all (plain (op_view o)) (op_view o) ∙ ap (λ fs. count_by is_flat (layers (put_entry es n (statement (plain (op_view o)) fs)))) (sym (flats_is n (op_view o)))
+pub count_defined : (k : ℕ) (es : List Entry) (n : Name) (written : writtens.Written) → IsWritten (written_view written) → ((v : Written) (op : Op) → k ≡ count_by is_flat (layers (put_entry es n (statement v (record { name = n; op = op } ∷ []))))) → k ≡ count_by is_flat (layers (put_entry es n (defined n (written_view written))))
+count_defined k es n (a_written.Call p ts) formed all = absurd formed
+count_defined k es n (a_written.Plain o) formed all = all (plain (op_view o)) (op_view o) ∙ ap (λ fs. count_by is_flat (layers (put_entry es n (statement (plain (op_view o)) fs)))) (sym (flats_is n (op_view o)))
 
 pub other_from : (o : Option Def) (k : Kind) → k ≡ standing_of o → (k ≡ kinds.Source → ⊥) → OtherThanSource o
 other_from None k is differs = tt
 other_from (Some (source grid)) k is differs = differs is
 other_from (Some (statement w flats)) k is differs = tt
 
-module _ (held : Held) (n : Name) (written : writtens.Written) (kept : IsKeptIn held) (other : OtherThanSource (find_def (entries_in held) n)) where
+module _ (held : Held) (n : Name) (written : writtens.Written) (named : IsTrue (is_plain n)) (formed : IsWritten (written_view written)) (kept : IsKeptIn held) (other : OtherThanSource (find_def (entries_in held) n)) where
   -- the entries with the statement
   abbrev pub with_it : List Entry
   with_it = put_entry (entries_in held) n (defined n (written_view written))
 
   no_zonals_with : count_by is_zonal (layers with_it) ≡ 0
-  no_zonals_with = ap (λ es. count_by is_zonal (layers es)) (sym (entries_insert held.names.entries n (Statement written))) ∙ no_zonals (insert_entry bytes_eq held.names.entries n (Statement written))
+  no_zonals_with = ap (λ es. count_by is_zonal (layers es)) (sym (entries_insert held.names.entries n (Statement written))) ∙ no_zonals held.extent (insert_entry bytes_eq held.names.entries n (Statement written)) (held_insert held.extent held.names.entries n kept.held (Statement written) named formed)
 
   define_by : (count : ℕ) (many looped : Bool) → count ≡ count_by is_flat (layers with_it) → nat_lt 64 count ≡ many → is_looped (nodes_of with_it) n ≡ looped
       → entries_after (seen_in held) (define n (written_view written)) ≡ cond many (Err (beyond statements)) (cond looped (Err (cycle n)) (Ok with_it))
-  define_by count many looped is p r = define_puts (seen_in held) n (written_view written) (expansion_is n written) other ∙ bounded_by n with_it many looped (ap (nat_lt 64) (sym is) ∙ p) no_zonals_with r
+  define_by count many looped is p r = define_puts (seen_in held) n (written_view written) (expansion_is n written formed) other ∙ bounded_by n with_it many looped (ap (nat_lt 64) (sym is) ∙ p) no_zonals_with r
 
   pub define_many : (count : ℕ) → count ≡ count_by is_flat (layers with_it) → 64 < count → entries_after (seen_in held) (define n (written_view written)) ≡ Err (beyond statements)
   define_many count is many = define_by count true (is_looped (nodes_of with_it) n) is (lt-ltb 64 count many) refl
@@ -206,15 +211,15 @@ module _ (held : Held) (n : Name) (written : writtens.Written) (kept : IsKeptIn 
   pub groups_with : put_group held.graph n (written_node n (written_view written) ∷ []) ≡ groups_of with_it
   groups_with =
       ap (λ g. put_group g n (written_node n (written_view written) ∷ [])) kept.graph_is
-      ∙ ap (put_group (groups_of (entries_in held)) n) (statement_nodes_is n written)
+      ∙ ap (put_group (groups_of (entries_in held)) n) (statement_nodes_is n written formed)
       ∙ groups_put (entries_in held) n (written_view written) (flats_of n (written_view written))
 
   pub groups_few : length (nodes_in (put_group held.graph n (written_node n (written_view written) ∷ []))) + 1 < 2 ^ 32
   groups_few =
-      let few : length (nodes_in (put_group (groups_of (entries_in held)) n (statement_nodes (flats_of n (written_view written))))) ≤ 97 = nodes_put_few (entries_in held) n (written_view written) (flats_of n (written_view written)) kept.lawful (own_defined n written) in
+      let few : length (nodes_in (put_group (groups_of (entries_in held)) n (statement_nodes (flats_of n (written_view written))))) ≤ 97 = nodes_put_few (entries_in held) n (written_view written) (flats_of n (written_view written)) kept.lawful (own_defined n written formed) in
       let same : length (nodes_in (put_group held.graph n (written_node n (written_view written) ∷ []))) ≡ length (nodes_in (put_group (groups_of (entries_in held)) n (statement_nodes (flats_of n (written_view written))))) =
       ap (λ (g : List Group). length (nodes_in (put_group g n (written_node n (written_view written) ∷ [])))) kept.graph_is
-      ∙ ap (λ ns. length (nodes_in (put_group (groups_of (entries_in held)) n ns))) (statement_nodes_is n written) in
+      ∙ ap (λ ns. length (nodes_in (put_group (groups_of (entries_in held)) n ns))) (statement_nodes_is n written formed) in
       omega (arith, few, same)
 
   pub looped_with : (b : Bool) → is_looped (nodes_in (put_group held.graph n (written_node n (written_view written) ∷ []))) n ≡ b → is_looped (nodes_of with_it) n ≡ b
@@ -222,7 +227,7 @@ module _ (held : Held) (n : Name) (written : writtens.Written) (kept : IsKeptIn 
 
   pub lawful_with : (count : ℕ) → count ≡ count_by is_flat (layers with_it) → count ≤ 64 → is_looped (nodes_of with_it) n ≡ false → AreLawful with_it
   lawful_with count is few alone =
-      lawful_define (entries_in held) n kept.lawful (written_view written) (flats_of n (written_view written)) (own_defined n written) other (subst (λ k. k ≤ 64) is few) alone
+      lawful_define (entries_in held) n kept.lawful (written_view written) (flats_of n (written_view written)) (own_defined n written formed) other (subst (λ k. k ≤ 64) is few) alone
 
 -- ---- sizes
 

@@ -17,7 +17,7 @@ use Rattle.map_edits.specs.Laws.{IsOwnDef, IsOwn, IsApart}
 use Rattle.map_edits.proofs.Among.{same_name}
 use Rattle.map_edits.proofs.Puts.{apart_put, apart_drop, def_making, making_by_entry}
 use Rattle.live_engine.specs.Held.{flats_of, def_of, entries_of}
-use Rattle.live_engine.specs.Scenes.{shifted, after_scene, found_def}
+use Rattle.live_engine.specs.Scenes.{shifted, after_scene, IsShift, IsScene, found_def}
 use Rattle.live_engine.specs.declared.held.Item.{Item}
 use Rattle.live_engine.specs.declared.held.Item.TheVariants as an_item
 use Rattle.live_engine.specs.declared.scene.Scene.{Scene}
@@ -25,7 +25,12 @@ use Rattle.live_engine.specs.declared.scene.Shift.{Shift}
 use Rattle.live_engine.specs.declared.scene.Shift.TheVariants.{Loaded, Painted, Defined, Dropped}
 use Rattle.live_engine.specs.declared.scene.Found.{Found}
 use Rattle.live_engine.specs.declared.scene.Found.TheVariants.{Source, Statement}
-use Rattle.statement_parser.proofs.Viewed.{plain_view}
+use Rattle.std.specs.List.{AllByRecursion}
+use Rattle.std.proofs.lemmas.List.Elements.{recursion_from_All}
+use Rattle.map_nums.specs.Grids.{Size}
+use Rattle.map_lines.specs.Formed.{IsOp, IsWritten}
+use Rattle.map_edits.proofs.Evaluating.{statement_op}
+use Rattle.live_engine.specs.Engines.{IsItem, IsHeld}
 use Rattle.live_engine.proofs.Lookups.{find_entry, its_def, apart_items}
 
 pub flats_plain : (n : Name) (o : Op) → flats_of n (plain o) ≡ record { name = n; op = o } ∷ []
@@ -34,25 +39,26 @@ flats_plain n o = refl
 
 -- ---- statements as they were written
 
--- a statement is one operation that a line wrote
+-- a statement is one operation that a line wrote, and that is there
 abbrev pub IsLinedDef : Name → Def → Type 0
 IsLinedDef n (source grid) = ⊤
-IsLinedDef n (statement w flats) = (o : seen.Op) × (flats ≡ record { name = n; op = op_view o } ∷ [])
+IsLinedDef n (statement w flats) = (o : seen.Op) × (flats ≡ record { name = n; op = op_view o } ∷ []) × IsOp (op_view o)
 
 abbrev pub AreLined : List Entry → Type 0
 AreLined [] = ⊤
 AreLined (e ∷ es) = IsLinedDef e.name e.def × AreLined es
 
-lined_written : (n : Name) (written : writtens.Written) → IsLinedDef n (statement (written_view written) (flats_of n (written_view written)))
-lined_written n (a_written.Plain o) = (o, flats_plain n (op_view o))
+lined_written : (n : Name) (written : writtens.Written) → IsWritten (written_view written) → IsLinedDef n (statement (written_view written) (flats_of n (written_view written)))
+lined_written n (a_written.Call p ts) there = absurd there
+lined_written n (a_written.Plain o) there = (o, flats_plain n (op_view o), there)
 
-lined_item : (n : Name) (item : Item) → IsLinedDef n (def_of n item)
-lined_item n (an_item.Source layer) = tt
-lined_item n (an_item.Statement written) = lined_written n written
+lined_item : (size : Size) (n : Name) (item : Item) → IsItem size item → IsLinedDef n (def_of n item)
+lined_item size n (an_item.Source layer) there = tt
+lined_item size n (an_item.Statement written) there = lined_written n written there
 
-lined_items : (items : List (List ℕ × Item)) → AreLined (entries_of items)
-lined_items [] = tt
-lined_items (e ∷ es) = (lined_item e.0 e.1, lined_items es)
+lined_items : (size : Size) (items : List (List ℕ × Item)) → AllByRecursion (IsHeld size) items → AreLined (entries_of items)
+lined_items size [] held = tt
+lined_items size (e ∷ es) held = (lined_item size e.0 e.1 held.0.1, lined_items size es held.1)
 
 lined_put : (es : List Entry) (n : Name) (d : Def) → AreLined es → IsLinedDef n d → AreLined (put_entry es n d)
 lined_put [] n d lined it = (it, tt)
@@ -70,14 +76,14 @@ lined_drop (e ∷ es) n lined = go (bytes_eq e.name n) (lined_drop es n lined.1)
     go true rest = rest
     go false rest = (lined.0, rest)
 
-lined_shifted : (es : List Entry) (shift : Shift) → AreLined es → AreLined (shifted es shift)
-lined_shifted es (Loaded n layer) lined = lined_put es n.now _ lined tt
-lined_shifted es (Painted n layer patch) lined = lined_put es n.now _ lined tt
-lined_shifted es (Defined n written) lined = lined_put es n.now _ lined (lined_written n.now written.now)
-lined_shifted es (Dropped n) lined = lined_drop es n.now lined
+lined_shifted : (size : Size) (es : List Entry) (shift : Shift) → IsShift size shift → AreLined es → AreLined (shifted es shift)
+lined_shifted size es (Loaded n layer) there lined = lined_put es n.now _ lined tt
+lined_shifted size es (Painted n layer patch) there lined = lined_put es n.now _ lined tt
+lined_shifted size es (Defined n written) there lined = lined_put es n.now _ lined (lined_written n.now written.now there.1)
+lined_shifted size es (Dropped n) there lined = lined_drop es n.now lined
 
-pub lined_scene : (scene : Scene) → AreLined (after_scene scene)
-lined_scene scene = lined_shifted (entries_of scene.names.now.entries) scene.shift (lined_items scene.names.now.entries)
+pub lined_scene : (scene : Scene) → IsScene scene → AreLined (after_scene scene)
+lined_scene scene is = lined_shifted scene.extent (entries_of scene.names.now.entries) scene.shift is.shift (lined_items scene.extent scene.names.now.entries (recursion_from_All (IsHeld scene.extent) scene.names.now.entries is.held))
 
 lined_found : (es : List Entry) (n : Name) (d : Def) → AreLined es → find_def es n ≡ Some d → IsLinedDef n d
 lined_found [] n d lined e = absurd (none-some d e)
@@ -97,8 +103,8 @@ pub own_lined : (es : List Entry) → AreLined es → IsOwn es
 own_lined [] lined = tt
 own_lined (e ∷ es) lined = (own_def e.name e.def lined.0, own_lined es lined.1)
 
-pub own_scene : (scene : Scene) → IsOwn (after_scene scene)
-own_scene scene = own_lined (after_scene scene) (lined_scene scene)
+pub own_scene : (scene : Scene) → IsScene scene → IsOwn (after_scene scene)
+own_scene scene is = own_lined (after_scene scene) (lined_scene scene is)
 
 -- ---- no name twice
 
@@ -116,12 +122,12 @@ apart_scene scene distinct = apart_shifted (entries_of scene.names.now.entries) 
 written_op : (n : Name) (w : Written) (flats : List Flat) (op : Op) (o : seen.Op) → flats ≡ record { name = n; op = op_view o } ∷ [] → def_making (Some (statement w flats)) ≡ Some (by_op op) → op ≡ op_view o
 written_op n w flats op o is e = let made : Some (by_op (op_view o)) ≡ Some (by_op op) = sym (ap (λ fs. def_making (Some (statement w fs))) is) ∙ e in cc
 
-def_op : (n : Name) (d : Option Def) (op : Op) → ((x : Def) → d ≡ Some x → IsLinedDef n x) → def_making d ≡ Some (by_op op) → (o : seen.Op) × (op ≡ op_view o)
+def_op : (n : Name) (d : Option Def) (op : Op) → ((x : Def) → d ≡ Some x → IsLinedDef n x) → def_making d ≡ Some (by_op op) → (o : seen.Op) × (op ≡ op_view o) × IsOp (op_view o)
 def_op n None op lined e = absurd cc
 def_op n (Some (source grid)) op lined e = absurd cc
-def_op n (Some (statement w flats)) op lined e = let l = lined (statement w flats) refl in (l.0, written_op n w flats op l.0 l.1 e)
+def_op n (Some (statement w flats)) op lined e = let l = lined (statement w flats) refl in (l.0, written_op n w flats op l.0 l.1 e, l.2)
 
-pub line_op : (es : List Entry) (n : Name) (op : Op) → AreLined es → find_making (layers es) n ≡ Some (by_op op) → (o : seen.Op) × (op ≡ op_view o)
+pub line_op : (es : List Entry) (n : Name) (op : Op) → AreLined es → find_making (layers es) n ≡ Some (by_op op) → (o : seen.Op) × (op ≡ op_view o) × IsOp (op_view o)
 line_op es n op lined e = def_op n (find_def es n) op (λ x is. lined_found es n x lined is) (sym (making_by_entry es n (own_lined es lined)) ∙ e)
 
 module _ (es : List Entry) (n : Name) (o : Option Found) (own : IsOwn es) (def : option_map (found_def n) o ≡ find_def es n) where
@@ -141,4 +147,7 @@ module _ (es : List Entry) (n : Name) (o : Option Found) (own : IsOwn es) (def :
       ∙ ap (λ fs. def_making (Some (statement (plain op) fs))) (flats_plain n op)
 
   pub making_statement : (b : Bor writtens.Written) → o ≡ Some (Statement b) → (op : Op) × (find_making (layers es) n ≡ Some (by_op op))
-  making_statement b is = let p = plain_view b.now in (op_view p.0, making_plain b (op_view p.0) is p.1)
+  making_statement b is =
+      let w = written_view b.now in
+      let o = statement_op es own n w (flats_of n w) (sym def ∙ ap (option_map (found_def n)) is) in
+      (o.0, making_found (Some (Statement b)) is ∙ ap (λ fs. def_making (Some (statement w fs))) o.1)

@@ -23,7 +23,7 @@ use Rattle.map_edits.proofs.Listed.{IsListed, listed_at}
 use Rattle.statement_graph.specs.declared.node.Node.{Node as Given}
 use Rattle.statement_graph.specs.Puts.{flat_node}
 use Rattle.live_engine.specs.Values.{IsOfStamp, kept, at_hand, AreValues, IsValued, IsEvaluation, defined_names}
-use Rattle.live_engine.specs.Scenes.{after_scene}
+use Rattle.live_engine.specs.Scenes.{after_scene, IsScene}
 use Rattle.live_engine.specs.declared.scene.Scene.{Scene}
 use Rattle.live_engine.specs.declared.values.Halt.{Halt}
 use Rattle.live_engine.specs.declared.values.Halt.TheVariants.{Overflow, NoMemory}
@@ -41,8 +41,8 @@ pub record IsSettled (es : List Entry) : Type 0 where
   pub lined : AreLined es
   pub apart : IsApart es
 
-pub settled_scene : (scene : Scene) → HasNoCycle (nodes_of (after_scene scene)) → IsDistinct bytes_eq (keys_of scene.names.now.entries) → IsSettled (after_scene scene)
-settled_scene scene none distinct = record { none_looped = none; lined = lined_scene scene; apart = apart_scene scene distinct }
+pub settled_scene : (scene : Scene) → IsScene scene → HasNoCycle (nodes_of (after_scene scene)) → IsDistinct bytes_eq (keys_of scene.names.now.entries) → IsSettled (after_scene scene)
+settled_scene scene is none distinct = record { none_looped = none; lined = lined_scene scene is; apart = apart_scene scene distinct }
 
 -- the statement that the graph gives
 pub given_at : (ns nodes : List Node) (k : ℕ) (r : Option (Bor Given)) (b : Bor Given) → option_map flat_node (option_copied r) ≡ slice_get (by_depth ns) k → ns ≡ nodes → r ≡ Some b → slice_get (by_depth nodes) k ≡ Some (flat_node b.now)
@@ -140,7 +140,7 @@ module _ (s : EngineState) (stamp : ℕ) (settled : IsSettled s.entries) (k : �
     fault_here : fault_of_layer s node.name ≡ overflow_at s.size node.name (wide_place (made s.size (at_hand s values) (find_making (layers s.entries) node.name)))
     fault_here =
         let op = line_op s.entries node.name statement_at.0 settled.lined statement_at.1 in
-        line_fault s node.name op.0 (statement_at.1 ∙ ap (λ q. Some (by_op q)) op.1)
+        line_fault s node.name op.0 op.2 (statement_at.1 ∙ ap (λ q. Some (by_op q)) op.1)
         ∙ ap (λ o. overflow_at s.size node.name (wide_place o)) (sym made_is_value)
 
     pub step_pushed : (v : Valued) (after : List Valued) → IsValued s.size node.name (made s.size (at_hand s values) (find_making (layers s.entries) node.name)) (Ok v) → IsOfStamp s.size stamp v → after ≡ values ++ v ∷ []

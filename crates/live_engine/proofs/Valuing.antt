@@ -9,7 +9,8 @@ use Rattle.map_defs.specs.Local.{local_grid}
 use Rattle.map_defs.specs.Operate.{operate}
 use Rattle.statement_parser.specs.Views.{op_view}
 use Rattle.statement_parser.specs.declared.op.Op.{Op}
-use Rattle.statement_parser.proofs.Viewed.{by_view}
+use Rattle.map_lines.specs.Formed.{IsOp}
+use Rattle.map_lines.proofs.Viewed.{by_view}
 use Rattle.layer_tiles.specs.Layers.{LayerState, layer_of}
 use Rattle.layer_tiles.specs.Tallies.{TallyState, RisesBy, KeepsParts}
 use Rattle.layer_tiles.specs.declared.kernels.KernelRefusal.TheVariants as refusals
@@ -24,9 +25,9 @@ use Rattle.live_engine.specs.declared.values.Halt.{Halt}
 use Rattle.live_engine.specs.declared.values.Halt.TheVariants.{Overflow, NoMemory}
 
 -- an operation of a line gives a grid of its size
-pub operate_size : (size : Size) (o : Op) (cells : List Cells) → (operate size (op_view o) cells).size ≡ size
+pub operate_size : (size : Size) (o : Op) (cells : List Cells) → IsOp (op_view o) → (operate size (op_view o) cells).size ≡ size
 unfolding operate local_grid
-operate_size size o cells = by_view (λ op. (operate size op cells).size ≡ size) (λ stat ts. refl) (λ l r. refl) (λ l r. refl) (λ t rs. refl) o
+operate_size size o cells there = by_view (λ op. (operate size op cells).size ≡ size) (λ stat ts. refl) (λ l r. refl) (λ l r. refl) (λ t rs. refl) (op_view o) there
 
 module _ (size : Size) (f : Name → Option Grid) (o : Op) (m : Option Making) (cells : List Cells)
     (is : m ≡ Some (by_op (op_view o))) (operands : all_some (map (term_cells size f) (ops.terms_of (op_view o))) ≡ Some cells) where
@@ -37,10 +38,10 @@ module _ (size : Size) (f : Name → Option Grid) (o : Op) (m : Option Making) (
   made_place = ap wide_place made_grid
 
   module _ (stamp : ℕ) where
-    pub valued_layer : (n : Name) (v : Valued) → v.name ≡ n → IsEvaluated size (operate size (op_view o) cells) stamp (Ok v.layer) → IsValued size n (made size f m) (Ok v)
-    valued_layer n v named done =
+    pub valued_layer : IsOp (op_view o) → (n : Name) (v : Valued) → v.name ≡ n → IsEvaluated size (operate size (op_view o) cells) stamp (Ok v.layer) → IsValued size n (made size f m) (Ok v)
+    valued_layer there n v named done =
         let grid = operate size (op_view o) cells in
-        let same : grid_of v.layer ≡ grid = ap grid_of done.0 ∙ ap (λ (s : Size). record { size = s; cells = grid.cells }) (sym (operate_size size o cells)) in
+        let same : grid_of v.layer ≡ grid = ap grid_of done.0 ∙ ap (λ (s : Size). record { size = s; cells = grid.cells }) (sym (operate_size size o cells there)) in
         (named, made_grid ∙ ap (λ g. Some g) (sym same), ap (overflow_at size n) (made_place ∙ done.1))
 
     pub valued_halt : (n : Name) (at : ℕ) (halt : Halt) → IsEvaluated size (operate size (op_view o) cells) stamp (Err (refusals.Overflow at)) → IsHalt size n at halt → IsValued size n (made size f m) (Err halt)

@@ -2,7 +2,7 @@
 use Rattle.std.specs.Prelude.{◌≡◌, Result, Ok, Err, IsTrue}
 use Rattle.map_words.specs.Names.{is_plain}
 use Rattle.statement_parser.specs.Views.{edit_view}
-use Rattle.statement_parser.specs.Formed.{IsEdit}
+use Rattle.map_lines.specs.Formed.{IsEdit}
 use Rattle.map_edits.specs.EngineStates.{EngineState}
 use Rattle.map_edits.specs.Edits as edits
 use Rattle.map_edits.specs.LineEdits.{line_edit}

@@ -3,7 +3,7 @@ use Rattle.std.specs.Prelude.{◌≡◌, ℕ, ◌≤◌, List, count_by, None, I
 use Rattle.std.specs.List.{All}
 use Rattle.map_nums.specs.Grids.{Size}
 use Rattle.map_words.specs.Names.{is_plain}
-use Rattle.statement_parser.specs.Formed.{IsWritten}
+use Rattle.map_lines.specs.Formed.{IsWritten}
 use Rattle.statement_parser.specs.Views.{written_view}
 use Rattle.statement_graph.specs.Groups.{Group}
 use Rattle.map_edits.specs.Entries.{Entry, layers}

@@ -4,7 +4,7 @@ use Rattle.std.specs.List.{All}
 use Rattle.map_nums.specs.Grids.{Size}
 use Rattle.map_words.specs.Names.{is_plain}
 use Rattle.map_defs.specs.Ops.{Name}
-use Rattle.statement_parser.specs.Formed.{IsWritten}
+use Rattle.map_lines.specs.Formed.{IsWritten}
 use Rattle.statement_parser.specs.Views.{written_view}
 use Rattle.layer_tiles.specs.Patches.{patched}
 use Rattle.map_edits.specs.Entries.{Def, source, statement, Entry, put_entry, drop_entry}

@@ -3,7 +3,7 @@
 ghost use Rattle.std.specs.Prelude.{◌≡◌, ◌<◌, IsTrue};
 ghost use Rattle.indexmap.specs.IndexMap.{spare};
 ghost use Rattle.map_words.specs.Names.{is_plain};
-ghost use Rattle.statement_parser.specs.Formed.{IsWritten};
+ghost use Rattle.map_lines.specs.Formed.{IsWritten};
 ghost use Rattle.statement_parser.specs.Views.{written_view};
 ghost use Rattle.map_edits.specs.Edits as edits;
 ghost use Rattle.live_engine.specs.Accepts.{Accepts};

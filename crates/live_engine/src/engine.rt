@@ -3,7 +3,7 @@
 ghost use Rattle.std.specs.Prelude.{◌≡◌, ◌<◌, ◌≤◌, IfOk, option_map, slice_get};
 ghost use Rattle.indexmap.specs.IndexMap.{spare};
 ghost use Rattle.statement_parser.specs.Views.{edit_view};
-ghost use Rattle.statement_parser.specs.Formed.{IsEdit};
+ghost use Rattle.map_lines.specs.Formed.{IsEdit};
 ghost use Rattle.map_edits.specs.EngineStates.{no_entries};
 ghost use Rattle.map_edits.specs.Sound.{IsSound};
 ghost use Rattle.map_edits.specs.LineEdits.{line_edit};

@@ -46,19 +46,32 @@ fn names_of_both(alloc: Global, left: &Term, right: &Term) -> Result<Vec<Name>, 
     Ok(names)
 }
 
+fn names_of_one(alloc: Global, term: &Term) -> Result<Vec<Name>, NoMemory>
+    ensures { IfOk result (λ names. names.items ≡ flat_map term_names (term_view term.now ∷ [])) }
+{
+    let mut names = Vec::new(alloc);
+    push_name(&mut names, alloc, term)?;
+    Ok(names)
+}
+
 /// The names that an operation needs, in order.
 fn needs_of(alloc: Global, op: &Op) -> Result<Vec<Name>, NoMemory>
     ensures { IfOk result (λ names. names.items ≡ needs_of_op (op_view op.now)) }
 {
     match op {
         Op::Local { terms, .. } => names_among(alloc, terms.as_slice()),
-        Op::Difference { left, right } => names_of_both(alloc, left, right),
-        Op::Ratio { left, right } => names_of_both(alloc, left, right),
-        Op::Rating { of, .. } => {
-            let mut names = Vec::new(alloc);
-            push_name(&mut names, alloc, of)?;
-            Ok(names)
+        Op::Difference { left, right } | Op::Ratio { left, right } => {
+            names_of_both(alloc, left, right)
         }
+        Op::Zonal { of, zones, .. } => names_of_both(alloc, of, zones),
+        Op::Flow { of, weights } => names_of_both(alloc, of, weights),
+        Op::Spread { of, friction, .. } => names_of_both(alloc, of, friction),
+        Op::Sight { of, surface, .. } => names_of_both(alloc, of, surface),
+        Op::Rating { of, .. }
+        | Op::Focal { of, .. }
+        | Op::Incremental { of, .. }
+        | Op::Direction { of }
+        | Op::Region { of } => names_of_one(alloc, of),
     }
 }
 
@@ -79,6 +92,13 @@ fn nodes_of(alloc: Global, name: &Name, written: &Written) -> Result<Vec<Node>, 
 {
     match written {
         Written::Plain(op) => nodes_of_op(alloc, name, op),
+        Written::Call { given, .. } => {
+            let name = name.copy(alloc)?;
+            let needs = names_among(alloc, given.as_slice())?;
+            let mut nodes = Vec::new(alloc);
+            nodes.push(Node { name, needs })?;
+            Ok(nodes)
+        }
     }
 }
 

@@ -5,7 +5,7 @@ ghost use Rattle.std.specs.List.{All};
 ghost use Rattle.map_defs.specs.Ops as ops;
 ghost use Rattle.map_defs.specs.Nodes.{missing};
 ghost use Rattle.statement_graph.specs.Groups.{nodes_in};
-ghost use Rattle.statement_parser.specs.Formed.{IsOp, IsTerm};
+ghost use Rattle.map_lines.specs.Formed.{IsOp, IsTerm, IsWritten};
 ghost use Rattle.map_defs.specs.Statements.{plain};
 ghost use Rattle.statement_parser.specs.Views.{op_view, term_view, written_view};
 ghost use Rattle.layer_tiles.specs.Operands.{cells_after};
@@ -110,10 +110,12 @@ fn evaluate_one<M: Tally>(
 
 /// The operation that a statement is.
 fn plain_op(written: &Written) -> &Op
+    requires { IsWritten (written_view written.now) }
     ensures { written_view written.now ≡ plain (op_view result.now) }
 {
     match written {
         Written::Plain(op) => op,
+        Written::Call { .. } => unreachable!(),
     }
 }
 

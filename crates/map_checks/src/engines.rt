@@ -1,14 +1,15 @@
 //! Sessions over an engine, call by call.
 ghost use Rattle.std.specs.Prelude.{IfSome};
-ghost use Rattle.statement_parser.specs.Formed.{IsEdit};
+ghost use Rattle.map_lines.specs.Formed.{IsEdit};
 ghost use Rattle.statement_parser.specs.Views.{edit_view};
 
 use crate::makers::cell;
 use layer_tiles::{Extent, Layer, Value};
 use live_engine::{Accepted, Edit, Engine, Entry, Missing, Refusal, Which};
+use map_lines::parse_line;
 use map_outside::Counts;
 use map_words::Name;
-use statement_parser::{Line, LineEdit, parse_line};
+use statement_parser::{Line, LineEdit};
 use std::alloc::Global;
 use std::process::Abort;
 use std::test::Fail;

@@ -1,6 +1,6 @@
 //! Layers of one and of several tiles, as a second program gives them.
 ghost use Rattle.std.specs.Prelude.{◌≡◌, length, IfOk};
-ghost use Rattle.statement_parser.specs.Formed.{IsOp};
+ghost use Rattle.map_lines.specs.Formed.{IsOp};
 ghost use Rattle.map_defs.specs.Ops.{terms_of};
 ghost use Rattle.statement_parser.specs.Views.{op_view};
 

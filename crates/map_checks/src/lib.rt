@@ -4,6 +4,8 @@
 #![tactic(auto)]
 
 #[cfg(test)]
+mod all_rows;
+#[cfg(test)]
 mod engines;
 #[cfg(test)]
 mod evaluations;

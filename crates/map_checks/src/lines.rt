@@ -1,5 +1,6 @@
 //! Lines that are read, refused and printed again.
-use statement_parser::{Line, LineEdit, LineRefusal, Op, Request, Term, parse_line, print_written};
+use map_lines::parse_line;
+use statement_parser::{Line, LineEdit, LineRefusal, Op, Request, Term, print_written};
 use std::alloc::Global;
 use std::test::Fail;
 

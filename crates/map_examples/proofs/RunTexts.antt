@@ -13,8 +13,9 @@ use Rattle.map_words.specs.Numbers.{number_text}
 use Rattle.grid_text.specs.Contents.{grid_in}
 use Rattle.grid_text.specs.Printed.{grid_text}
 use Rattle.grammar_core.specs.Run.{run}
-use Rattle.statement_parser.specs.Operations.{operation_named}
-use Rattle.statement_parser.specs.Commands.{command_named}
+use Rattle.statement_parser.specs.Operations.{find_operation, operation_named}
+use Rattle.statement_parser.specs.Commands.{find_command, command_named}
+use Rattle.map_lines.specs.Present.{present}
 use Rattle.statement_parser.specs.LineOf.{line_of}
 use Rattle.map_edits.specs.EngineStates.{value_of}
 use Rattle.map_edits.specs.Faults.{fault_of}
@@ -53,7 +54,7 @@ sum_of_three_by_three : RunsOne (codes "A=a")
     (codes "B = LocalSum of A and 3\ngrid B\n")
     (codes "ok 1\nok 2\nncols 3\nnrows 3\nxllcorner 0\nyllcorner 0\ncellsize 1\nNODATA_value -2000000001\n4 5 6\n7 8 9\n10 11 12\n")
     goes_on
-unfolding digits local_grid operate expansion_of is_looped by_depth lacks missing is_among is_reserved is_plain is_dotted number_text run operation_named command_named line_of grid_in grid_text value_of fault_of accept first_load next_load long_file_reply step_of is_quit long_reply
+unfolding digits local_grid operate expansion_of is_looped by_depth lacks missing is_among is_reserved is_plain is_dotted number_text run find_operation operation_named find_command command_named present line_of grid_in grid_text value_of fault_of accept first_load next_load long_file_reply step_of is_quit long_reply
 sum_of_three_by_three r w m p say = rw (say.0, say.1, say.2, say.3) (refl, refl)
 
 -- a statement that is reached from its own operands
@@ -62,7 +63,7 @@ cycle_through_two : RunsOne (codes "S=a")
     (codes "A = LocalSum of B and 1\nB = LocalSum of A and 1\nB = LocalSum of B and 1\nlist\n")
     (codes "ok 1\nok 2\nrefused cycle B\nrefused cycle B\nlist 2\nsource S\nA = LocalSum of B and 1\n")
     goes_on
-unfolding digits local_grid operate expansion_of is_looped by_depth lacks missing is_among is_reserved is_plain is_dotted number_text run operation_named command_named line_of grid_in grid_text value_of fault_of accept first_load next_load long_file_reply step_of is_quit long_reply
+unfolding digits local_grid operate expansion_of is_looped by_depth lacks missing is_among is_reserved is_plain is_dotted number_text run find_operation operation_named find_command command_named present line_of grid_in grid_text value_of fault_of accept first_load next_load long_file_reply step_of is_quit long_reply
 cycle_through_two r w m p say = rw (say.0, say.1, say.2, say.3) (refl, refl)
 
 -- names that are not there, and one that is
@@ -71,7 +72,7 @@ missing_and_unknown : RunsOne (codes "A=a")
     (codes "C = LocalSum of A and Q\nvalue C 1 1\nA = LocalSum of A and 1\ndrop Q\n")
     (codes "ok 1\nok 2\nundefined C: Q\nrefused exists A\nrefused unknown Q\n")
     goes_on
-unfolding digits local_grid operate expansion_of is_looped by_depth lacks missing is_among is_reserved is_plain is_dotted number_text run operation_named command_named line_of grid_in grid_text value_of fault_of accept first_load next_load long_file_reply step_of is_quit long_reply
+unfolding digits local_grid operate expansion_of is_looped by_depth lacks missing is_among is_reserved is_plain is_dotted number_text run find_operation operation_named find_command command_named present line_of grid_in grid_text value_of fault_of accept first_load next_load long_file_reply step_of is_quit long_reply
 missing_and_unknown r w m p say = rw (say.0, say.1, say.2, say.3) (refl, refl)
 
 -- a statement before its operand, which comes and goes
@@ -80,7 +81,7 @@ before_its_operand : RunsOne (codes "A=a")
     (codes "B = LocalSum of C and 1\ngrid B\nnew C 1\nvalue B 1 1\ndrop C\nvalue B 1 1\nvalue C 1 1\nnew C 1\nvalue B 2 1\n")
     (codes "ok 1\nok 2\nundefined B: C\nok 3\nvalue B 1 1 2\nok 4\nundefined B: C\nundefined C: C\nok 5\nvalue B 2 1 outside\n")
     goes_on
-unfolding digits local_grid operate expansion_of is_looped by_depth lacks missing is_among is_reserved is_plain is_dotted number_text run operation_named command_named line_of grid_in grid_text value_of fault_of accept first_load next_load long_file_reply step_of is_quit long_reply
+unfolding digits local_grid operate expansion_of is_looped by_depth lacks missing is_among is_reserved is_plain is_dotted number_text run find_operation operation_named find_command command_named present line_of grid_in grid_text value_of fault_of accept first_load next_load long_file_reply step_of is_quit long_reply
 before_its_operand r w m p say = rw (say.0, say.1, say.2, say.3) (refl, refl)
 
 -- keys in upper case, and lines that end in two bytes
@@ -89,7 +90,7 @@ upper_case_keys : RunsOne (codes "A=a")
     (codes "grid A\n")
     (codes "ok 1\nncols 2\nnrows 2\nxllcorner 100.5\nyllcorner -20.000000000000\ncellsize 60.000000000000\nNODATA_value -2000000001\n1 2\n-2000000001 4\n")
     goes_on
-unfolding digits local_grid operate expansion_of is_looped by_depth lacks missing is_among is_reserved is_plain is_dotted number_text run operation_named command_named line_of grid_in grid_text value_of fault_of accept first_load next_load long_file_reply step_of is_quit long_reply
+unfolding digits local_grid operate expansion_of is_looped by_depth lacks missing is_among is_reserved is_plain is_dotted number_text run find_operation operation_named find_command command_named present line_of grid_in grid_text value_of fault_of accept first_load next_load long_file_reply step_of is_quit long_reply
 upper_case_keys r w m p say = rw (say.0, say.1, say.2, say.3) (refl, refl)
 
 -- a cell that is no whole number
@@ -98,7 +99,7 @@ no_decimal_cell : RunsOne (codes "A=a")
     (codes "")
     (codes "refused load A cell 1\n")
     turned_back
-unfolding digits local_grid operate expansion_of is_looped by_depth lacks missing is_among is_reserved is_plain is_dotted number_text run operation_named command_named line_of grid_in grid_text value_of fault_of accept first_load next_load long_file_reply step_of is_quit long_reply
+unfolding digits local_grid operate expansion_of is_looped by_depth lacks missing is_among is_reserved is_plain is_dotted number_text run find_operation operation_named find_command command_named present line_of grid_in grid_text value_of fault_of accept first_load next_load long_file_reply step_of is_quit long_reply
 no_decimal_cell r w m p say = rw (say.0, say.1, say.2, say.3) (refl, refl)
 
 -- a second grid of another size
@@ -108,5 +109,5 @@ second_size : RunsTwo
     []
     (codes "ok 1\nrefused load B size 3 3\n")
     turned_back
-unfolding digits local_grid operate expansion_of is_looped by_depth lacks missing is_among is_reserved is_plain is_dotted number_text run operation_named command_named line_of grid_in grid_text value_of fault_of accept first_load next_load long_file_reply step_of is_quit long_reply
+unfolding digits local_grid operate expansion_of is_looped by_depth lacks missing is_among is_reserved is_plain is_dotted number_text run find_operation operation_named find_command command_named present line_of grid_in grid_text value_of fault_of accept first_load next_load long_file_reply step_of is_quit long_reply
 second_size r w m p q say = rw (say.0, say.1, say.2, say.3, say.4) (refl, refl)

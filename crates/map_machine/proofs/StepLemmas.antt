@@ -1,6 +1,7 @@
 -- What a line does, by its kind.
 use Rattle.std.proofs.Common.{◌≡◌, ◌↔◌, ℕ, true, List, Result, Ok, Err, refl}
-use Rattle.statement_parser.specs.Lines.{first_language, Line, blank, edit, ask, quit}
+use Rattle.map_lines.specs.Present.{present}
+use Rattle.statement_parser.specs.Lines.{Line, blank, edit, ask, quit}
 use Rattle.statement_parser.specs.Texts.{Refusal as LineRefusal}
 use Rattle.statement_parser.specs.LineOf.{line_of}
 use Rattle.map_edits.specs.EngineStates.{EngineState}
@@ -24,4 +25,4 @@ ends_kind s (Err r) = (λ e. absurd (cc), λ e. absurd (cc))
 -- a line is told as the end exactly where it ends the session
 pub quit_kind : (s : MapState) (line : List ℕ) → ((step_of s line).kind ≡ Quit) ↔ (is_quit line ≡ true)
 unfolding step_of is_quit
-quit_kind s line = ends_kind s (line_of first_language line)
+quit_kind s line = ends_kind s (line_of present line)

@@ -1,5 +1,5 @@
 -- What a request is answered.
-use Rattle.std.specs.Prelude.{ℕ, ◌+◌, ◌-◌, ◌*◌, nat_le, Bool, ◌&&◌, List, ◌++◌, length, flat_map, Option, Some, None, unwrap_or, codes, if◌then◌else◌}
+use Rattle.std.specs.Prelude.{ℕ, ◌+◌, ◌-◌, ◌*◌, nat_le, Bool, ◌&&◌, List, [], ◌++◌, length, flat_map, Option, Some, None, unwrap_or, codes, if◌then◌else◌}
 use Rattle.map_nums.specs.Grids.{Size, Grid, cell_at}
 use Rattle.map_defs.specs.Ops.{Name}
 use Rattle.map_defs.specs.Nodes.{missing}
@@ -47,3 +47,5 @@ abbrev pub answer_to : MapState → Request → List ℕ
 answer_to s (ask_value n r c) = of_layer s.engine n (λ grid. value_reply n r c (cell_told grid r c))
 answer_to s (ask_grid n) = of_layer s.engine n (λ grid. grid_text s.header grid.size grid.cells)
 answer_to s ask_list = list_reply s.engine.entries
+-- no line asks for more yet
+answer_to s r = []

@@ -1,6 +1,7 @@
 -- What one line does to a state, and what is replied.
 use Rattle.std.specs.Prelude.{ℕ, Bool, true, false, List, [], Result, Ok, Err}
-use Rattle.statement_parser.specs.Lines.{first_language, Line, blank, edit, ask, quit}
+use Rattle.map_lines.specs.Present.{present}
+use Rattle.statement_parser.specs.Lines.{Line, blank, edit, ask, quit}
 use Rattle.statement_parser.specs.Texts.{Refusal as LineRefusal, long}
 use Rattle.statement_parser.specs.LineOf.{line_of}
 use Rattle.map_edits.specs.EngineStates.{EngineState}
@@ -36,7 +37,7 @@ step_by s (Err r) = unchanged s (refused_reply (line_cause r)) Refused
 
 -- what a line does
 unfoldable pub step_of : MapState → List ℕ → Stepped
-step_of s line = step_by s (line_of first_language line)
+step_of s line = step_by s (line_of present line)
 
 abbrev pub ends : Result Line LineRefusal → Bool
 ends (Ok quit) = true
@@ -44,7 +45,7 @@ ends r = false
 
 -- the line ends the session
 unfoldable pub is_quit : List ℕ → Bool
-is_quit line = ends (line_of first_language line)
+is_quit line = ends (line_of present line)
 
 -- the reply to a line that is too long, by its length
 unfoldable pub long_reply : ℕ → List ℕ

@@ -2,7 +2,8 @@
 use Rattle.std.proofs.Common.{◌≡◌, ℕ, List, [], Some, Result, Ok, Err, IfOk, refl, sym, ap, ◌∙◌, subst}
 use Rattle.map_nums.specs.declared.NoMemory.{NoMemory}
 use Rattle.statement_parser.specs.Lines as lines
-use Rattle.statement_parser.specs.Lines.{first_language, Line}
+use Rattle.map_lines.specs.Present.{present}
+use Rattle.statement_parser.specs.Lines.{Line}
 use Rattle.statement_parser.specs.Texts.{Refusal as SpecRefusal, long, syntax, operation, number}
 use Rattle.statement_parser.specs.LineOf.{line_of, IsLineRead}
 use Rattle.statement_parser.specs.declared.refusal.LineRefusal.{LineRefusal}
@@ -28,33 +29,33 @@ use Rattle.map_session.proofs.EditSteps.{state}
 some_same : {A : Type 0} (x y : A) → Some x ≡ Some y → x ≡ y
 some_same x y e = cc
 
-pub stepped : (s t : MapState) (line : List ℕ) (x : Line) (r : Result Reply NoMemory) → line_of first_language line ≡ Ok x → Does s t (step_by s (Ok x)) r → Steps s t line r
+pub stepped : (s t : MapState) (line : List ℕ) (x : Line) (r : Result Reply NoMemory) → line_of present line ≡ Ok x → Does s t (step_by s (Ok x)) r → Steps s t line r
 unfolding step_of
 stepped s t line x r e d = subst (λ (y : Result Line SpecRefusal). Does s t (step_by s y) r) (sym e) d
 
-pub stepped_empty : (s : MapState) (line : List ℕ) (x : Line) (kind : Kind) (reply : Reply) → line_of first_language line ≡ Ok x → step_by s (Ok x) ≡ unchanged s [] kind → Says [] kind reply → Steps s s line (Ok reply)
+pub stepped_empty : (s : MapState) (line : List ℕ) (x : Line) (kind : Kind) (reply : Reply) → line_of present line ≡ Ok x → step_by s (Ok x) ≡ unchanged s [] kind → Says [] kind reply → Steps s s line (Ok reply)
 stepped_empty s line x kind reply is step says = stepped s s line x (Ok reply) is (subst (λ (d : Stepped). Does s s d (Ok reply)) (sym step) (refl, says.0, says.1))
 
 ask_done : (s : MapState) (q : lines.Request) (r : Result Reply NoMemory) → IfOk r (Says (answer_to s q) Shown) → Does s s (step_by s (Ok (lines.ask q))) r
 ask_done s q (Ok reply) says = (refl, says.0, says.1)
 ask_done s q (Err e) says = refl
 
-pub stepped_ask : (h : Header) (engine : EngineState) (s : MapState) (line : List ℕ) (q : lines.Request) (r : Result Reply NoMemory) → state h engine ≡ s → line_of first_language line ≡ Ok (lines.ask q)
+pub stepped_ask : (h : Header) (engine : EngineState) (s : MapState) (line : List ℕ) (q : lines.Request) (r : Result Reply NoMemory) → state h engine ≡ s → line_of present line ≡ Ok (lines.ask q)
     → IfOk r (Says (answer_to (state h engine) q) Shown) → Steps s s line r
 stepped_ask h engine s line q r w is says = stepped s s line (lines.ask q) r is (ask_done s q r (subst (λ (u : MapState). IfOk r (Says (answer_to u q) Shown)) w says))
 
-pub stepped_edit : (s t : MapState) (line : List ℕ) (e : lines.Edit) (r : Result Reply NoMemory) → line_of first_language line ≡ Ok (lines.edit e) → Does s t (edited s (accept s.engine (line_edit e))) r → Steps s t line r
+pub stepped_edit : (s t : MapState) (line : List ℕ) (e : lines.Edit) (r : Result Reply NoMemory) → line_of present line ≡ Ok (lines.edit e) → Does s t (edited s (accept s.engine (line_edit e))) r → Steps s t line r
 stepped_edit s t line e r is d = stepped s t line (lines.edit e) r is d
 
-line_turned : (line : List ℕ) (r : LineRefusal) (text : List ℕ) → IsLineRead (line_of first_language line) line_view (Err r) → line_told r ≡ Some text
-    → (x : SpecRefusal) × (line_of first_language line ≡ Err x) × (line_cause x ≡ text)
+line_turned : (line : List ℕ) (r : LineRefusal) (text : List ℕ) → IsLineRead (line_of present line) line_view (Err r) → line_told r ≡ Some text
+    → (x : SpecRefusal) × (line_of present line ≡ Err x) × (line_cause x ≡ text)
 line_turned line (a_line.Long n) text a t = (long n, a, some_same _ _ t)
 line_turned line (a_line.Syntax at) text a t = (syntax at, a, some_same _ _ t)
 line_turned line (a_line.Operation at) text a t = (operation at, a, some_same _ _ t)
 line_turned line (a_line.Number at) text a t = (number at, a, some_same _ _ t)
 line_turned line a_line.NoMemory text a t = absurd (cc)
 
-pub stepped_refused : (s : MapState) (line : List ℕ) (r : LineRefusal) (cause text : List ℕ) (reply : Result Reply NoMemory) → IsLineRead (line_of first_language line) line_view (Err r) → line_told r ≡ Some cause
+pub stepped_refused : (s : MapState) (line : List ℕ) (r : LineRefusal) (cause text : List ℕ) (reply : Result Reply NoMemory) → IsLineRead (line_of present line) line_view (Err r) → line_told r ≡ Some cause
     → text ≡ cause → IfOk reply (Says (refused_reply text) Refused) → Steps s s line reply
 unfolding step_of
 stepped_refused s line r cause text (Ok reply) a t same says =

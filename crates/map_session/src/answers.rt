@@ -1,6 +1,7 @@
 //! The answers to requests.
 ghost use Rattle.std.specs.Prelude.{◌≡◌, ◌++◌, length, flat_map, unwrap_or, IfOk, OnOk};
 ghost use Rattle.std.specs.Option.{option_map};
+ghost use Rattle.map_lines.specs.Formed.{IsRequest};
 ghost use Rattle.statement_parser.specs.Canonical.{cell_text};
 ghost use Rattle.statement_parser.specs.Lines.{ask_value, ask_grid, ask_list};
 ghost use Rattle.statement_parser.specs.Views.{request_view};
@@ -166,6 +167,7 @@ pub(crate) fn answer<M: Tally>(
     request: &Request,
     tally: &mut M,
 ) -> Result<Reply, NoMemory>
+    requires formed { IsRequest (request_view request.now) }
     ensures says { IfOk result (Says (answer_to (record { header = header.now; engine = engine.now }) (request_view request.now)) Kind.Shown) }
     ensures parts { KeepsParts (M.counts tally.old) (M.counts tally.new) }
 {
@@ -173,5 +175,6 @@ pub(crate) fn answer<M: Tally>(
         Request::Value { name, r, c } => value(alloc, header, engine, name, *r, *c, tally),
         Request::Grid(name) => grid(alloc, header, engine, name, tally),
         Request::List => list(alloc, header, engine),
+        _ => unreachable!(),
     }
 }

@@ -2,7 +2,7 @@
 ghost use Rattle.std.specs.Prelude.{◌≡◌, ◌≢◌, ◌≤◌, IsTrue, IfOk};
 ghost use Rattle.map_nums.specs.Counts.{raised};
 ghost use Rattle.map_words.specs.Names.{is_plain};
-ghost use Rattle.statement_parser.specs.Formed.{IsEdit};
+ghost use Rattle.map_lines.specs.Formed.{IsEdit};
 ghost use Rattle.statement_parser.specs.Views.{edit_view};
 ghost use Rattle.map_edits.specs.Edits.{accept};
 ghost use Rattle.map_edits.specs.LineEdits.{line_edit};
@@ -17,10 +17,11 @@ use crate::replies::Reply;
 use grid_text::{Grid, Header, read_grid};
 use layer_tiles::Tally;
 use live_engine::{Edit, Engine};
+use map_lines::parse_line;
 use map_machine::Kind;
 use map_nums::NoMemory;
 use map_words::Name;
-use statement_parser::{Line, LineEdit, parse_line};
+use statement_parser::{Line, LineEdit};
 use std::alloc::Global;
 use std::marker::Model;
 

@@ -7,7 +7,7 @@ ghost use Rattle.layer_tiles.specs.Tiles.{tiles_in};
 ghost use Rattle.layer_tiles.specs.Tallies.{RisesBy};
 ghost use Rattle.local_ops.specs.Operations.{op_of, Takes};
 ghost use Rattle.layer_tiles.specs.Operands.{cells_after};
-ghost use Rattle.statement_parser.specs.Formed.{IsOp};
+ghost use Rattle.map_lines.specs.Formed.{IsOp};
 ghost use Rattle.statement_parser.specs.Views.{op_view};
 ghost use Rattle.op_jobs.specs.Evaluated.{IsEvaluated};
 ghost use Rattle.op_jobs.specs.Kernels.{IsKernelOf};
@@ -57,5 +57,6 @@ fn local_op_of(alloc: Global, op: &Op) -> Result<LocalOp, NoMemory>
         Op::Difference { .. } => Ok(LocalOp::Difference),
         Op::Ratio { .. } => Ok(LocalOp::Ratio),
         Op::Rating { rates, .. } => Ok(LocalOp::Rating(Rates::of(alloc, rates)?)),
+        _ => unreachable!(),
     }
 }

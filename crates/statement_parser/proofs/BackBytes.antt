@@ -1,6 +1,6 @@
 -- The words of a canonical text.
-use Rattle.std.proofs.Common.{◌≡◌, ◌⊎◌, inl, inr, ℕ, suc, ◌+◌, ℤ, Bool, true, false, not, cond, ◌&&◌, List, [], ◌∷◌, ◌++◌, map, length, Option, Some, None, refl, sym, ap, subst, ◌∙◌, append_assoc, arith, nat_eq, nat_lt}
-use Rattle.std.specs.Prelude.{codes, option_map, IsTrue, nat_le}
+use Rattle.std.proofs.Common.{◌≡◌, ◌⊎◌, inl, inr, ℕ, suc, ◌+◌, ◌≤◌, ℤ, pos, Bool, true, false, not, cond, ◌&&◌, List, [], ◌∷◌, ◌++◌, map, length, Option, Some, None, refl, sym, ap, subst, ◌∙◌, append_assoc, arith, nat_eq, nat_lt}
+use Rattle.std.specs.Prelude.{codes, option_map, IsTrue, nat_le, decimal}
 use Rattle.std.specs.List.{list_all, prefix_len}
 use Rattle.std.specs.Char.{is_ascii_alphabetic}
 use Rattle.std.specs.Fmt.{signed_decimal}
@@ -10,26 +10,30 @@ use Rattle.std.proofs.lemmas.List.Folds.{list_all-append}
 use Rattle.std.proofs.lemmas.Bool.Decides.{nat_tests}
 use Rattle.map_nums.specs.declared.Stat.TheVariants.{Sum}
 use Rattle.map_nums.specs.declared.Rate.{Rate}
-use Rattle.map_nums.specs.Numbers.{is_value}
+use Rattle.map_nums.specs.Numbers.{is_value, greatest_value, vmax}
 use Rattle.map_words.specs.Bytes.{Text, is_blank, is_mark, is_good, first_bad, is_silent}
 use Rattle.map_words.specs.Words.{Placed, closed, longer, words_from, text_of}
 use Rattle.map_words.specs.Names.{is_plain, has_name_form, is_name_byte, is_reserved}
-use Rattle.map_defs.specs.Ops.{Term, layer_term, number_term, Op, local_op, difference_op, ratio_op, rating_op}
+use Rattle.map_defs.specs.Ops.{Term, layer_term, number_term, Op, local_op, difference_op, ratio_op, rating_op, focal_op, zonal_op, form_op, direction_op, flow_op, spread_op, sight_op, region_op}
+use Rattle.map_defs.specs.Sight.{Sighting}
 use Rattle.map_defs.specs.Statements.{Written, plain, call}
 use Rattle.statement_parser.specs.Lines.{Manner, define, edit}
 use Rattle.statement_parser.specs.Grammar.{IsLine}
 use Rattle.layer_tiles.specs.Cells.{IsCell}
-use Rattle.statement_parser.specs.Formed.{Each, IsTerm, IsRate, IsOp, IsWritten}
-use Rattle.statement_parser.specs.Canonical.{cell_text, optional_texts, rates_texts, op_texts, written_tail, written_texts, written_text}
-use Rattle.statement_parser.specs.TermTexts.{term_text, terms_after, terms_texts}
+use Rattle.statement_parser.specs.Formed.{Each, IsTerm, IsRate, IsRadius, IsSighting, IsOp, IsWritten}
+use Rattle.statement_parser.specs.There.{IsWrittenThere}
+use Rattle.statement_parser.specs.Forms.{form_row}
+use Rattle.statement_parser.specs.Canonical.{cell_text, optional_texts, rates_texts, begin_texts, pair_texts, radius_texts, sight_texts, friction_texts, op_texts, tail_text, written_text}
+use Rattle.statement_parser.specs.TermTexts.{term_text, terms_after, terms_texts, listed_after, listed}
 use Rattle.statement_parser.specs.Spacing.{spaced, joined}
 use Rattle.statement_parser.specs.Operations.{operation_text}
 use Rattle.statement_parser.specs.declared.operation.Operation.{Operation}
-use Rattle.statement_parser.specs.declared.operation.Operation.TheVariants.{Local, Difference, Ratio, Rating}
+use Rattle.statement_parser.specs.declared.operation.Operation.TheVariants.{Local, Difference, Ratio, Rating, Focal, Proximity, Insularity, Zonal, Incremental, Drainage}
+use Rattle.statement_parser.specs.declared.op.Form.TheVariants.{Linkage}
 use Rattle.statement_parser.specs.Texts.{seen, is_short, LineText, worded}
 use Rattle.statement_parser.specs.Printing.{ReadsBack}
 use Rattle.statement_parser.proofs.Numerals.{is_run_byte, number_run, number_some}
-use Rattle.statement_parser.proofs.BackWords.{words_back}
+use Rattle.statement_parser.proofs.BackWords.{written_texts, words_back}
 
 both : (a b : Bool) → (a && b) ≡ true → (a ≡ true) × (b ≡ true)
 both true true e = (refl, refl)
@@ -212,6 +216,9 @@ cell_word (Some z) h = number_word z h
 -- the name of each operation, computed
 operation_word : (o : Operation) → IsWord (operation_text o)
 operation_word (Local Sum) = inl (λ e. cc, refl)
+operation_word (Focal Sum) = inl (λ e. cc, refl)
+operation_word (Zonal Sum) = inl (λ e. cc, refl)
+operation_word (Incremental Linkage) = inl (λ e. cc, refl)
 operation_word o = inl (λ e. cc, refl)
 
 of_word : IsWord (codes "of")
@@ -244,36 +251,134 @@ rates_words [] h = tt
 rates_words (r ∷ rs) h =
     (inl (λ e. cc, refl), (cell_word r.give h.0.give, (inl (λ e. cc, refl), (number_word r.low h.0.low, each-append (optional_texts (codes "to") r.low r.high) (rates_texts rs) (optional_words (codes "to") r.low r.high (inl (λ e. cc, refl)) h.0.high) (rates_words rs h.1)))))
 
+begin_words : (o : Operation) (t : Term) → IsTerm t → Each IsWord (begin_texts (operation_text o) t)
+begin_words o t h = (operation_word o, (of_word, (term_word t h, tt)))
+
+pair_words : (o : Operation) (word : Text) (t u : Term) → IsWord word → IsTerm t → IsTerm u → Each IsWord (pair_texts (operation_text o) word t u)
+pair_words o word t u w h k = (operation_word o, (of_word, (term_word t h, (w, (term_word u k, tt)))))
+
+value_in : (n : ℕ) → n ≤ greatest_value → nat_le n greatest_value ≡ true
+value_in n h = grind (arith, nat_tests)
+
+count_word : (n : ℕ) → n ≤ greatest_value → IsWord (decimal n)
+count_word n h = number_word (pos n) (value_in n h)
+
+optional_count_words : (word : Text) (default n : ℕ) → IsWord word → n ≤ greatest_value → Each IsWord (optional_texts word (pos default) (pos n))
+optional_count_words word default n w h = go (int_eq (pos n) (pos default))
+  where
+    go : (b : Bool) → Each IsWord (cond b [] (word ∷ signed_decimal (pos n) ∷ []))
+    go true = tt
+    go false = (w, (count_word n h, tt))
+
+radius_words : (r : Option ℕ) → IsRadius r → Each IsWord (radius_texts r)
+radius_words None h = tt
+radius_words (Some n) h = (inl (λ e. cc, refl), (count_word n (let l = h.1 in omega arith), tt))
+
+sight_words : (s : Sighting) → IsSighting s → Each IsWord (sight_texts s)
+sight_words s h =
+    let from = optional_texts (codes "from") (pos 0) s.from in
+    let to = optional_texts (codes "to") (pos 0) s.to in
+    each-append (from ++ to) (optional_texts (codes "within") (pos 64) (pos s.reach))
+    (each-append from to (optional_words (codes "from") (pos 0) s.from (inl (λ e. cc, refl)) h.from) (optional_words (codes "to") (pos 0) s.to (inl (λ e. cc, refl)) h.to))
+    (optional_count_words (codes "within") 64 s.reach (inl (λ e. cc, refl)) (let l = h.reach.1 in omega arith))
+
+friction_words : (t : Term) → IsTerm t → Each IsWord (friction_texts t)
+friction_words (layer_term n) h = (inl (λ e. cc, refl), (inl (λ e. cc, refl), (plain_word n h, tt)))
+friction_words (number_term z) h = go (int_eq z (pos 1))
+  where
+    go : (b : Bool) → Each IsWord (cond b [] (codes "spreading" ∷ codes "in" ∷ signed_decimal z ∷ []))
+    go true = tt
+    go false = (inl (λ e. cc, refl), (inl (λ e. cc, refl), (number_word z h, tt)))
+
 op_words : (o : Op) → IsOp o → Each IsWord (op_texts o)
 op_words (local_op s ts) h = (operation_word (Local s), (of_word, terms_words ts h.2))
-op_words (difference_op l r) h = (operation_word Difference, (of_word, (term_word l h.0, (and_word, (term_word r h.1, tt)))))
-op_words (ratio_op l r) h = (operation_word Ratio, (of_word, (term_word l h.0, (and_word, (term_word r h.1, tt)))))
+op_words (difference_op l r) h = pair_words Difference (codes "and") l r and_word h.0 h.1
+op_words (ratio_op l r) h = pair_words Ratio (codes "and") l r and_word h.0 h.1
 op_words (rating_op t rs) h = (operation_word Rating, (of_word, (term_word t h.0, rates_words rs h.3)))
-op_words op h = absurd h
+op_words (focal_op s r t) h = each-append (begin_texts (operation_text (Focal s)) t) (radius_texts r) (begin_words (Focal s) t h.2) (radius_words r h.1)
+op_words (zonal_op s t u) h = pair_words (Zonal s) (codes "within") t u (inl (λ e. cc, refl)) h.1 h.2
+op_words (form_op f t) h = begin_words (Incremental (form_row f)) t h
+op_words (direction_op t) h = begin_words Drainage t h
+op_words (flow_op t u) h = pair_words Drainage (codes "carrying") t u (inl (λ e. cc, refl)) h.0 h.1
+op_words (spread_op limit t u) h =
+    each-append (begin_texts (operation_text Proximity) t) (friction_texts u ++ optional_texts (codes "within") vmax (pos limit)) (begin_words Proximity t h.1)
+    (each-append (friction_texts u) (optional_texts (codes "within") vmax (pos limit)) (friction_words u h.2) (optional_count_words (codes "within") greatest_value limit (inl (λ e. cc, refl)) h.0))
+op_words (sight_op s t u) h =
+    each-append (begin_texts (operation_text (Focal Sum)) t) (codes "radiating" ∷ codes "on" ∷ term_text u ∷ sight_texts s) (begin_words (Focal Sum) t h.1)
+    (inl (λ e. cc, refl), (inl (λ e. cc, refl), (term_word u h.2, sight_words s h.0)))
+op_words (region_op t) h = begin_words Insularity t h
+
+-- ---- the words of a call
+
+-- the terms after the first, to the end
+after_seen : (us : List Term) → Each IsTerm us
+    → ((t : Text) → texts_from (Some t) (listed_after us ++ 41 ∷ []) ≡ t ∷ (terms_after (codes ",") us ++ codes ")" ∷ [])) × (texts_from None (listed_after us ++ 41 ∷ []) ≡ terms_after (codes ",") us ++ codes ")" ∷ [])
+after_seen [] h = (λ t. refl, refl)
+after_seen (u ∷ us) h =
+    let rest = listed_after us ++ 41 ∷ [] in
+    let more = terms_after (codes ",") us ++ codes ")" ∷ [] in
+    let ih = after_seen us h.1 in
+    let same : texts_from None ((term_text u ++ listed_after us) ++ 41 ∷ []) ≡ term_text u ∷ more =
+    ap (texts_from None) (append_assoc (term_text u) (listed_after us) (41 ∷ [])) ∙ from_word (term_text u) rest more (term_word u h.0) ih.0 ih.1 in
+    (λ t. ap (λ ts. t ∷ codes "," ∷ ts) same, ap (λ ts. codes "," ∷ ts) same)
+
+call_seen : (n p : Text) (ts : List Term) → is_plain n ≡ true → IsWritten (call p ts) → seen (written_text n (call p ts)) ≡ written_texts n (call p ts)
+call_seen n p [] q h = absurd (let l = h.1 in omega arith)
+call_seen n p (a ∷ us) q h =
+    let rest = listed_after us ++ 41 ∷ [] in
+    let more = terms_after (codes ",") us ++ codes ")" ∷ [] in
+    let after = after_seen us h.3.1 in
+    let first : texts_from None ((term_text a ++ listed_after us) ++ 41 ∷ []) ≡ term_text a ∷ more =
+    ap (texts_from None) (append_assoc (term_text a) (listed_after us) (41 ∷ [])) ∙ from_word (term_text a) rest more (term_word a h.3.0) after.0 after.1 in
+    let opened = λ (t : Text). ap (λ ts. t ∷ codes "(" ∷ ts) first in
+    let named : texts_from None (p ++ 40 ∷ (listed (a ∷ us) ++ 41 ∷ [])) ≡ p ∷ codes "(" ∷ term_text a ∷ more =
+    from_word p (40 ∷ (listed (a ∷ us) ++ 41 ∷ [])) (codes "(" ∷ term_text a ∷ more) (plain_word p h.0) opened (ap (λ ts. codes "(" ∷ ts) first) in
+    texts_are 1 None (written_text n (call p (a ∷ us)))
+    ∙ from_word n (32 ∷ 61 ∷ tail_text (call p (a ∷ us))) (codes "=" ∷ p ∷ codes "(" ∷ term_text a ∷ more) (plain_word n q) (λ t. ap (λ ts. t ∷ codes "=" ∷ ts) named) (ap (λ ts. codes "=" ∷ ts) named)
+
+after_good : (us : List Term) → Each IsTerm us → list_all is_good (listed_after us ++ 41 ∷ []) ≡ true
+after_good [] h = refl
+after_good (u ∷ us) h = ap (list_all is_good) (append_assoc (term_text u) (listed_after us) (41 ∷ [])) ∙ list_all-append is_good (term_text u) (listed_after us ++ 41 ∷ []) ∙ rw (word_good (term_text u) (term_word u h.0), after_good us h.1) refl
+
+call_good : (n p : Text) (ts : List Term) → is_plain n ≡ true → IsWritten (call p ts) → list_all is_good (written_text n (call p ts)) ≡ true
+call_good n p [] q h = absurd (let l = h.1 in omega arith)
+call_good n p (a ∷ us) q h =
+    let given : list_all is_good (listed (a ∷ us) ++ 41 ∷ []) ≡ true =
+    ap (list_all is_good) (append_assoc (term_text a) (listed_after us) (41 ∷ [])) ∙ list_all-append is_good (term_text a) (listed_after us ++ 41 ∷ []) ∙ rw (word_good (term_text a) (term_word a h.3.0), after_good us h.3.1) refl in
+    let body : list_all is_good (p ++ 40 ∷ (listed (a ∷ us) ++ 41 ∷ [])) ≡ true = list_all-append is_good p (40 ∷ (listed (a ∷ us) ++ 41 ∷ [])) ∙ rw (word_good p (plain_word p h.0), given) refl in
+    list_all-append is_good n (32 ∷ 61 ∷ tail_text (call p (a ∷ us))) ∙ rw (word_good n (plain_word n q), body) refl
+
+-- ---- the words of a statement
 
 equals_word : IsWord (codes "=")
 equals_word = inr (61, refl, refl, refl, refl)
 
-written_words : (n : Text) (w : Written) → is_plain n ≡ true → IsWritten w → Each IsWord (written_texts n w)
-written_words n (plain o) p h = (plain_word n p, (equals_word, op_words o h))
-written_words n (call q ts) p h = absurd h
+plain_words : (n : Text) (o : Op) → is_plain n ≡ true → IsOp o → Each IsWord (written_texts n (plain o))
+plain_words n o p h = (plain_word n p, (equals_word, op_words o h))
+
+written_seen : (n : Text) (w : Written) → is_plain n ≡ true → IsWritten w → seen (written_text n w) ≡ written_texts n w
+written_seen n (plain o) p h = seen_joined (written_texts n (plain o)) (plain_words n o p h)
+written_seen n (call q ts) p h = call_seen n q ts p h
+
+written_good : (n : Text) (w : Written) → is_plain n ≡ true → IsWritten w → list_all is_good (written_text n w) ≡ true
+written_good n (plain o) p h = joined_good (written_texts n (plain o)) (plain_words n o p h)
+written_good n (call q ts) p h = call_good n q ts p h
 
 -- ---- back
 
 letter_loud : (b : ℕ) → is_ascii_alphabetic b ≡ true → (is_blank b ≡ false) × (nat_eq b 35 ≡ false)
 letter_loud b e = (grind (arith, nat_tests), grind (arith, nat_tests))
 
-not_silent : (n : Text) (ts : List Text) → is_plain n ≡ true → is_silent (joined (n ∷ ts)) ≡ false
-not_silent [] ts p = absurd (not_empty p)
-not_silent (b ∷ bs) ts p = let h = letter_loud b (named b bs p).letter in rw (h.0, h.1) refl
+not_silent : (n rest : Text) → is_plain n ≡ true → is_silent (n ++ rest) ≡ false
+not_silent [] rest p = absurd (not_empty p)
+not_silent (b ∷ bs) rest p = let h = letter_loud b (named b bs p).letter in rw (h.0, h.1) refl
 
 -- what is written of a formed statement, and is no longer than a line, is its line
-pub written_back : (m : Manner) (n : Text) (w : Written) → IsTrue (is_plain n) → IsWritten w → is_short (written_text n w) ≡ true → LineText m (written_text n w) (edit (define n w))
-written_back m n w p h short =
-    let words = written_words n w p h in
-    worded short (not_silent n (codes "=" ∷ written_tail w) p) (no_bad (written_text n w) (joined_good (written_texts n w) words))
-    (subst (λ ts. IsLine m ts (edit (define n w))) (sym (seen_joined (written_texts n w) words)) (words_back m n w p h))
+pub written_back : (m : Manner) (n : Text) (w : Written) → IsTrue (is_plain n) → IsWritten w → IsWrittenThere m w → is_short (written_text n w) ≡ true → LineText m (written_text n w) (edit (define n w))
+written_back m n w p h there short =
+    worded short (not_silent n (32 ∷ 61 ∷ tail_text w) p) (no_bad (written_text n w) (written_good n w p h))
+    (subst (λ ts. IsLine m ts (edit (define n w))) (sym (written_seen n w p h)) (words_back m n w p h there))
 
 pub reads_back : (n : Text) (w : Written) (text : Text) → text ≡ written_text n w → ReadsBack n w text
-reads_back n w text e m p h short =
-    subst (λ t. LineText m t (edit (define n w))) (sym e) (written_back m n w p h (subst (λ t. is_short t ≡ true) e short))
+reads_back n w text e m p h there short =
+    subst (λ t. LineText m t (edit (define n w))) (sym e) (written_back m n w p h there (subst (λ t. is_short t ≡ true) e short))

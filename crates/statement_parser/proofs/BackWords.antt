@@ -1,36 +1,45 @@
 -- The words of a formed statement are its line.
-use Rattle.std.proofs.Common.{◌≡◌, ℕ, zero, suc, ◌≤◌, ℤ, Bool, true, false, cond, List, [], ◌∷◌, ◌++◌, length, Option, Some, None, refl, sym, ap, subst, ◌∙◌, append_assoc, arith}
-use Rattle.std.specs.Prelude.{codes, find, bytes_eq, option_map, IsTrue}
+use Rattle.std.proofs.Common.{◌≡◌, ℕ, zero, suc, ◌≤◌, ◌<◌, ◌^◌, ℤ, pos, Bool, true, false, cond, List, [], ◌∷◌, ◌++◌, length, Option, Some, None, refl, sym, ap, subst, ◌∙◌, append_assoc, arith}
+use Rattle.std.specs.Prelude.{codes, find, bytes_eq, option_map, IsTrue, nat_le, nat_abs, decimal}
+use Rattle.std.proofs.lemmas.Bool.Decides.{nat_tests}
 use Rattle.std.specs.Fmt.{signed_decimal}
 use Rattle.std.specs.Ordering.{int_eq}
 use Rattle.std.proofs.lemmas.List.{append-nil}
 use Rattle.std.proofs.lemmas.Slice.Eq.{bytes_eq-Decides}
 use Rattle.std.proofs.lemmas.Bool.Decides.{Decides-int_eq}
 use Rattle.map_nums.specs.declared.Stat.{Stat}
-use Rattle.map_nums.specs.declared.Stat.TheVariants.{Sum}
+use Rattle.map_nums.specs.declared.Stat.TheVariants.{Sum, Product}
 use Rattle.map_nums.specs.declared.Rate.{Rate}
-use Rattle.map_nums.specs.Numbers.{is_value}
+use Rattle.map_nums.specs.Numbers.{is_value, greatest_value, vmax}
 use Rattle.map_words.specs.Bytes.{Text}
+use Rattle.map_words.specs.Numbers.{if_between}
 use Rattle.map_words.specs.Names.{is_plain, is_reserved, is_among}
-use Rattle.grammar_core.specs.Rules.{Rule, Derives, ends, next, after, or_rule}
+use Rattle.grammar_core.specs.Rules.{Rule, Derives, node, ends, on, next, after, also, or_rule}
 use Rattle.grammar_core.proofs.Ends.{next_derives, also_derives, rest_derives}
-use Rattle.map_defs.specs.Ops.{Term, layer_term, number_term, Op, local_op, difference_op, ratio_op, rating_op}
+use Rattle.map_defs.specs.Ops.{Term, layer_term, number_term, Op, local_op, difference_op, ratio_op, rating_op, focal_op, zonal_op, form_op, direction_op, flow_op, spread_op, sight_op, region_op}
+use Rattle.map_defs.specs.Sight.{Sighting}
+use Rattle.map_defs.specs.Incremental as incremental
+use Rattle.map_defs.specs.Incremental.{linkage_form, length_form, partition_form, frontage_form, gradient_form, aspect_form}
 use Rattle.map_defs.specs.Statements.{Written, plain, call}
 use Rattle.statement_parser.specs.Lines.{Manner, define, Line, edit}
-use Rattle.statement_parser.specs.Operations.{operation_text, operation_named}
-use Rattle.statement_parser.specs.Places.{the, name_of, value_of, term_of, cell_of}
-use Rattle.statement_parser.specs.Bodies.{further_terms, optional_part, statistic_body, pair_body, rate_part, with_rates, rating_body, operation_body}
-use Rattle.statement_parser.specs.Commands.{command_text, commands, command_named}
-use Rattle.statement_parser.specs.Grammar.{define_rule, command_rule, IsLine}
+use Rattle.statement_parser.specs.Operations.{operations, operation_text, find_operation, has_row, operation_named}
+use Rattle.statement_parser.specs.Forms.{form_of, form_row}
+use Rattle.statement_parser.specs.Places.{the, maybe, name_of, value_of, count_of, disc_of, reach_of, limit_of, term_of, weights_of, cell_of, call_of}
+use Rattle.statement_parser.specs.Bodies.{term_after, further_terms, optional_part, statistic_body, pair_body, single_body, rate_part, with_rates, rating_body, radius_part, sight_part, radiates, focal_body, friction_part, spread_body, drainage_op, drainage_body, operation_body, call_body}
+use Rattle.statement_parser.specs.Commands.{command_text, commands, find_command, command_named}
+use Rattle.statement_parser.specs.Grammar.{body_rule, define_rule, command_rule, IsLine}
 use Rattle.layer_tiles.specs.Cells.{IsCell}
-use Rattle.statement_parser.specs.Formed.{Each, IsTerm, IsRate, IsOp, IsWritten}
-use Rattle.statement_parser.specs.Canonical.{cell_text, optional_texts, rates_texts, op_texts, written_texts}
+use Rattle.statement_parser.specs.Formed.{Each, IsTerm, IsRate, IsBetween, IsRadius, IsSighting, IsOp, IsWritten}
+use Rattle.statement_parser.specs.There.{HasRow, IsOpThere, IsWrittenThere}
+use Rattle.statement_parser.specs.Canonical.{cell_text, optional_texts, rates_texts, radius_texts, sight_texts, friction_texts, op_texts}
 use Rattle.statement_parser.specs.TermTexts.{term_text, terms_after, terms_texts}
 use Rattle.statement_parser.specs.declared.operation.Operation.{Operation}
-use Rattle.statement_parser.specs.declared.operation.Operation.TheVariants.{Local, Difference, Ratio, Rating}
+use Rattle.statement_parser.specs.declared.operation.Operation.TheVariants.{Local, Difference, Ratio, Rating, Focal, Proximity, Insularity, Zonal, Incremental, Drainage}
+use Rattle.statement_parser.specs.declared.op.Form.TheVariants.{Linkage}
 use Rattle.statement_parser.specs.declared.command.Command.{Command}
-use Rattle.statement_parser.specs.declared.command.Command.TheVariants.{Paint}
-use Rattle.statement_parser.proofs.Numerals.{value_back, no_plain, no_null}
+use Rattle.statement_parser.proofs.Numerals.{number_decimal, value_back, no_plain, no_null}
+use Rattle.statement_parser.proofs.PlaceFacts.{operation_none, command_none}
+use Rattle.statement_parser.proofs.FormedLines.{IsRow}
 
 -- ---- one place
 
@@ -45,25 +54,87 @@ cell_back : (c : Option ℤ) → IsCell c → cell_of (cell_text c) ≡ Some c
 cell_back None h = refl
 cell_back (Some z) h = rw (no_null z h) (ap (option_map Some) (value_back z h))
 
--- each operation is found by its name, computed
-named_back : (o : Operation) → operation_named (operation_text o) ≡ Some o
+-- a count in its range
+nat_in : (a b : ℕ) → a ≤ b → nat_le a b ≡ true
+nat_in a b h = grind (arith, nat_tests)
+
+count_back : (low high n : ℕ) → IsBetween low high n → n < 2 ^ 64 → count_of (pos low) (pos high) (decimal n) ≡ Some n
+count_back low high n h lt = ap (λ o. option_map nat_abs (if_between (pos low) (pos high) o)) (number_decimal n lt) ∙ rw (nat_in low n h.0, nat_in n high h.1) refl
+
+-- each operation of the table is found by its name, computed
+tabled : (o : Operation) → IsRow o → find_operation (operation_text o) ≡ Some o
+unfolding find_operation
+tabled (Local Sum) r = refl
+tabled (Focal Product) r = absurd r
+tabled (Zonal Product) r = absurd r
+tabled (Incremental Linkage) r = refl
+tabled o r = refl
+
+named_back : (m : Manner) (o : Operation) → HasRow m o → IsRow o → operation_named m (operation_text o) ≡ Some o
 unfolding operation_named
-named_back (Local Sum) = refl
-named_back o = refl
+named_back m o there r = rw there (tabled o r)
+
+-- ---- names
+
+-- what has no plain name isn't found by one
+none_named : {A : Type 0} (text : A → Text) (xs : List A) (t : Text) → Each (λ x. is_plain (text x) ≡ false) xs → is_plain t ≡ true → find (λ x. bytes_eq (text x) t) xs ≡ None
+none_named text [] t each p = refl
+none_named {A} text (x ∷ xs) t each p = go (bytes_eq (text x) t) refl (none_named text xs t each.1 p)
+  where
+    go : (b : Bool) → bytes_eq (text x) t ≡ b → find (λ x. bytes_eq (text x) t) xs ≡ None → ◌≡◌ {A = Option A} (cond b (Some x) (find (λ x. bytes_eq (text x) t) xs)) None
+    go true e ih = absurd (let same : text x ≡ t = (bytes_eq-Decides (text x) t).0 e in let f : is_plain t ≡ false = ap is_plain (sym same) ∙ each.0 in cc)
+    go false e ih = ih
+
+-- no word of a command is a name, computed
+commands_reserved : Each (λ c. is_plain (command_text c) ≡ false) commands
+unfolding is_plain is_reserved is_among
+commands_reserved = (refl, (refl, (refl, (refl, (refl, (refl, (refl, (refl, (refl, (refl, (refl, tt)))))))))))
+
+-- nor is that of an operation
+operations_reserved : Each (λ o. is_plain (operation_text o) ≡ false) operations
+unfolding is_plain is_reserved is_among
+operations_reserved = (refl, (refl, (refl, (refl, (refl, (refl, (refl, (refl, (refl, (refl, (refl, (refl, (refl, (refl, (refl, (refl, (refl, (refl, (refl, (refl, (refl, (refl, (refl, (refl, (refl, (refl, (refl, (refl, (refl, (refl, (refl, (refl, (refl, (refl, (refl, (refl, (refl, tt)))))))))))))))))))))))))))))))))))))
+
+no_command_found : (n : Text) → is_plain n ≡ true → find_command n ≡ None
+unfolding find_command
+no_command_found n p = none_named command_text commands n commands_reserved p
+
+no_command : (m : Manner) (n : Text) → is_plain n ≡ true → command_named m n ≡ None
+no_command m n p = command_none m n (no_command_found n p)
+
+no_operation_found : (n : Text) → is_plain n ≡ true → find_operation n ≡ None
+unfolding find_operation
+no_operation_found n p = none_named operation_text operations n operations_reserved p
+
+no_operation : (m : Manner) (n : Text) → is_plain n ≡ true → operation_named m n ≡ None
+no_operation m n p = operation_none m n (no_operation_found n p)
 
 -- ---- operations, at the end of a line
 
-further_back : (word : Text) (mk : List Term → Line) → the word word ≡ Some tt → (n : ℕ) (us front : List Term) → length us ≤ n → Each IsTerm us
-    → Derives (further_terms word (λ ts. ends (mk ts)) n front) (terms_after word us) (mk (front ++ us))
-further_back word mk same zero [] front le h = ap (λ ts. Some (mk ts)) (sym (append-nil front))
-further_back word mk same zero (u ∷ us) front le h = absurd (omega arith)
-further_back word mk same (suc n) [] front le h = ap (λ ts. Some (mk ts)) (sym (append-nil front))
-further_back word mk same (suc n) (u ∷ us) front le h =
-    let f = λ (ts : List Term). let r : Rule Text Line = ends (mk ts) in r in
-    also_derives (the word) (λ _. next term_of (λ t. further_terms word f n (front ++ t ∷ []))) (f front) word tt (term_text u ∷ terms_after word us) (mk (front ++ u ∷ us)) same
-    (next_derives term_of (λ t. further_terms word f n (front ++ t ∷ [])) (term_text u) u (terms_after word us) (mk (front ++ u ∷ us)) (term_back u h.0)
-    (subst (λ (ts : List Term). Derives (further_terms word f n (front ++ u ∷ [])) (terms_after word us) (mk ts)) (append_assoc front (u ∷ []) us)
-    (further_back word mk same n us (front ++ u ∷ []) (omega arith) h.1)))
+-- a word doesn't come next
+abbrev Without : Text → List Text → Type 0
+Without word ws = (w : Text) (us : List Text) → ws ≡ w ∷ us → the word w ≡ None
+
+without_nil : (word : Text) → Without word []
+without_nil word w us e = absurd cc
+
+without_optional : (word other : Text) (default z : ℤ) (ws : List Text) → the word other ≡ None → Without word ws → Without word (optional_texts other default z ++ ws)
+without_optional word other default z ws none h = go (int_eq z default)
+  where
+    go : (b : Bool) → Without word (cond b [] (other ∷ signed_decimal z ∷ []) ++ ws)
+    go true w us e = h w us e
+    go false w us e = let same : other ≡ w = cc in ap (the word) (sym same) ∙ none
+
+further_back : (word : Text) (f : List Term → Rule Text Line) (ws : List Text) (x : Line) → the word word ≡ Some tt → Without word ws → (n : ℕ) (us front : List Term) → length us ≤ n → Each IsTerm us
+    → Derives (f (front ++ us)) ws x → Derives (further_terms word f n front) (terms_after word us ++ ws) x
+further_back word f ws x same none zero [] front le h d = subst (λ (ts : List Term). Derives (f ts) ws x) (append-nil front) d
+further_back word f ws x same none zero (u ∷ us) front le h d = absurd (omega arith)
+further_back word f ws x same none (suc n) [] front le h d =
+    rest_derives (the word) (λ _. next term_of (λ t. further_terms word f n (front ++ t ∷ []))) (f front) ws x none (subst (λ (ts : List Term). Derives (f ts) ws x) (append-nil front) d)
+further_back word f ws x same none (suc n) (u ∷ us) front le h d =
+    also_derives (the word) (λ _. next term_of (λ t. further_terms word f n (front ++ t ∷ []))) (f front) word tt (term_text u ∷ (terms_after word us ++ ws)) x same
+    (next_derives term_of (λ t. further_terms word f n (front ++ t ∷ [])) (term_text u) u (terms_after word us ++ ws) x (term_back u h.0)
+    (further_back word f ws x same none n us (front ++ u ∷ []) (omega arith) h.1 (subst (λ (ts : List Term). Derives (f ts) ws x) (sym (append_assoc front (u ∷ []) us)) d)))
 
 module _ (mk : Op → Line) where
   abbrev last : Op → Rule Text Line
@@ -77,17 +148,13 @@ module _ (mk : Op → Line) where
       let l = h.1 in
       let rest = terms_after (codes "and") us in
       next_derives term_of _ (term_text a) a (codes "and" ∷ term_text b ∷ rest) x (term_back a h.2.0)
-      (next_derives term_of (λ b. further_terms (codes "and") (λ ts. last (local_op s ts)) 6 (a ∷ b ∷ [])) (term_text b) b rest x (term_back b h.2.1.0) (further_back (codes "and") (λ ts. mk (local_op s ts)) refl 6 us (a ∷ b ∷ []) (omega arith) h.2.1.1))
+      (next_derives term_of (λ b. further_terms (codes "and") (λ ts. last (local_op s ts)) 6 (a ∷ b ∷ [])) (term_text b) b rest x (term_back b h.2.1.0) (subst (λ ws. Derives (further_terms (codes "and") (λ ts. last (local_op s ts)) 6 (a ∷ b ∷ [])) ws x) (append-nil rest) (further_back (codes "and") (λ ts. last (local_op s ts)) [] x refl (without_nil (codes "and")) 6 us (a ∷ b ∷ []) (omega arith) h.2.1.1 refl)))
 
   pair_back : (word : Text) (make : Term → Term → Op) (a b : Term) → the word word ≡ Some tt → IsTerm a → IsTerm b → Derives (pair_body word make last) (codes "of" ∷ term_text a ∷ word ∷ term_text b ∷ []) (mk (make a b))
   pair_back word make a b same p q =
       next_derives term_of _ (term_text a) a (word ∷ term_text b ∷ []) (mk (make a b)) (term_back a p)
       (next_derives (the word) _ word tt (term_text b ∷ []) (mk (make a b)) same
       (next_derives term_of (λ b. last (make a b)) (term_text b) b [] (mk (make a b)) (term_back b q) refl))
-
--- a word doesn't come next
-abbrev Without : Text → List Text → Type 0
-Without word ws = (w : Text) (us : List Text) → ws ≡ w ∷ us → the word w ≡ None
 
 no_to : (rs : List Rate) → Without (codes "to") (rates_texts rs)
 no_to [] w us e = absurd cc
@@ -133,43 +200,196 @@ rating_back mk t (r ∷ rs) h =
     next_derives term_of _ (term_text t) t (rates_texts (r ∷ rs)) x (term_back t h.0)
     (rate_back g r (rates_texts rs) x h.3.0 (no_to rs) (with_back (λ rs. mk (rating_op t rs)) 31 rs (r ∷ []) (omega arith) h.3.1))
 
-op_back : (m : Manner) (mk : Op → Line) (o : Op) → IsOp o → Derives (next operation_named (operation_body m (λ op. ends (mk op)))) (op_texts o) (mk o)
-op_back m mk (local_op s ts) h =
-    next_derives operation_named (operation_body m (λ op. ends (mk op))) (operation_text (Local s)) (Local s) (codes "of" ∷ terms_texts ts) (mk (local_op s ts)) (named_back (Local s)) (statistic_back mk s ts h)
-op_back m mk (difference_op l r) h =
-    next_derives operation_named (operation_body m (λ op. ends (mk op))) (operation_text Difference) Difference (codes "of" ∷ term_text l ∷ codes "and" ∷ term_text r ∷ []) (mk (difference_op l r)) (named_back Difference) (pair_back mk (codes "and") difference_op l r refl h.0 h.1)
-op_back m mk (ratio_op l r) h =
-    next_derives operation_named (operation_body m (λ op. ends (mk op))) (operation_text Ratio) Ratio (codes "of" ∷ term_text l ∷ codes "and" ∷ term_text r ∷ []) (mk (ratio_op l r)) (named_back Ratio) (pair_back mk (codes "and") ratio_op l r refl h.0 h.1)
-op_back m mk (rating_op t rs) h =
-    next_derives operation_named (operation_body m (λ op. ends (mk op))) (operation_text Rating) Rating (codes "of" ∷ term_text t ∷ rates_texts rs) (mk (rating_op t rs)) (named_back Rating) (rating_back mk t rs h)
-op_back m mk op h = absurd h
+-- a part of one place that may be left out
+part_back : {A : Type 0} (word : Text) (place : Text → Option A) (default v : A) (t : Text) (b : Bool) (g : A → Rule Text Line) (ws : List Text) (x : Line) → the word word ≡ Some tt → (b ≡ true → v ≡ default) → place t ≡ Some v → Without word ws
+    → Derives (g v) ws x → Derives (optional_part word place default g) (cond b [] (word ∷ t ∷ []) ++ ws) x
+part_back {A} word place default v t true g ws x same left_out h none d = rest_derives (the word) (λ _. next place g) (g default) ws x none (subst (λ (y : A). Derives (g y) ws x) (left_out refl) d)
+part_back word place default v t false g ws x same left_out h none d = also_derives (the word) (λ _. next place g) (g default) word tt (t ∷ ws) x same (next_derives place g t v ws x h d)
+
+same_pos : (a b : ℕ) → int_eq (pos a) (pos b) ≡ true → a ≡ b
+same_pos a b e = let same : pos a ≡ pos b = (Decides-int_eq (pos a) (pos b)).0 e in cc
+
+-- a count that may be left out, at the end of a line
+count_part_back : (word : Text) (low high default n : ℕ) (g : ℕ → Rule Text Line) (x : Line) → the word word ≡ Some tt → IsBetween low high n → n < 2 ^ 64 → Derives (g n) [] x
+    → Derives (optional_part word (count_of (pos low) (pos high)) default g) (optional_texts word (pos default) (pos n)) x
+count_part_back word low high default n g x same h lt d =
+    subst (λ ws. Derives (optional_part word (count_of (pos low) (pos high)) default g) ws x) (append-nil (optional_texts word (pos default) (pos n)))
+    (part_back word (count_of (pos low) (pos high)) default n (decimal n) (int_eq (pos n) (pos default)) g [] x same (same_pos n default) (count_back low high n h lt) (without_nil word) d)
+
+-- the words of a call, after its name
+abbrev pub given_texts : List Term → List Text
+given_texts [] = codes "(" ∷ codes ")" ∷ []
+given_texts (t ∷ ts) = codes "(" ∷ term_text t ∷ (terms_after (codes ",") ts ++ codes ")" ∷ [])
+
+module _ (m : Manner) (mk : Op → Line) where
+  abbrev ended : Op → Rule Text Line
+  ended op = ends (mk op)
+
+  radius_back : (s : Stat) (r : Option ℕ) (t : Term) → IsRadius r → Derives (radius_part s t ended) (radius_texts r) (mk (focal_op s r t))
+  radius_back s None t h = refl
+  radius_back s (Some n) t h =
+      let lt : n < 2 ^ 64 = (let l = h.1 in omega arith) in
+      also_derives (the (codes "at")) (λ _. next disc_of (λ r. ended (focal_op s r t))) (ended (focal_op s None t)) (codes "at") tt (decimal n ∷ []) (mk (focal_op s (Some n) t)) refl
+      (next_derives disc_of (λ r. ended (focal_op s r t)) (decimal n) (Some n) [] (mk (focal_op s (Some n) t)) (ap (option_map Some) (count_back 1 32 n h lt)) refl)
+
+  no_word : (b : Bool) (word w : Text) → the word w ≡ None → maybe b (the word) w ≡ None
+  no_word true word w e = e
+  no_word false word w e = refl
+
+  no_radiating : (b : Bool) (r : Option ℕ) (w : Text) (us : List Text) → radius_texts r ≡ w ∷ us → maybe b (the (codes "radiating")) w ≡ None
+  no_radiating b None w us e = absurd cc
+  no_radiating b (Some n) w us e = let same : codes "at" ≡ w = cc in no_word b (codes "radiating") w (ap (the (codes "radiating")) (sym same))
+
+  abbrev near : Stat → Term → Rule Text Line
+  near s a = also (on (maybe (radiates m s) (the (codes "radiating"))) (λ _. sight_part a ended)) (radius_part s a ended)
+
+  focal_back : (s : Stat) (r : Option ℕ) (t : Term) → IsRadius r → IsTerm t → Derives (focal_body m s ended) (codes "of" ∷ term_text t ∷ radius_texts r) (mk (focal_op s r t))
+  focal_back s r t h p =
+      next_derives term_of (near s) (term_text t) t (radius_texts r) (mk (focal_op s r t)) (term_back t p)
+      (rest_derives (maybe (radiates m s) (the (codes "radiating"))) (λ _. sight_part t ended) (radius_part s t ended) (radius_texts r) (mk (focal_op s r t)) (no_radiating (radiates m s) r) (radius_back s r t h))
+
+  heights_back : (s : Sighting) (t u : Term) → IsSighting s
+      → Derives (optional_part (codes "from") value_of (pos 0) (λ from. optional_part (codes "to") value_of (pos 0) (λ to. optional_part (codes "within") reach_of 64 (λ reach. ended (sight_op (record { from = from; to = to; reach = reach }) t u))))) (sight_texts s) (mk (sight_op s t u))
+  heights_back s t u h =
+      let x = mk (sight_op s t u) in
+      let within = optional_texts (codes "within") (pos 64) (pos s.reach) in
+      let lt : s.reach < 2 ^ 64 = (let l = h.reach.1 in omega arith) in
+      let no_from : Without (codes "from") within = subst (Without (codes "from")) (append-nil within) (without_optional (codes "from") (codes "within") (pos 64) (pos s.reach) [] refl (without_nil (codes "from"))) in
+      let no_to : Without (codes "to") within = subst (Without (codes "to")) (append-nil within) (without_optional (codes "to") (codes "within") (pos 64) (pos s.reach) [] refl (without_nil (codes "to"))) in
+      let from_rule = optional_part (codes "from") value_of (pos 0) (λ from. optional_part (codes "to") value_of (pos 0) (λ to. optional_part (codes "within") reach_of 64 (λ reach. ended (sight_op (record { from = from; to = to; reach = reach }) t u)))) in
+      subst (λ ws. Derives from_rule ws x) (sym (append_assoc (optional_texts (codes "from") (pos 0) s.from) (optional_texts (codes "to") (pos 0) s.to) within))
+      (optional_back (codes "from") (pos 0) s.from (λ from. optional_part (codes "to") value_of (pos 0) (λ to. optional_part (codes "within") reach_of 64 (λ reach. ended (sight_op (record { from = from; to = to; reach = reach }) t u)))) (optional_texts (codes "to") (pos 0) s.to ++ within) x refl h.from (without_optional (codes "from") (codes "to") (pos 0) s.to within refl no_from)
+      (optional_back (codes "to") (pos 0) s.to (λ to. optional_part (codes "within") reach_of 64 (λ reach. ended (sight_op (record { from = s.from; to = to; reach = reach }) t u))) within x refl h.to no_to
+      (count_part_back (codes "within") 1 64 64 s.reach (λ reach. ended (sight_op (record { from = s.from; to = s.to; reach = reach }) t u)) x refl h.reach lt refl)))
+
+  may_radiate : (b : Bool) → b ≡ true → maybe b (the (codes "radiating")) (codes "radiating") ≡ Some tt
+  may_radiate true e = refl
+  may_radiate false e = absurd cc
+
+  sight_back : (s : Sighting) (t u : Term) → m.sight ≡ true → IsSighting s → IsTerm t → IsTerm u → Derives (focal_body m Sum ended) (codes "of" ∷ term_text t ∷ codes "radiating" ∷ codes "on" ∷ term_text u ∷ sight_texts s) (mk (sight_op s t u))
+  sight_back s t u there h p q =
+      let x = mk (sight_op s t u) in
+      next_derives term_of (near Sum) (term_text t) t (codes "radiating" ∷ codes "on" ∷ term_text u ∷ sight_texts s) x (term_back t p)
+      (also_derives (maybe m.sight (the (codes "radiating"))) (λ _. sight_part t ended) (radius_part Sum t ended) (codes "radiating") tt (codes "on" ∷ term_text u ∷ sight_texts s) x (may_radiate m.sight there)
+      (next_derives term_of _ (term_text u) u (sight_texts s) x (term_back u q) (heights_back s t u h)))
+
+  friction_back : (g : Term → Rule Text Line) (u : Term) (ws : List Text) (x : Line) → IsTerm u → Without (codes "spreading") ws → Derives (g u) ws x → Derives (friction_part g) (friction_texts u ++ ws) x
+  friction_back g (layer_term n) ws x h none d =
+      also_derives (the (codes "spreading")) (λ _. term_after (codes "in") g) (g (number_term (pos 1))) (codes "spreading") tt (codes "in" ∷ n ∷ ws) x refl (next_derives term_of g n (layer_term n) ws x (term_back (layer_term n) h) d)
+  friction_back g (number_term z) ws x h none d = go (int_eq z (pos 1)) refl
+    where
+      go : (b : Bool) → int_eq z (pos 1) ≡ b → Derives (friction_part g) (cond b [] (codes "spreading" ∷ codes "in" ∷ signed_decimal z ∷ []) ++ ws) x
+      go true e =
+          let one : z ≡ pos 1 = (Decides-int_eq z (pos 1)).0 e in
+          rest_derives (the (codes "spreading")) (λ _. term_after (codes "in") g) (g (number_term (pos 1))) ws x none (subst (λ (y : ℤ). Derives (g (number_term y)) ws x) one d)
+      go false e =
+          also_derives (the (codes "spreading")) (λ _. term_after (codes "in") g) (g (number_term (pos 1))) (codes "spreading") tt (codes "in" ∷ signed_decimal z ∷ ws) x refl
+          (next_derives term_of g (signed_decimal z) (number_term z) ws x (term_back (number_term z) h) d)
+
+  spread_back : (limit : ℕ) (t u : Term) → IsOp (spread_op limit t u) → Derives (spread_body ended) (codes "of" ∷ term_text t ∷ (friction_texts u ++ optional_texts (codes "within") vmax (pos limit))) (mk (spread_op limit t u))
+  spread_back limit t u h =
+      let x = mk (spread_op limit t u) in
+      let within = optional_texts (codes "within") vmax (pos limit) in
+      let lt : limit < 2 ^ 64 = (let l = h.0 in omega arith) in
+      let no_spreading : Without (codes "spreading") within = subst (Without (codes "spreading")) (append-nil within) (without_optional (codes "spreading") (codes "within") vmax (pos limit) [] refl (without_nil (codes "spreading"))) in
+      next_derives term_of _ (term_text t) t (friction_texts u ++ within) x (term_back t h.1)
+      (friction_back (λ friction. optional_part (codes "within") limit_of greatest_value (λ limit. ended (spread_op limit t friction))) u within x h.2 no_spreading
+      (count_part_back (codes "within") 0 greatest_value greatest_value limit (λ limit. ended (spread_op limit t u)) x refl (omega arith, h.0) lt refl))
+
+  single_back : (make : Term → Op) (t : Term) → IsTerm t → Derives (single_body make ended) (codes "of" ∷ term_text t ∷ []) (mk (make t))
+  single_back make t p = next_derives term_of (λ a. ended (make a)) (term_text t) t [] (mk (make t)) (term_back t p) refl
+
+  direction_back : (t : Term) → IsTerm t → Derives (drainage_body ended) (codes "of" ∷ term_text t ∷ []) (mk (direction_op t))
+  direction_back t p = next_derives term_of (λ a. optional_part (codes "carrying") weights_of None (λ w. ended (drainage_op a w))) (term_text t) t [] (mk (direction_op t)) (term_back t p) refl
+
+  flow_back : (t u : Term) → IsTerm t → IsTerm u → Derives (drainage_body ended) (codes "of" ∷ term_text t ∷ codes "carrying" ∷ term_text u ∷ []) (mk (flow_op t u))
+  flow_back t u p q =
+      let x = mk (flow_op t u) in
+      next_derives term_of (λ a. optional_part (codes "carrying") weights_of None (λ w. ended (drainage_op a w))) (term_text t) t (codes "carrying" ∷ term_text u ∷ []) x (term_back t p)
+      (also_derives (the (codes "carrying")) (λ _. next weights_of (λ w. ended (drainage_op t w))) (ended (direction_op t)) (codes "carrying") tt (term_text u ∷ []) x refl
+      (next_derives weights_of (λ w. ended (drainage_op t w)) (term_text u) (Some u) [] x (ap (option_map Some) (term_back u q)) refl))
+
+-- ---- bodies
+
+form_back : (f : incremental.Form) → form_of (form_row f) ≡ f
+form_back linkage_form = refl
+form_back length_form = refl
+form_back partition_form = refl
+form_back frontage_form = refl
+form_back gradient_form = refl
+form_back aspect_form = refl
+
+module _ (m : Manner) (mk : Written → Line) where
+  abbrev whole : Written → Rule Text Line
+  whole w = ends (mk w)
+
+  abbrev done : Op → Line
+  done op = mk (plain op)
+
+  abbrev callers : Text → Rule Text Line
+  callers p = call_body (λ ts. whole (call p ts))
+
+  -- an operation's name, and then what follows it
+  by_name : (o : Operation) (ws : List Text) (x : Line) → HasRow m o → IsRow o → Derives (operation_body m (λ op. ends (done op)) o) ws x → Derives (body_rule m whole) (operation_text o ∷ ws) x
+  by_name o ws x there row d = also_derives (operation_named m) (operation_body m (λ op. ends (done op))) (node None (on (call_of m) callers)) (operation_text o) o ws x (named_back m o there row) d
+
+  op_back : (o : Op) → IsOp o → IsOpThere m o → Derives (body_rule m whole) (op_texts o) (mk (plain o))
+  op_back (local_op s ts) h there = by_name (Local s) (codes "of" ∷ terms_texts ts) (done (local_op s ts)) there tt (statistic_back done s ts h)
+  op_back (difference_op l r) h there = by_name Difference (codes "of" ∷ term_text l ∷ codes "and" ∷ term_text r ∷ []) (done (difference_op l r)) there tt (pair_back done (codes "and") difference_op l r refl h.0 h.1)
+  op_back (ratio_op l r) h there = by_name Ratio (codes "of" ∷ term_text l ∷ codes "and" ∷ term_text r ∷ []) (done (ratio_op l r)) there tt (pair_back done (codes "and") ratio_op l r refl h.0 h.1)
+  op_back (rating_op t rs) h there = by_name Rating (codes "of" ∷ term_text t ∷ rates_texts rs) (done (rating_op t rs)) there tt (rating_back done t rs h)
+  op_back (focal_op s r t) h there = by_name (Focal s) (codes "of" ∷ term_text t ∷ radius_texts r) (done (focal_op s r t)) there h.0 (focal_back m done s r t h.1 h.2)
+  op_back (zonal_op s t u) h there = by_name (Zonal s) (codes "of" ∷ term_text t ∷ codes "within" ∷ term_text u ∷ []) (done (zonal_op s t u)) there h.0 (pair_back done (codes "within") (zonal_op s) t u refl h.1 h.2)
+  op_back (form_op f t) h there =
+      by_name (Incremental (form_row f)) (codes "of" ∷ term_text t ∷ []) (done (form_op f t)) there tt
+      (subst (λ g. Derives (single_body (form_op (form_of (form_row f))) (λ op. ends (done op))) (codes "of" ∷ term_text t ∷ []) (done (form_op g t))) (form_back f) (single_back m done (form_op (form_of (form_row f))) t h))
+  op_back (direction_op t) h there = by_name Drainage (codes "of" ∷ term_text t ∷ []) (done (direction_op t)) there tt (direction_back m done t h)
+  op_back (flow_op t u) h there = by_name Drainage (codes "of" ∷ term_text t ∷ codes "carrying" ∷ term_text u ∷ []) (done (flow_op t u)) there tt (flow_back m done t u h.0 h.1)
+  op_back (spread_op limit t u) h there =
+      by_name Proximity (codes "of" ∷ term_text t ∷ (friction_texts u ++ optional_texts (codes "within") vmax (pos limit))) (done (spread_op limit t u)) there tt (spread_back m done limit t u h)
+  op_back (sight_op s t u) h there =
+      by_name (Focal Sum) (codes "of" ∷ term_text t ∷ codes "radiating" ∷ codes "on" ∷ term_text u ∷ sight_texts s) (done (sight_op s t u)) there.0 tt (sight_back m done s t u there.1 h.0 h.1 h.2)
+  op_back (region_op t) h there = by_name Insularity (codes "of" ∷ term_text t ∷ []) (done (region_op t)) there tt (single_back m done region_op t h)
+
+  call_there : (b : Bool) (p : Text) → b ≡ true → is_plain p ≡ true → maybe b name_of p ≡ Some p
+  call_there true p e h = name_back p h
+  call_there false p e h = absurd cc
+
+  no_close : (us : List Text) → Without (codes ",") (codes ")" ∷ us)
+  no_close us w vs e = let same : codes ")" ≡ w = cc in ap (the (codes ",")) (sym same)
+
+  call_back : (p : Text) (ts : List Term) → m.calls ≡ true → IsWritten (call p ts) → Derives (body_rule m whole) (p ∷ given_texts ts) (mk (call p ts))
+  call_back p [] there h = absurd (let l = h.1 in omega arith)
+  call_back p (a ∷ us) there h =
+      let x = mk (call p (a ∷ us)) in
+      let ws = term_text a ∷ (terms_after (codes ",") us ++ codes ")" ∷ []) in
+      let few : length us ≤ 7 = (let l = h.2 in omega arith) in
+      let r = node None (on (call_of m) callers) in
+      rest_derives (operation_named m) (operation_body m (λ op. ends (done op))) r (p ∷ codes "(" ∷ ws) x
+      (λ w us e. (let same : p ≡ w = cc in subst (λ q. operation_named m q ≡ None) same (no_operation m p h.0)))
+      (next_derives (call_of m) callers p p (codes "(" ∷ ws) x (call_there m.calls p there h.0)
+      (next_derives term_of (λ a. further_terms (codes ",") (λ ts. next (the (codes ")")) (λ _. whole (call p ts))) 7 (a ∷ [])) (term_text a) a (terms_after (codes ",") us ++ codes ")" ∷ []) x (term_back a h.3.0)
+      (further_back (codes ",") (λ ts. next (the (codes ")")) (λ _. whole (call p ts))) (codes ")" ∷ []) x refl (no_close []) 7 us (a ∷ []) few h.3.1 refl)))
 
 -- ---- lines
 
--- no command's word is a name, computed
-command_reserved : (c : Command) → is_plain (command_text c) ≡ false
-unfolding is_plain is_reserved is_among
-command_reserved Paint = refl
-command_reserved c = refl
+-- the words of a body
+abbrev pub written_tail : Written → List Text
+written_tail (plain o) = op_texts o
+written_tail (call p ts) = p ∷ given_texts ts
 
-none_named : (cs : List Command) (t : Text) → is_plain t ≡ true → find (λ c. bytes_eq (command_text c) t) cs ≡ None
-none_named [] t p = refl
-none_named (c ∷ cs) t p = go (bytes_eq (command_text c) t) refl (none_named cs t p)
+abbrev pub written_texts : Text → Written → List Text
+written_texts n w = n ∷ codes "=" ∷ written_tail w
+
+body_back : (m : Manner) (mk : Written → Line) (w : Written) → IsWritten w → IsWrittenThere m w → Derives (body_rule m (λ w. ends (mk w))) (written_tail w) (mk w)
+body_back m mk (plain o) h there = op_back m mk o h there
+body_back m mk (call p ts) h there = call_back m mk p ts there h
+
+pub words_back : (m : Manner) (n : Text) (w : Written) → IsTrue (is_plain n) → IsWritten w → IsWrittenThere m w → IsLine m (written_texts n w) (edit (define n w))
+words_back m n w p h there = start (command_named m n) (name_of n) (no_command m n p) (name_back n p) (body_back m (λ w. edit (define n w)) w h there)
   where
-    go : (b : Bool) → bytes_eq (command_text c) t ≡ b → find (λ c. bytes_eq (command_text c) t) cs ≡ None → ◌≡◌ {A = Option Command} (cond b (Some c) (find (λ c. bytes_eq (command_text c) t) cs)) None
-    go true e ih = absurd (let same : command_text c ≡ t = (bytes_eq-Decides (command_text c) t).0 e in let f : is_plain t ≡ false = ap is_plain (sym same) ∙ command_reserved c in cc)
-    go false e ih = ih
-
-no_command : (n : Text) → is_plain n ≡ true → command_named n ≡ None
-unfolding command_named
-no_command n p = none_named commands n p
-
-pub words_back : (m : Manner) (n : Text) (w : Written) → IsTrue (is_plain n) → IsWritten w → IsLine m (written_texts n w) (edit (define n w))
-words_back m n (plain o) p h = start (command_named n) (name_of n) (no_command n p) (name_back n p) (op_back m (λ op. edit (define n (plain op))) o h)
-  where
-    start : (c : Option Command) (named : Option Text) → c ≡ None → named ≡ Some n → Derives (define_rule m n) (codes "=" ∷ op_texts o) (edit (define n (plain o)))
-        → Derives (or_rule (after c command_rule) (after named (define_rule m))) (codes "=" ∷ op_texts o) (edit (define n (plain o)))
+    start : (c : Option Command) (named : Option Text) → c ≡ None → named ≡ Some n → Derives (define_rule m n) (codes "=" ∷ written_tail w) (edit (define n w))
+        → Derives (or_rule (after c command_rule) (after named (define_rule m))) (codes "=" ∷ written_tail w) (edit (define n w))
     start None None e f d = absurd cc
-    start None (Some k) e f d = let same : n ≡ k = cc in subst (λ (t : Text). Derives (define_rule m t) (codes "=" ∷ op_texts o) (edit (define n (plain o)))) same d
+    start None (Some k) e f d = let same : n ≡ k = cc in subst (λ (t : Text). Derives (define_rule m t) (codes "=" ∷ written_tail w) (edit (define n w))) same d
     start (Some c) named e f d = absurd cc
-words_back m n (call q ts) p h = absurd h

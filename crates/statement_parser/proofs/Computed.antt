@@ -6,52 +6,64 @@ use Rattle.map_words.specs.Names.{is_plain, is_dotted, is_reserved, is_among}
 use Rattle.map_words.specs.Numbers.{number_text}
 use Rattle.grammar_core.specs.declared.Fault.{Fault}
 use Rattle.grammar_core.proofs.FirstFault.{found_so, refused_so}
-use Rattle.statement_parser.specs.Lines.{Line, first_language}
+use Rattle.statement_parser.specs.Lines.{Manner, Line}
 use Rattle.statement_parser.specs.Places.{tests}
-use Rattle.statement_parser.specs.Operations.{operation_named}
-use Rattle.statement_parser.specs.Commands.{command_named}
+use Rattle.statement_parser.specs.Operations.{find_operation, operation_named}
+use Rattle.statement_parser.specs.Commands.{find_command, command_named}
 use Rattle.statement_parser.specs.Grammar.{line_rule}
-use Rattle.statement_parser.specs.ReadBodies.{statistic_at, pair_at, difference_at, ratio_at, rating_at, body_at}
-use Rattle.statement_parser.specs.ReadParts.{term_after_at, further_at, optional_at, range_at, rate_at, with_at}
+use Rattle.statement_parser.specs.ReadBodies.{statistic_at, pair_at, difference_at, ratio_at, rating_at, radius_at, sight_at, reaching_at, focal_at, spread_at, given_at, call_at, plain_at, body_at}
+use Rattle.statement_parser.specs.ReadParts.{term_after_at, further_at, optional_at, range_at, rate_at, with_at, friction_at}
 use Rattle.statement_parser.specs.ReadLine.{define_at, line_at, quit_at}
-use Rattle.statement_parser.specs.ReadCommands.{corners_at, paint_at, new_at, drop_at, value_at, grid_at, list_at}
+use Rattle.statement_parser.specs.ReadCommands.{corners_at, paint_at, new_at, drop_at, value_at, any_line_at, table_at, list_at}
 use Rattle.statement_parser.specs.Texts.{seen, is_short, LineText, silent, worded, refusal_of, RefusedText, bad_byte, bad_word}
 use Rattle.statement_parser.specs.Columns.{column}
-use Rattle.statement_parser.specs.Rows.{Rows}
+use Rattle.statement_parser.specs.Worked.{first_rows, all_rows, Worked}
 use Rattle.statement_parser.proofs.SoundLines.{healthy_line}
 use Rattle.statement_parser.proofs.ReadsLines.{line_reads}
 
-line_row : (bytes : Text) (x : Line) → is_short bytes ≡ true → is_silent bytes ≡ false → first_bad bytes ≡ None → line_at (seen bytes) ≡ Ok x → LineText first_language bytes x
-line_row bytes x s e f h = worded s e f (found_so tests (line_rule first_language) (seen bytes) x (sym (line_reads first_language (seen bytes)) ∙ h))
+line_row : (m : Manner) (bytes : Text) (x : Line) → is_short bytes ≡ true → is_silent bytes ≡ false → first_bad bytes ≡ None → line_at m (seen bytes) ≡ Ok x → LineText m bytes x
+line_row m bytes x s e f h = worded s e f (found_so (tests m) (line_rule m) (seen bytes) x (sym (line_reads m (seen bytes)) ∙ h))
 
-refused_row : (bytes : Text) (f : Fault) → is_short bytes ≡ true → is_silent bytes ≡ false → first_bad bytes ≡ None → line_at (seen bytes) ≡ Err f → RefusedText first_language bytes (refusal_of f.kind (column bytes f.left))
-refused_row bytes f s e g h =
-    bad_word f.kind f.left s e g (refused_so tests (line_rule first_language) (seen bytes) f (healthy_line first_language).sound refl (sym (line_reads first_language (seen bytes)) ∙ h))
+refused_row : (m : Manner) (bytes : Text) (f : Fault) → is_short bytes ≡ true → is_silent bytes ≡ false → first_bad bytes ≡ None → line_at m (seen bytes) ≡ Err f → RefusedText m bytes (refusal_of f.kind (column bytes f.left))
+refused_row m bytes f s e g h = bad_word f.kind f.left s e g (refused_so (tests m) (line_rule m) (seen bytes) f (healthy_line m).sound refl (sym (line_reads m (seen bytes)) ∙ h))
 
-pub rows : Rows
-unfolding line_at define_at corners_at paint_at new_at drop_at value_at grid_at list_at quit_at term_after_at further_at optional_at statistic_at pair_at difference_at ratio_at range_at rate_at with_at rating_at body_at operation_named command_named is_plain is_dotted is_reserved is_among number_text
+pub rows : Worked
+unfolding line_at define_at corners_at paint_at new_at drop_at value_at any_line_at table_at list_at quit_at term_after_at further_at optional_at statistic_at pair_at difference_at ratio_at range_at rate_at with_at rating_at radius_at sight_at reaching_at focal_at friction_at spread_at given_at call_at plain_at body_at operation_named find_operation command_named find_command is_plain is_dotted is_reserved is_among number_text
 rows = record {
   empty = silent refl refl;
   note = silent refl refl;
-  whole = line_row (codes "B = LocalSum of A and 3") _ refl refl refl refl;
-  rated = line_row (codes "R = LocalRating of A with 9 for 1 to 3 with null for -5") _ refl refl refl refl;
-  painted = line_row (codes "paint A 01 +1 2 2 -0") _ refl refl refl refl;
-  fresh = line_row (codes "new C 1") _ refl refl refl refl;
-  fresh_null = line_row (codes "new C null") _ refl refl refl refl;
-  dotted = line_row (codes "grid A.result.b") _ refl refl refl refl;
-  alone = refused_row (codes "foo") _ refl refl refl refl;
-  unknown = refused_row (codes "C = LocalSun of A and 1") _ refl refl refl refl;
-  cut = refused_row (codes "C = LocalSum of A and") _ refl refl refl refl;
-  blanks = refused_row (codes "C = LocalSum of A and  ") _ refl refl refl refl;
-  zero_row = refused_row (codes "paint A 0 1 1 1 1") _ refl refl refl refl;
-  huge = refused_row (codes "B = LocalSum of A and 99999999999999999999") _ refl refl refl refl;
-  reserved = refused_row (codes "C = of") _ refl refl refl refl;
-  reserved_call = refused_row (codes "C = of(A)") _ refl refl refl refl;
-  not_yet = refused_row (codes "C = FocalSum of A") _ refl refl refl refl;
-  reserved_name = refused_row (codes "end = LocalSum of A and 1") _ refl refl refl refl;
-  reserved_layer = refused_row (codes "new of 1") _ refl refl refl refl;
-  beyond = refused_row (codes "new C 2000000001") _ refl refl refl refl;
-  later_form = refused_row (codes "label C 1 x") _ refl refl refl refl;
+  whole = line_row first_rows (codes "B = LocalSum of A and 3") _ refl refl refl refl;
+  rated = line_row first_rows (codes "R = LocalRating of A with 9 for 1 to 3 with null for -5") _ refl refl refl refl;
+  painted = line_row first_rows (codes "paint A 01 +1 2 2 -0") _ refl refl refl refl;
+  fresh = line_row first_rows (codes "new C 1") _ refl refl refl refl;
+  fresh_null = line_row first_rows (codes "new C null") _ refl refl refl refl;
+  dotted = line_row first_rows (codes "grid A.result.b") _ refl refl refl refl;
+  alone = refused_row first_rows (codes "foo") _ refl refl refl refl;
+  unknown = refused_row first_rows (codes "C = LocalSun of A and 1") _ refl refl refl refl;
+  cut = refused_row first_rows (codes "C = LocalSum of A and") _ refl refl refl refl;
+  blanks = refused_row first_rows (codes "C = LocalSum of A and  ") _ refl refl refl refl;
+  zero_row = refused_row first_rows (codes "paint A 0 1 1 1 1") _ refl refl refl refl;
+  huge = refused_row first_rows (codes "B = LocalSum of A and 99999999999999999999") _ refl refl refl refl;
+  reserved = refused_row first_rows (codes "C = of") _ refl refl refl refl;
+  reserved_call = refused_row first_rows (codes "C = of(A)") _ refl refl refl refl;
+  not_yet = refused_row first_rows (codes "C = FocalSum of A") _ refl refl refl refl;
+  reserved_name = refused_row first_rows (codes "end = LocalSum of A and 1") _ refl refl refl refl;
+  reserved_layer = refused_row first_rows (codes "new of 1") _ refl refl refl refl;
+  beyond = refused_row first_rows (codes "new C 2000000001") _ refl refl refl refl;
+  later_form = refused_row first_rows (codes "label C 1 x") _ refl refl refl refl;
   bad_byte = bad_byte refl refl refl;
-  ninth = refused_row (codes "B = LocalSum of 1 and 2 and 3 and 4 and 5 and 6 and 7 and 8 and 9") _ refl refl refl refl;
+  ninth = refused_row first_rows (codes "B = LocalSum of 1 and 2 and 3 and 4 and 5 and 6 and 7 and 8 and 9") _ refl refl refl refl;
+  called_early = refused_row first_rows (codes "C = Twice(A, 3)") _ refl refl refl refl;
+  not_yet_named = refused_row first_rows (codes "show A") _ refl refl refl refl;
+  near = line_row all_rows (codes "C = FocalSum of A at 2") _ refl refl refl refl;
+  sighted = line_row all_rows (codes "C = FocalSum of A radiating on B to 5") _ refl refl refl refl;
+  spread = line_row all_rows (codes "C = FocalProximity of A spreading in 2 within 7") _ refl refl refl refl;
+  called = line_row all_rows (codes "C=Twice(A,3)") _ refl refl refl refl;
+  tabled = line_row all_rows (codes "table A.b C") _ refl refl refl refl;
+  far = refused_row all_rows (codes "C = FocalMean of A at 33") _ refl refl refl refl;
+  no_mean = refused_row all_rows (codes "C = FocalMean of A radiating on B") _ refl refl refl refl;
+  no_product = refused_row all_rows (codes "C = FocalProduct of A") _ refl refl refl refl;
+  named_call = refused_row all_rows (codes "C = FocalSum(A)") _ refl refl refl refl;
+  no_call = refused_row all_rows (codes "C = Twice") _ refl refl refl refl;
+  no_more = refused_row all_rows (codes "C = Twice(1, 2, 3, 4, 5, 6, 7, 8, 9)") _ refl refl refl refl;
 }

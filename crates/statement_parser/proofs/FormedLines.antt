@@ -1,33 +1,40 @@
--- Every line that is read is formed.
-use Rattle.std.proofs.Common.{◌≡◌, ◌+◌, ◌≤◌, ℕ, zero, suc, ℤ, pos, negsuc, Bool, true, false, cond, ◌&&◌, ◌||◌, List, [], ◌∷◌, ◌++◌, length, Option, Some, None, refl, subst, arith, length-append}
+-- Every line that is read is formed, and there.
+use Rattle.std.proofs.Common.{◌≡◌, ◌+◌, ◌≤◌, ℕ, zero, suc, ℤ, pos, negsuc, Bool, true, false, cond, ◌&&◌, ◌||◌, List, [], ◌∷◌, ◌++◌, length, Option, Some, None, refl, sym, ap, subst, arith, length-append, find}
 use Rattle.std.specs.Prelude.{codes, bytes_eq, int_le, nat_abs, option_map, IsTrue, nat_le}
 use Rattle.std.proofs.lemmas.Bool.{leb-true}
 use Rattle.map_nums.specs.declared.Stat.{Stat}
+use Rattle.map_nums.specs.declared.Stat.TheVariants as stats
 use Rattle.map_nums.specs.declared.Rate.{Rate}
-use Rattle.map_nums.specs.Numbers.{is_value, vmin, vmax}
+use Rattle.map_nums.specs.Numbers.{is_value, vmin, vmax, greatest_value}
 use Rattle.map_words.specs.Bytes.{Text}
 use Rattle.map_words.specs.Names.{is_plain, is_dotted}
 use Rattle.map_words.specs.Numbers.{number_text, if_between}
 use Rattle.grammar_core.specs.Rules.{Rule, ends, on, next}
 use Rattle.grammar_core.proofs.Ends.{AllEnds, each_end, ends_on, ends_next, ends_or, ends_also}
-use Rattle.map_defs.specs.Ops.{Term, layer_term, number_term, Op, local_op, difference_op, ratio_op, rating_op}
-use Rattle.map_defs.specs.Statements.{plain}
-use Rattle.statement_parser.specs.Lines.{Manner, define, paint, new_layer, drop, ask_value, ask_grid, ask_list, Line, edit, ask, quit}
-use Rattle.statement_parser.specs.Operations.{operation_named}
-use Rattle.statement_parser.specs.Places.{the, name_of, any_of, value_of, side_of, term_of, cell_of}
-use Rattle.statement_parser.specs.Bodies.{term_after, further_terms, optional_part, statistic_body, pair_body, rate_part, with_rates, rating_body, operation_body}
-use Rattle.statement_parser.specs.Commands.{command_named}
-use Rattle.statement_parser.specs.Grammar.{define_rule, command_rule, line_rule, IsLine}
+use Rattle.map_defs.specs.Ops.{Term, layer_term, number_term, Op, local_op, difference_op, ratio_op, rating_op, focal_op, zonal_op, form_op, direction_op, flow_op, spread_op, sight_op, region_op}
+use Rattle.map_defs.specs.Sight.{Sighting}
+use Rattle.map_defs.specs.Statements.{plain, call}
+use Rattle.statement_parser.specs.Lines.{Manner, define, paint, new_layer, drop, ask_value, ask_grid, ask_show, ask_legend, ask_table, ask_stamps, ask_list, Line, edit, ask, quit}
+use Rattle.statement_parser.specs.Forms.{form_of, form_row}
+use Rattle.statement_parser.specs.Operations.{operations, operation_text, find_operation, has_row, operation_named}
+use Rattle.statement_parser.specs.Places.{the, maybe, name_of, any_of, value_of, count_of, side_of, disc_of, reach_of, limit_of, term_of, weights_of, cell_of, call_of}
+use Rattle.statement_parser.specs.Bodies.{term_after, further_terms, optional_part, statistic_body, pair_body, rate_part, with_rates, rating_body, radius_part, sight_part, radiates, focal_body, friction_part, spread_body, drainage_op, drainage_body, operation_body, call_body}
+use Rattle.statement_parser.specs.Commands.{commands, command_text, find_command, has_command, command_named}
+use Rattle.statement_parser.specs.Grammar.{body_rule, define_rule, command_rule, line_rule, IsLine}
 use Rattle.std.specs.Prelude.{IfOk, Result, Ok, Err}
 use Rattle.statement_parser.specs.declared.refusal.LineRefusal.{LineRefusal}
 use Rattle.statement_parser.specs.Texts.{seen, LineText, silent, worded}
 use Rattle.statement_parser.specs.Parsed.{IsParsed}
 use Rattle.layer_tiles.specs.Cells.{IsCell}
-use Rattle.statement_parser.specs.Formed.{Each, IsTerm, IsRate, IsOp, IsSide, IsAny, IsFormed}
+use Rattle.statement_parser.specs.Formed.{Each, IsTerm, IsRate, IsNoProduct, IsBetween, IsRadius, IsSighting, IsOp, IsSide, IsAny, IsFormed}
+use Rattle.statement_parser.specs.There.{HasRow, HasCommand, IsOpThere, IsThere}
+use Rattle.std.proofs.lemmas.Slice.Eq.{bytes_eq-Decides}
+use Rattle.statement_parser.specs.declared.op.Form.{Form}
+use Rattle.statement_parser.specs.declared.op.Form.TheVariants.{Linkage, Length, Partition, Frontage, Gradient, Aspect}
 use Rattle.statement_parser.specs.declared.operation.Operation.{Operation}
-use Rattle.statement_parser.specs.declared.operation.Operation.TheVariants.{Local, Difference, Ratio, Rating}
+use Rattle.statement_parser.specs.declared.operation.Operation.TheVariants.{Local, Difference, Ratio, Rating, Focal, Proximity, Insularity, Zonal, Incremental, Drainage}
 use Rattle.statement_parser.specs.declared.command.Command.{Command}
-use Rattle.statement_parser.specs.declared.command.Command.TheVariants.{Paint, New, Drop, Value, Grid, List as Listing, Quit}
+use Rattle.statement_parser.specs.declared.command.Command.TheVariants.{Paint, New, Drop, Value, Grid, Show, Legend, Table, Stamps, List as Listing, Quit}
 
 -- ---- what a place gives
 
@@ -57,16 +64,19 @@ both_true true true e = (refl, refl)
 both_true true false e = absurd cc
 both_true false b e = absurd cc
 
-side_in : (z : ℤ) → (int_le (pos 1) z && int_le z (pos 4096)) ≡ true → IsSide (nat_abs z)
-side_in (pos n) e =
-    let h = both_true (nat_le 1 n) (nat_le n 4096) e in
-    (leb-true 1 n h.0, leb-true n 4096 h.1)
-side_in (negsuc n) e = absurd cc
+count_in : (low high : ℕ) (z : ℤ) → (int_le (pos low) z && int_le z (pos high)) ≡ true → IsBetween low high (nat_abs z)
+count_in low high (pos n) e =
+    let h = both_true (nat_le low n) (nat_le n high) e in
+    (leb-true low n h.0, leb-true n high h.1)
+count_in low high (negsuc n) e = absurd cc
 
-side_formed : (w : Text) (n : ℕ) → side_of w ≡ Some n → IsSide n
-side_formed w n e =
-    let h = map_some nat_abs (if_between (pos 1) (pos 4096) (number_text w)) n e in
-    subst IsSide h.2 (side_in h.0 (in_range (pos 1) (pos 4096) (number_text w) h.0 h.1))
+count_formed : (low high : ℕ) (w : Text) (n : ℕ) → count_of (pos low) (pos high) w ≡ Some n → IsBetween low high n
+count_formed low high w n e =
+    let h = map_some nat_abs (if_between (pos low) (pos high) (number_text w)) n e in
+    subst (IsBetween low high) h.2 (count_in low high h.0 (in_range (pos low) (pos high) (number_text w) h.0 h.1))
+
+disc_formed : (w : Text) (r : Option ℕ) → disc_of w ≡ Some r → IsRadius r
+disc_formed w r e = let h = map_some Some (count_of (pos 1) (pos 32) w) r e in subst IsRadius h.2 (count_formed 1 32 w h.0 h.1)
 
 term_formed : (w : Text) (t : Term) → term_of w ≡ Some t → IsTerm t
 term_formed w t e = go (is_plain w) refl e
@@ -82,121 +92,265 @@ cell_formed w c e = go (bytes_eq w (codes "null")) e
     go true e = let h : None ≡ c = cc in subst IsCell h tt
     go false e = let h = map_some Some (value_of w) c e in subst IsCell h.2 (value_formed w h.0 h.1)
 
--- ---- operations
+-- the terms of a part that may be left out
+abbrev AreWeights : Option Term → Type 0
+AreWeights None = Unit {0}
+AreWeights (Some t) = IsTerm t
 
-abbrev Formed : Rule Text Line → Type 0
-Formed r = AllEnds IsFormed r
+weights_formed : (w : Text) (t : Option Term) → weights_of w ≡ Some t → AreWeights t
+weights_formed w t e = let h = map_some Some (term_of w) t e in subst AreWeights h.2 (term_formed w h.0 h.1)
 
--- whatever follows a formed value is formed
-abbrev Keeps : {A : Type 0} → (A → Type 0) → (A → Rule Text Line) → Type 0
-Keeps {A} P f = (v : A) → P v → Formed (f v)
+maybe_some : {A : Type 0} (b : Bool) (f : Text → Option A) (w : Text) (v : A) → maybe b f w ≡ Some v → (b ≡ true) × (f w ≡ Some v)
+maybe_some true f w v e = (refl, e)
+maybe_some false f w v e = absurd cc
 
-then_the : (word : Text) (r : Unit {0} → Rule Text Line) → Formed (r tt) → Formed (next (the word) r)
-then_the word r h = ends_next IsFormed (the word) r (λ w v e. h)
+-- ---- what a table gives
 
-then_term : (r : Term → Rule Text Line) → Keeps IsTerm r → Formed (next term_of r)
-then_term r h = ends_next IsFormed term_of r (λ w t e. h t (term_formed w t e))
+either_some : {A : Type 0} (b : Bool) (o : Option A) (v : A) → cond b o None ≡ Some v → (b ≡ true) × (o ≡ Some v)
+either_some true o v e = (refl, e)
+either_some false o v e = absurd cc
 
-then_value : (r : ℤ → Rule Text Line) → Keeps (λ z. IsTrue (is_value z)) r → Formed (next value_of r)
-then_value r h = ends_next IsFormed value_of r (λ w z e. h z (value_formed w z e))
+-- what is found is a row of the table
+found_holds : {A : Type 0} (P : A → Type 0) (text : A → Text) (xs : List A) (t : Text) (v : A) → Each P xs → find (λ x. bytes_eq (text x) t) xs ≡ Some v → (text v ≡ t) × P v
+found_holds P text [] t v each e = absurd cc
+found_holds {A} P text (x ∷ xs) t v each e = go (bytes_eq (text x) t) refl e (found_holds P text xs t v each.1)
+  where
+    go : (b : Bool) → bytes_eq (text x) t ≡ b → cond b (Some x) (find (λ x. bytes_eq (text x) t) xs) ≡ Some v → (find (λ x. bytes_eq (text x) t) xs ≡ Some v → (text v ≡ t) × P v) → (text v ≡ t) × P v
+    go true h e rest = let same : x ≡ v = cc in subst (λ y. (text y ≡ t) × P y) same ((bytes_eq-Decides (text x) t).0 h, each.0)
+    go false h e rest = rest e
 
-then_cell : (r : Option ℤ → Rule Text Line) → Keeps IsCell r → Formed (next cell_of r)
-then_cell r h = ends_next IsFormed cell_of r (λ w c e. h c (cell_formed w c e))
+-- no product is Focal or Zonal
+abbrev pub IsRow : Operation → Type 0
+IsRow (Focal s) = IsNoProduct s
+IsRow (Zonal s) = IsNoProduct s
+IsRow o = Unit {0}
 
-then_name : (r : Text → Rule Text Line) → Keeps (λ n. IsTrue (is_plain n)) r → Formed (next name_of r)
-then_name r h = ends_next IsFormed name_of r (λ w n e. h n (name_formed w n e))
+all_rows : Each IsRow operations
+all_rows = (tt, (tt, (tt, (tt, (tt, (tt, (tt, (tt, (tt, (tt, (tt, (tt, (tt, (tt, (tt, (tt, (tt, (tt, (tt, (tt, (tt, (tt, (tt, (tt, (tt, (tt, (tt, (tt, (tt, (tt, (tt, (tt, (tt, (tt, (tt, (tt, (tt, tt)))))))))))))))))))))))))))))))))))))
 
-then_any : (r : Text → Rule Text Line) → Keeps IsAny r → Formed (next any_of r)
-then_any r h = ends_next IsFormed any_of r (λ w n e. h n (any_formed w n e))
+operation_formed_row : (m : Manner) (w : Text) (o : Operation) → operation_named m w ≡ Some o → HasRow m o × IsRow o
+unfolding operation_named find_operation
+operation_formed_row m w o e =
+    let h = either_some (has_row (Local stats.Sum ∷ m.operations) w) (find_operation w) o e in
+    let f = found_holds IsRow operation_text operations w o all_rows h.1 in
+    (subst (λ t. has_row (Local stats.Sum ∷ m.operations) t ≡ true) (sym f.0) h.0, f.1)
 
-then_side : (r : ℕ → Rule Text Line) → Keeps IsSide r → Formed (next side_of r)
-then_side r h = ends_next IsFormed side_of r (λ w n e. h n (side_formed w n e))
+abbrev IsAnyCommand : Command → Type 0
+IsAnyCommand c = Unit {0}
 
-all-push : {A : Type 0} (P : A → Type 0) (xs : List A) (y : A) → Each P xs → P y → Each P (xs ++ y ∷ [])
-all-push P [] y a p = (p, tt)
-all-push P (x ∷ xs) y a p = (a.0, all-push P xs y a.1 p)
+all_commands : Each IsAnyCommand commands
+all_commands = (tt, (tt, (tt, (tt, (tt, (tt, (tt, (tt, (tt, (tt, (tt, tt)))))))))))
 
--- so many at least, and with n more so many at most
-abbrev IsRun : {A : Type 0} → (A → Type 0) → ℕ → ℕ → ℕ → List A → Type 0
-IsRun P least most n xs = (least ≤ length xs) × (length xs + n ≤ most) × Each P xs
+command_there : (m : Manner) (w : Text) (c : Command) → command_named m w ≡ Some c → HasCommand m c
+unfolding command_named find_command
+command_there m w c e =
+    let h = either_some (has_command m.commands w) (find_command w) c e in
+    let f = found_holds IsAnyCommand command_text commands w c all_commands h.1 in
+    subst (λ t. has_command m.commands t ≡ true) (sym f.0) h.0
 
-run-push : {A : Type 0} (P : A → Type 0) (least most n : ℕ) (xs : List A) (y : A) → IsRun P least most (suc n) xs → P y → IsRun P least most n (xs ++ y ∷ [])
-run-push P least most n xs y r p = (omega (arith, length-append xs (y ∷ [])), omega (arith, length-append xs (y ∷ [])), all-push P xs y r.2 p)
+form_again : (f : Form) → f ≡ form_row (form_of f)
+form_again Linkage = refl
+form_again Length = refl
+form_again Partition = refl
+form_again Frontage = refl
+form_again Gradient = refl
+form_again Aspect = refl
 
-after_formed : (word : Text) (f : Term → Rule Text Line) → Keeps IsTerm f → Formed (term_after word f)
-after_formed word f h = then_the word _ (then_term f h)
+module _ (m : Manner) where
+  -- ---- operations
 
-further_formed : (word : Text) (least most : ℕ) (f : List Term → Rule Text Line) → Keeps (λ ts. (least ≤ length ts) × (length ts ≤ most) × Each IsTerm ts) f → (n : ℕ) (ts : List Term) → IsRun IsTerm least most n ts
-    → Formed (further_terms word f n ts)
-further_formed word least most f h zero ts r = h ts (r.0, omega arith, r.2)
-further_formed word least most f h (suc n) ts r =
-    ends_also IsFormed (the word) (λ _. next term_of (λ t. further_terms word f n (ts ++ t ∷ []))) (f ts)
-    (λ w v e. then_term (λ t. further_terms word f n (ts ++ t ∷ [])) (λ t p. further_formed word least most f h n (ts ++ t ∷ []) (run-push IsTerm least most n ts t r p))) (h ts (r.0, omega arith, r.2))
+  abbrev IsGood : Line → Type 0
+  IsGood x = IsFormed x × IsThere m x
 
-optional_formed : {A : Type 0} (word : Text) (place : Text → Option A) (default : A) (f : A → Rule Text Line) → Formed (next place f) → Formed (f default) → Formed (optional_part word place default f)
-optional_formed word place default f there left_out = ends_also IsFormed (the word) (λ _. next place f) (f default) (λ w v e. there) left_out
+  abbrev Formed : Rule Text Line → Type 0
+  Formed r = AllEnds IsGood r
 
-statistic_formed : (s : Stat) (f : Op → Rule Text Line) → Keeps IsOp f → Formed (statistic_body s f)
-statistic_formed s f h =
-    after_formed (codes "of") _ (λ a p. after_formed (codes "and") _ (λ b q.
-    further_formed (codes "and") 2 8 (λ ts. f (local_op s ts)) (λ ts r. h (local_op s ts) r) 6 (a ∷ b ∷ []) (omega arith, omega arith, (p, (q, tt)))))
+  -- whatever follows a formed value is formed
+  abbrev Keeps : {A : Type 0} → (A → Type 0) → (A → Rule Text Line) → Type 0
+  Keeps {A} P f = (v : A) → P v → Formed (f v)
 
-pair_formed : (word : Text) (make : Term → Term → Op) (f : Op → Rule Text Line) → ((a b : Term) → IsTerm a → IsTerm b → Formed (f (make a b))) → Formed (pair_body word make f)
-pair_formed word make f h = after_formed (codes "of") _ (λ a p. after_formed word _ (λ b q. h a b p q))
+  then_the : (word : Text) (r : Unit {0} → Rule Text Line) → Formed (r tt) → Formed (next (the word) r)
+  then_the word r h = ends_next IsGood (the word) r (λ w v e. h)
 
-rate_formed : (f : Rate → Rule Text Line) → Keeps IsRate f → Formed (rate_part f)
-rate_formed f h =
-    let made = λ (give : Option ℤ) (low high : ℤ). let x : Rate = record { low = low; high = high; give = give } in x in
-    then_cell _ (λ give g. then_the (codes "for") _ (then_value _ (λ low l.
-    optional_formed (codes "to") value_of low (λ high. f (made give low high)) (then_value (λ high. f (made give low high)) (λ high k. h (made give low high) (record { low = l; high = k; give = g })))
-    (h (made give low low) (record { low = l; high = l; give = g })))))
+  then_term : (r : Term → Rule Text Line) → Keeps IsTerm r → Formed (next term_of r)
+  then_term r h = ends_next IsGood term_of r (λ w t e. h t (term_formed w t e))
 
-with_formed : (f : List Rate → Rule Text Line) → Keeps (λ rs. (1 ≤ length rs) × (length rs ≤ 32) × Each IsRate rs) f → (n : ℕ) (rs : List Rate) → IsRun IsRate 1 32 n rs → Formed (with_rates f n rs)
-with_formed f h zero rs r = h rs (r.0, omega arith, r.2)
-with_formed f h (suc n) rs r =
-    ends_also IsFormed (the (codes "with")) (λ _. rate_part (λ one. with_rates f n (rs ++ one ∷ []))) (f rs)
-    (λ w v e. rate_formed (λ one. with_rates f n (rs ++ one ∷ [])) (λ one p. with_formed f h n (rs ++ one ∷ []) (run-push IsRate 1 32 n rs one r p))) (h rs (r.0, omega arith, r.2))
+  then_value : (r : ℤ → Rule Text Line) → Keeps (λ z. IsTrue (is_value z)) r → Formed (next value_of r)
+  then_value r h = ends_next IsGood value_of r (λ w z e. h z (value_formed w z e))
 
-rating_formed : (f : Op → Rule Text Line) → Keeps IsOp f → Formed (rating_body f)
-rating_formed f h =
-    after_formed (codes "of") _ (λ a p. then_the (codes "with") _ (rate_formed (λ one. with_rates (λ rs. f (rating_op a rs)) 31 (one ∷ [])) (λ one q.
-    with_formed (λ rs. f (rating_op a rs)) (λ rs r. h (rating_op a rs) (p, r.0, r.1, r.2)) 31 (one ∷ []) (omega arith, omega arith, (q, tt)))))
+  then_cell : (r : Option ℤ → Rule Text Line) → Keeps IsCell r → Formed (next cell_of r)
+  then_cell r h = ends_next IsGood cell_of r (λ w c e. h c (cell_formed w c e))
 
-operation_formed : (m : Manner) (f : Op → Rule Text Line) → Keeps IsOp f → (o : Operation) → Formed (operation_body m f o)
-operation_formed m f h (Local s) = statistic_formed s f h
-operation_formed m f h Difference = pair_formed (codes "and") difference_op f (λ a b p q. h (difference_op a b) (p, q))
-operation_formed m f h Ratio = pair_formed (codes "and") ratio_op f (λ a b p q. h (ratio_op a b) (p, q))
-operation_formed m f h Rating = rating_formed f h
+  then_name : (r : Text → Rule Text Line) → Keeps (λ n. IsTrue (is_plain n)) r → Formed (next name_of r)
+  then_name r h = ends_next IsGood name_of r (λ w n e. h n (name_formed w n e))
 
--- ---- lines
+  then_any : (r : Text → Rule Text Line) → Keeps IsAny r → Formed (next any_of r)
+  then_any r h = ends_next IsGood any_of r (λ w n e. h n (any_formed w n e))
 
-done : (x : Line) → IsFormed x → Formed (ends x)
-done x h = (h, λ w. tt)
+  then_side : (r : ℕ → Rule Text Line) → Keeps IsSide r → Formed (next side_of r)
+  then_side r h = ends_next IsGood side_of r (λ w n e. h n (count_formed 1 4096 w n e))
 
-define_formed : (m : Manner) (n : Text) → IsTrue (is_plain n) → Formed (define_rule m n)
-define_formed m n p =
-    then_the (codes "=") _ (ends_next IsFormed operation_named (operation_body m (λ op. ends (edit (define n (plain op))))) (λ w o e.
-    operation_formed m (λ op. ends (edit (define n (plain op)))) (λ op q. done (edit (define n (plain op))) (p, q)) o))
+  all-push : {A : Type 0} (P : A → Type 0) (xs : List A) (y : A) → Each P xs → P y → Each P (xs ++ y ∷ [])
+  all-push P [] y a p = (p, tt)
+  all-push P (x ∷ xs) y a p = (a.0, all-push P xs y a.1 p)
 
-command_formed : (c : Command) → Formed (command_rule c)
-command_formed Paint = then_name _ (λ n p. then_side _ (λ r1 a. then_side _ (λ c1 b. then_side _ (λ r2 c. then_side _ (λ c2 d. then_cell _ (λ v q. done (edit (paint n r1 c1 r2 c2 v)) (p, a, b, c, d, q)))))))
-command_formed New = then_name _ (λ n p. then_cell _ (λ v q. done (edit (new_layer n v)) (p, q)))
-command_formed Drop = then_name _ (λ n p. done (edit (drop n)) p)
-command_formed Value = then_any _ (λ n p. then_side _ (λ r a. then_side _ (λ c b. done (ask (ask_value n r c)) (p, a, b))))
-command_formed Grid = then_any _ (λ n p. done (ask (ask_grid n)) p)
-command_formed Listing = done (ask ask_list) tt
-command_formed Quit = done quit tt
+  -- so many at least, and with n more so many at most
+  abbrev IsRun : {A : Type 0} → (A → Type 0) → ℕ → ℕ → ℕ → List A → Type 0
+  IsRun P least most n xs = (least ≤ length xs) × (length xs + n ≤ most) × Each P xs
 
-line_formed : (m : Manner) → Formed (line_rule m)
-line_formed m = (tt, ends_or IsFormed (on command_named command_rule) (on name_of (define_rule m)) (ends_on IsFormed command_named command_rule (λ w c e. command_formed c)) (ends_on IsFormed name_of (define_rule m) (λ w n e. define_formed m n (name_formed w n e))))
+  run-push : {A : Type 0} (P : A → Type 0) (least most n : ℕ) (xs : List A) (y : A) → IsRun P least most (suc n) xs → P y → IsRun P least most n (xs ++ y ∷ [])
+  run-push P least most n xs y r p = (omega (arith, length-append xs (y ∷ [])), omega (arith, length-append xs (y ∷ [])), all-push P xs y r.2 p)
 
-pub formed : (m : Manner) (ws : List Text) (x : Line) → IsLine m ws x → IsFormed x
-formed m ws x d = each_end IsFormed (line_rule m) ws x (line_formed m) d
+  after_formed : (word : Text) (f : Term → Rule Text Line) → Keeps IsTerm f → Formed (term_after word f)
+  after_formed word f h = then_the word _ (then_term f h)
 
-formed_text : (m : Manner) (bytes : Text) (x : Line) → LineText m bytes x → IsFormed x
-formed_text m bytes x (silent s e) = tt
-formed_text m bytes x (worded s e f d) = formed m (seen bytes) x d
+  further_formed : (word : Text) (least most : ℕ) (f : List Term → Rule Text Line) → Keeps (λ ts. (least ≤ length ts) × (length ts ≤ most) × Each IsTerm ts) f → (n : ℕ) (ts : List Term) → IsRun IsTerm least most n ts
+      → Formed (further_terms word f n ts)
+  further_formed word least most f h zero ts r = h ts (r.0, omega arith, r.2)
+  further_formed word least most f h (suc n) ts r =
+      ends_also IsGood (the word) (λ _. next term_of (λ t. further_terms word f n (ts ++ t ∷ []))) (f ts)
+      (λ w v e. then_term (λ t. further_terms word f n (ts ++ t ∷ [])) (λ t p. further_formed word least most f h n (ts ++ t ∷ []) (run-push IsTerm least most n ts t r p))) (h ts (r.0, omega arith, r.2))
 
-pub formed_parsed : {V : Type 0} (m : Manner) (view : V → Line) (bytes : Text) (r : Result V LineRefusal) → IsParsed m view bytes r → IfOk r (λ x. IsFormed (view x))
-formed_parsed m view bytes (Ok x) h = formed_text m bytes (view x) h
-formed_parsed m view bytes (Err e) h = tt
+  optional_formed : {A : Type 0} (word : Text) (place : Text → Option A) (default : A) (f : A → Rule Text Line) → Formed (next place f) → Formed (f default) → Formed (optional_part word place default f)
+  optional_formed word place default f there left_out = ends_also IsGood (the word) (λ _. next place f) (f default) (λ w v e. there) left_out
+
+  statistic_formed : (s : Stat) (f : Op → Rule Text Line) → ((ts : List Term) → IsOp (local_op s ts) → Formed (f (local_op s ts))) → Formed (statistic_body s f)
+  statistic_formed s f h =
+      after_formed (codes "of") _ (λ a p. after_formed (codes "and") _ (λ b q.
+      further_formed (codes "and") 2 8 (λ ts. f (local_op s ts)) h 6 (a ∷ b ∷ []) (omega arith, omega arith, (p, (q, tt)))))
+
+  pair_formed : (word : Text) (make : Term → Term → Op) (f : Op → Rule Text Line) → ((a b : Term) → IsTerm a → IsTerm b → Formed (f (make a b))) → Formed (pair_body word make f)
+  pair_formed word make f h = after_formed (codes "of") _ (λ a p. after_formed word _ (λ b q. h a b p q))
+
+  rate_formed : (f : Rate → Rule Text Line) → Keeps IsRate f → Formed (rate_part f)
+  rate_formed f h =
+      let made = λ (give : Option ℤ) (low high : ℤ). let x : Rate = record { low = low; high = high; give = give } in x in
+      then_cell _ (λ give g. then_the (codes "for") _ (then_value _ (λ low l.
+      optional_formed (codes "to") value_of low (λ high. f (made give low high)) (then_value (λ high. f (made give low high)) (λ high k. h (made give low high) (record { low = l; high = k; give = g })))
+      (h (made give low low) (record { low = l; high = l; give = g })))))
+
+  with_formed : (f : List Rate → Rule Text Line) → Keeps (λ rs. (1 ≤ length rs) × (length rs ≤ 32) × Each IsRate rs) f → (n : ℕ) (rs : List Rate) → IsRun IsRate 1 32 n rs → Formed (with_rates f n rs)
+  with_formed f h zero rs r = h rs (r.0, omega arith, r.2)
+  with_formed f h (suc n) rs r =
+      ends_also IsGood (the (codes "with")) (λ _. rate_part (λ one. with_rates f n (rs ++ one ∷ []))) (f rs)
+      (λ w v e. rate_formed (λ one. with_rates f n (rs ++ one ∷ [])) (λ one p. with_formed f h n (rs ++ one ∷ []) (run-push IsRate 1 32 n rs one r p))) (h rs (r.0, omega arith, r.2))
+
+  rating_formed : (f : Op → Rule Text Line) → ((t : Term) (rs : List Rate) → IsOp (rating_op t rs) → Formed (f (rating_op t rs))) → Formed (rating_body f)
+  rating_formed f h =
+      after_formed (codes "of") _ (λ a p. then_the (codes "with") _ (rate_formed (λ one. with_rates (λ rs. f (rating_op a rs)) 31 (one ∷ [])) (λ one q.
+      with_formed (λ rs. f (rating_op a rs)) (λ rs r. h a rs (p, r.0, r.1, r.2)) 31 (one ∷ []) (omega arith, omega arith, (q, tt)))))
+
+  radius_formed : (s : Stat) (a : Term) (f : Op → Rule Text Line) → ((r : Option ℕ) → IsRadius r → Formed (f (focal_op s r a))) → Formed (radius_part s a f)
+  radius_formed s a f h =
+      optional_formed (codes "at") disc_of None (λ r. f (focal_op s r a)) (ends_next IsGood disc_of (λ r. f (focal_op s r a)) (λ w r e. h r (disc_formed w r e))) (h None tt)
+
+  sight_formed : (a : Term) (f : Op → Rule Text Line) → ((s : Sighting) (u : Term) → IsSighting s → IsTerm u → Formed (f (sight_op s a u))) → Formed (sight_part a f)
+  sight_formed a f h =
+      let made = λ (from to : ℤ) (reach : ℕ). let x : Sighting = record { from = from; to = to; reach = reach } in x in
+      let reaches = λ (u : Term) (p : IsTerm u) (from : ℤ) (q : IsTrue (is_value from)) (to : ℤ) (r : IsTrue (is_value to)).
+      optional_formed (codes "within") reach_of 64 (λ reach. f (sight_op (made from to reach) a u))
+      (ends_next IsGood reach_of (λ reach. f (sight_op (made from to reach) a u)) (λ w n e. h (made from to n) u (record { from = q; to = r; reach = count_formed 1 64 w n e }) p))
+      (h (made from to 64) u (record { from = q; to = r; reach = (omega arith, omega arith) }) p) in
+      let tos = λ (u : Term) (p : IsTerm u) (from : ℤ) (q : IsTrue (is_value from)).
+      optional_formed (codes "to") value_of (pos 0) (λ to. optional_part (codes "within") reach_of 64 (λ reach. f (sight_op (made from to reach) a u)))
+      (then_value (λ to. optional_part (codes "within") reach_of 64 (λ reach. f (sight_op (made from to reach) a u))) (λ to r. reaches u p from q to r)) (reaches u p from q (pos 0) refl) in
+      after_formed (codes "on") _ (λ u p.
+      optional_formed (codes "from") value_of (pos 0) (λ from. optional_part (codes "to") value_of (pos 0) (λ to. optional_part (codes "within") reach_of 64 (λ reach. f (sight_op (made from to reach) a u))))
+      (then_value (λ from. optional_part (codes "to") value_of (pos 0) (λ to. optional_part (codes "within") reach_of 64 (λ reach. f (sight_op (made from to reach) a u)))) (λ from q. tos u p from q)) (tos u p (pos 0) refl))
+
+  -- only a sum radiates, where it may
+  radiates_sum : (s : Stat) → radiates m s ≡ true → (s ≡ stats.Sum) × (m.sight ≡ true)
+  radiates_sum stats.Sum e = (refl, e)
+  radiates_sum s e = absurd cc
+
+  focal_formed : (s : Stat) (f : Op → Rule Text Line) → IsNoProduct s → HasRow m (Focal s) → Keeps (λ op. IsOp op × IsOpThere m op) f → Formed (focal_body m s f)
+  focal_formed s f row there h =
+      after_formed (codes "of") _ (λ a p.
+      ends_also IsGood (maybe (radiates m s) (the (codes "radiating"))) (λ _. sight_part a f) (radius_part s a f)
+      (λ w v e. (let sum = radiates_sum s (maybe_some (radiates m s) (the (codes "radiating")) w v e).0 in
+      sight_formed a f (λ sighting u q r. h (sight_op sighting a u) ((q, p, r), (subst (λ s. HasRow m (Focal s)) sum.0 there, sum.1)))))
+      (radius_formed s a f (λ r q. h (focal_op s r a) ((row, q, p), there))))
+
+  friction_formed : (f : Term → Rule Text Line) → Keeps IsTerm f → Formed (friction_part f)
+  friction_formed f h = ends_also IsGood (the (codes "spreading")) (λ _. term_after (codes "in") f) (f (number_term (pos 1))) (λ w v e. after_formed (codes "in") f h) (h (number_term (pos 1)) refl)
+
+  spread_formed : (f : Op → Rule Text Line) → ((limit : ℕ) (a u : Term) → IsOp (spread_op limit a u) → Formed (f (spread_op limit a u))) → Formed (spread_body f)
+  spread_formed f h =
+      after_formed (codes "of") _ (λ a p. friction_formed (λ u. optional_part (codes "within") limit_of greatest_value (λ limit. f (spread_op limit a u))) (λ u q.
+      optional_formed (codes "within") limit_of greatest_value (λ limit. f (spread_op limit a u))
+      (ends_next IsGood limit_of (λ limit. f (spread_op limit a u)) (λ w n e. h n a u ((count_formed 0 greatest_value w n e).1, p, q))) (h greatest_value a u (omega arith, p, q))))
+
+  drainage_formed : (f : Op → Rule Text Line) → HasRow m Drainage → Keeps (λ op. IsOp op × IsOpThere m op) f → Formed (drainage_body f)
+  drainage_formed f there h =
+      after_formed (codes "of") _ (λ a p.
+      optional_formed (codes "carrying") weights_of None (λ w. f (drainage_op a w)) (ends_next IsGood weights_of (λ w. f (drainage_op a w)) (λ t w e. carried a p w (weights_formed t w e))) (carried a p None tt))
+    where
+      carried : (a : Term) → IsTerm a → (w : Option Term) → AreWeights w → Formed (f (drainage_op a w))
+      carried a p None q = h (direction_op a) (p, there)
+      carried a p (Some u) q = h (flow_op a u) ((p, q), there)
+
+  operation_formed : (f : Op → Rule Text Line) → Keeps (λ op. IsOp op × IsOpThere m op) f → (o : Operation) → HasRow m o → IsRow o → Formed (operation_body m f o)
+  operation_formed f h (Local s) there row = statistic_formed s f (λ ts p. h (local_op s ts) (p, there))
+  operation_formed f h Difference there row = pair_formed (codes "and") difference_op f (λ a b p q. h (difference_op a b) ((p, q), there))
+  operation_formed f h Ratio there row = pair_formed (codes "and") ratio_op f (λ a b p q. h (ratio_op a b) ((p, q), there))
+  operation_formed f h Rating there row = rating_formed f (λ t rs p. h (rating_op t rs) (p, there))
+  operation_formed f h (Focal s) there row = focal_formed s f row there h
+  operation_formed f h Proximity there row = spread_formed f (λ limit a u p. h (spread_op limit a u) (p, there))
+  operation_formed f h Insularity there row = after_formed (codes "of") _ (λ a p. h (region_op a) (p, there))
+  operation_formed f h (Zonal s) there row = pair_formed (codes "within") (zonal_op s) f (λ a b p q. h (zonal_op s a b) ((row, p, q), there))
+  operation_formed f h (Incremental form) there row = after_formed (codes "of") _ (λ a p. h (form_op (form_of form) a) (p, subst (λ g. HasRow m (Incremental g)) (form_again form) there))
+  operation_formed f h Drainage there row = drainage_formed f there h
+
+  call_formed : (p : Text) (f : List Term → Rule Text Line) → ((ts : List Term) → (1 ≤ length ts) × (length ts ≤ 8) × Each IsTerm ts → Formed (f ts)) → Formed (call_body f)
+  call_formed p f h =
+      after_formed (codes "(") _ (λ a q. further_formed (codes ",") 1 8 (λ ts. next (the (codes ")")) (λ _. f ts)) (λ ts r. then_the (codes ")") (λ _. f ts) (h ts r)) 7 (a ∷ []) (omega arith, omega arith, (q, tt)))
+
+  -- ---- lines
+
+  done : (x : Line) → IsGood x → Formed (ends x)
+  done x h = (h, λ w. tt)
+
+  body_formed : (n : Text) → IsTrue (is_plain n) → Formed (body_rule m (λ w. ends (edit (define n w))))
+  body_formed n p = (
+    tt,
+    ends_or IsGood (on (operation_named m) (operation_body m (λ op. ends (edit (define n (plain op)))))) (on (call_of m) (λ q. call_body (λ ts. ends (edit (define n (call q ts))))))
+        (ends_on IsGood (operation_named m) (operation_body m (λ op. ends (edit (define n (plain op))))) (λ w o e. (let row = operation_formed_row m w o e in
+        operation_formed (λ op. ends (edit (define n (plain op)))) (λ op q. done (edit (define n (plain op))) ((p, q.0), q.1)) o row.0 row.1)))
+        (ends_on IsGood (call_of m) (λ q. call_body (λ ts. ends (edit (define n (call q ts))))) (λ w q e. (let there = maybe_some m.calls name_of w q e in
+        call_formed q (λ ts. ends (edit (define n (call q ts)))) (λ ts r. done (edit (define n (call q ts))) ((p, (name_formed w q there.1, r.0, r.1, r.2)), there.0))))),
+  )
+
+  define_formed : (n : Text) → IsTrue (is_plain n) → Formed (define_rule m n)
+  define_formed n p = then_the (codes "=") _ (body_formed n p)
+
+  command_formed : (c : Command) → HasCommand m c → Formed (command_rule c)
+  command_formed Paint t = then_name _ (λ n p. then_side _ (λ r1 a. then_side _ (λ c1 b. then_side _ (λ r2 c. then_side _ (λ c2 d. then_cell _ (λ v q. done (edit (paint n r1 c1 r2 c2 v)) ((p, a, b, c, d, q), t)))))))
+  command_formed New t = then_name _ (λ n p. then_cell _ (λ v q. done (edit (new_layer n v)) ((p, q), t)))
+  command_formed Drop t = then_name _ (λ n p. done (edit (drop n)) (p, t))
+  command_formed Value t = then_any _ (λ n p. then_side _ (λ r a. then_side _ (λ c b. done (ask (ask_value n r c)) ((p, a, b), t))))
+  command_formed Grid t = then_any _ (λ n p. done (ask (ask_grid n)) (p, t))
+  command_formed Show t = then_any _ (λ n p. done (ask (ask_show n)) (p, t))
+  command_formed Legend t = then_any _ (λ n p. done (ask (ask_legend n)) (p, t))
+  command_formed Table t = then_any _ (λ n p. then_any _ (λ v q. done (ask (ask_table n v)) ((p, q), t)))
+  command_formed Stamps t = then_any _ (λ n p. done (ask (ask_stamps n)) (p, t))
+  command_formed Listing t = done (ask ask_list) (tt, t)
+  command_formed Quit t = done quit (tt, t)
+
+  line_formed : Formed (line_rule m)
+  line_formed = (
+    (tt, tt),
+    ends_or IsGood (on (command_named m) command_rule) (on name_of (define_rule m)) (ends_on IsGood (command_named m) command_rule (λ w c e. command_formed c (command_there m w c e)))
+        (ends_on IsGood name_of (define_rule m) (λ w n e. define_formed n (name_formed w n e))),
+  )
+
+  formed_text : (bytes : Text) (x : Line) → LineText m bytes x → IsGood x
+  formed_text bytes x (silent s e) = (tt, tt)
+  formed_text bytes x (worded s e f d) = each_end IsGood (line_rule m) (seen bytes) x line_formed d
+
+  pub formed_parsed : {V : Type 0} (view : V → Line) (bytes : Text) (r : Result V LineRefusal) → IsParsed m view bytes r → IfOk r (λ x. IsFormed (view x))
+  formed_parsed view bytes (Ok x) h = (formed_text bytes (view x) h).0
+  formed_parsed view bytes (Err e) h = tt
+
+  pub there_parsed : {V : Type 0} (view : V → Line) (bytes : Text) (r : Result V LineRefusal) → IsParsed m view bytes r → IfOk r (λ x. IsThere m (view x))
+  there_parsed view bytes (Ok x) h = (formed_text bytes (view x) h).1
+  there_parsed view bytes (Err e) h = tt

@@ -1,4 +1,5 @@
 pub mod PlaceFacts
+pub mod Placing
 pub mod SoundBodies
 pub mod SoundLines
 pub mod ReadsBodies
@@ -12,4 +13,3 @@ pub mod BackBytes
 pub mod Computed
 pub mod LineOfLemmas
 pub mod TermLemmas
-pub mod Viewed

@@ -20,16 +20,16 @@ abbrev Told : Manner → Text → Result Line Refusal → Type 0
 Told m bytes (Ok x) = LineText m bytes x
 Told m bytes (Err r) = RefusedText m bytes r
 
-words_told : (m : Manner) (bytes : Text) → is_short bytes ≡ true → is_silent bytes ≡ false → first_bad bytes ≡ None → (o : Result Line Fault) → run tests (line_rule m) (seen bytes) ≡ o → Told m bytes (of_words bytes o)
-words_told m bytes short spoken good (Ok x) e = worded short spoken good (found_so tests (line_rule m) (seen bytes) x e)
-words_told m bytes short spoken good (Err f) e = bad_word f.kind f.left short spoken good (refused_so tests (line_rule m) (seen bytes) f (healthy_line m).sound refl e)
+words_told : (m : Manner) (bytes : Text) → is_short bytes ≡ true → is_silent bytes ≡ false → first_bad bytes ≡ None → (o : Result Line Fault) → run (tests m) (line_rule m) (seen bytes) ≡ o → Told m bytes (of_words bytes o)
+words_told m bytes short spoken good (Ok x) e = worded short spoken good (found_so (tests m) (line_rule m) (seen bytes) x e)
+words_told m bytes short spoken good (Err f) e = bad_word f.kind f.left short spoken good (refused_so (tests m) (line_rule m) (seen bytes) f (healthy_line m).sound refl e)
 
 bytes_told : (m : Manner) (bytes : Text) (short quiet : Bool) (bad : Option ℕ) → is_short bytes ≡ short → is_silent bytes ≡ quiet → first_bad bytes ≡ bad
     → Told m bytes (cond short (cond quiet (Ok blank) (of_bytes m bytes bad)) (Err (long (length bytes))))
 bytes_told m bytes false quiet bad e f g = too_long e
 bytes_told m bytes true true bad e f g = silent e f
 bytes_told m bytes true false (Some at) e f g = bad_byte e f g
-bytes_told m bytes true false None e f g = words_told m bytes e f g (run tests (line_rule m) (seen bytes)) refl
+bytes_told m bytes true false None e f g = words_told m bytes e f g (run (tests m) (line_rule m) (seen bytes)) refl
 
 told : (m : Manner) (bytes : Text) → Told m bytes (line_of m bytes)
 unfolding line_of

@@ -4,7 +4,7 @@ use Rattle.std.specs.Prelude.{slice_get, flat_map}
 use Rattle.std.proofs.lemmas.List.{append-nil, take_more}
 use Rattle.std.proofs.lemmas.Grind.{flat_map-append}
 use Rattle.std.proofs.lemmas.Option.{slice_get_cases, slice_get_within, get_or_from_slice_get}
-use Rattle.map_defs.specs.Ops.{Term, Op, local_op, difference_op, ratio_op, rating_op, terms_of, term_names}
+use Rattle.map_defs.specs.Ops.{Term, Op, local_op, difference_op, ratio_op, rating_op, focal_op, zonal_op, form_op, direction_op, flow_op, spread_op, sight_op, region_op, terms_of, term_names}
 use Rattle.statement_parser.specs.Formed.{Each, IsTerm, IsOp}
 
 -- a formed operation has at most eight terms
@@ -13,7 +13,14 @@ few_terms (local_op s ts) formed = formed.1
 few_terms (difference_op l r) formed = omega arith
 few_terms (ratio_op l r) formed = omega arith
 few_terms (rating_op t rs) formed = omega arith
-few_terms op formed = absurd formed
+few_terms (focal_op s r t) formed = omega arith
+few_terms (zonal_op s t u) formed = omega arith
+few_terms (form_op f t) formed = omega arith
+few_terms (direction_op t) formed = omega arith
+few_terms (flow_op t u) formed = omega arith
+few_terms (spread_op limit t u) formed = omega arith
+few_terms (sight_op s t u) formed = omega arith
+few_terms (region_op t) formed = omega arith
 
 -- each of which is formed
 pub each_term : (op : Op) → IsOp op → Each IsTerm (terms_of op)
@@ -21,7 +28,14 @@ each_term (local_op s ts) formed = formed.2
 each_term (difference_op l r) formed = (formed.0, (formed.1, tt))
 each_term (ratio_op l r) formed = (formed.0, (formed.1, tt))
 each_term (rating_op t rs) formed = (formed.0, tt)
-each_term op formed = absurd formed
+each_term (focal_op s r t) formed = (formed.2, tt)
+each_term (zonal_op s t u) formed = (formed.1, (formed.2, tt))
+each_term (form_op f t) formed = (formed, tt)
+each_term (direction_op t) formed = (formed, tt)
+each_term (flow_op t u) formed = (formed.0, (formed.1, tt))
+each_term (spread_op limit t u) formed = (formed.1, (formed.2, tt))
+each_term (sight_op s t u) formed = (formed.1, (formed.2, tt))
+each_term (region_op t) formed = (formed, tt)
 
 each_at : {A : Type 0} (P : A → Type 0) (xs : List A) (k : ℕ) (x : A) → Each P xs → slice_get xs k ≡ Some x → P x
 each_at P [] k x each e = absurd cc

@@ -29,10 +29,10 @@ use Rattle.statement_parser.specs.Parsed.{IsWordsRead, refusal_view, IsParsed}
 use Rattle.statement_parser.proofs.SoundLines.{healthy_line}
 use Rattle.statement_parser.proofs.ReadsLines.{line_reads}
 
-pub words_read : {V : Type 0} (m : Manner) (view : V → Line) (ws : List Text) (r : Result V ReadError) → Gives view r (line_at ws) → IsWordsRead m view ws r
-words_read m view ws (Ok x) g = found_so tests (line_rule m) ws (view x) (sym (line_reads m ws) ∙ g)
+pub words_read : {V : Type 0} (m : Manner) (view : V → Line) (ws : List Text) (r : Result V ReadError) → Gives view r (line_at m ws) → IsWordsRead m view ws r
+words_read m view ws (Ok x) g = found_so (tests m) (line_rule m) ws (view x) (sym (line_reads m ws) ∙ g)
 words_read m view ws (Err errors.NoMemory) g = tt
-words_read m view ws (Err (errors.Fault f)) g = refused_so tests (line_rule m) ws f (healthy_line m).sound refl (sym (line_reads m ws) ∙ g)
+words_read m view ws (Err (errors.Fault f)) g = refused_so (tests m) (line_rule m) ws f (healthy_line m).sound refl (sym (line_reads m ws) ∙ g)
 
 -- the column among words as the code holds them
 pub column_is : (len : ℕ) (ws : List Word) (n : ℕ) → first_column len (placed_all (take (length ws - (length ws - n)) (drop (length ws - n) ws))) ≡ column_among len (placed_all ws) n
@@ -61,10 +61,10 @@ module _ (m : Manner) (bytes : Text) (ws : List Word) (short : is_short bytes �
   pub line_is : (x : Line) → IsLine m (texts_of ws) x → LineText m bytes x
   line_is x d = worded short spoken good (subst (λ ts. IsLine m ts x) same d)
 
-  refused_is : (k : Kind) (left : ℕ) → IsRefusedAt tests (line_rule m) (texts_of ws) k left → RefusedText m bytes (refusal_of k (column_among (length bytes) (placed_all ws) left))
-  refused_is k left d = subst (λ (ps : List Placed). RefusedText m bytes (refusal_of k (column_among (length bytes) ps left))) (sym cut) (bad_word k left short spoken good (subst (λ ts. IsRefusedAt tests (line_rule m) ts k left) same d))
+  refused_is : (k : Kind) (left : ℕ) → IsRefusedAt (tests m) (line_rule m) (texts_of ws) k left → RefusedText m bytes (refusal_of k (column_among (length bytes) (placed_all ws) left))
+  refused_is k left d = subst (λ (ps : List Placed). RefusedText m bytes (refusal_of k (column_among (length bytes) ps left))) (sym cut) (bad_word k left short spoken good (subst (λ ts. IsRefusedAt (tests m) (line_rule m) ts k left) same d))
 
-  pub refusal_is : {V : Type 0} (view : V → Line) (k : Kind) (left : ℕ) (r : LineRefusal) → IsRefusedAt tests (line_rule m) (texts_of ws) k left
+  pub refusal_is : {V : Type 0} (view : V → Line) (k : Kind) (left : ℕ) (r : LineRefusal) → IsRefusedAt (tests m) (line_rule m) (texts_of ws) k left
       → refusal_view r ≡ Some (refusal_of k (column_among (length bytes) (placed_all ws) left)) → IsParsed m view bytes (Err r)
   refusal_is view k left r d e = subst (λ o. IfSome o (RefusedText m bytes)) (sym e) (refused_is k left d)
 
@@ -80,7 +80,7 @@ one_line_of : (m : Manner) (bytes : Text) (x y : Line) → LineText m bytes x �
 one_line_of m bytes blank blank (silent s e) (silent t f) = refl
 one_line_of m bytes blank y (silent s e) (worded t f g d) = absurd (same_short (is_silent bytes) e f)
 one_line_of m bytes x blank (worded s e f d) (silent t g) = absurd (same_short (is_silent bytes) g e)
-one_line_of m bytes x y (worded s e f d) (worded t g h i) = (settled tests refl (line_rule m) (seen bytes) (healthy_line m).sound).one_line x y d i
+one_line_of m bytes x y (worded s e f d) (worded t g h i) = (settled (tests m) refl (line_rule m) (seen bytes) (healthy_line m).sound).one_line x y d i
 
 one_refusal_of : (m : Manner) (bytes : Text) (r s : Refusal) → RefusedText m bytes r → RefusedText m bytes s → r ≡ s
 one_refusal_of m bytes r s (too_long e) (too_long f) = refl
@@ -92,7 +92,7 @@ one_refusal_of m bytes r s (bad_byte {at = a} e f g) (bad_word k left h i j l) =
 one_refusal_of m bytes r s (bad_word k left e f g h) (too_long i) = absurd (same_short (is_short bytes) e i)
 one_refusal_of m bytes r s (bad_word k left e f g h) (bad_byte {at = a} i j l) = absurd (same_good (first_bad bytes) a g l)
 one_refusal_of m bytes r s (bad_word k left e f g h) (bad_word k' left' e' f' g' h') =
-    let one = settled tests refl (line_rule m) (seen bytes) (healthy_line m).sound in
+    let one = settled (tests m) refl (line_rule m) (seen bytes) (healthy_line m).sound in
     ap (λ (k : Kind). refusal_of k (column bytes left)) (one.one_cause k k' left left' h h') ∙ ap (λ n. refusal_of k' (column bytes n)) (one.one_place k k' left left' h h')
 
 never_both_of : (m : Manner) (bytes : Text) (x : Line) (r : Refusal) → LineText m bytes x → RefusedText m bytes r → ⊥
@@ -101,20 +101,20 @@ never_both_of m bytes x r (silent s e) (bad_byte f g h) = same_short (is_silent 
 never_both_of m bytes x r (silent s e) (bad_word k left f g h i) = same_short (is_silent bytes) e g
 never_both_of m bytes x r (worded s e f d) (too_long g) = same_short (is_short bytes) s g
 never_both_of m bytes x r (worded s e f d) (bad_byte {at = a} g h i) = same_good (first_bad bytes) a f i
-never_both_of m bytes x r (worded s e f d) (bad_word k left g h i j) = (settled tests refl (line_rule m) (seen bytes) (healthy_line m).sound).never_both x k left d j
+never_both_of m bytes x r (worded s e f d) (bad_word k left g h i j) = (settled (tests m) refl (line_rule m) (seen bytes) (healthy_line m).sound).never_both x k left d j
 
-read_either : (m : Manner) (bytes : Text) → is_short bytes ≡ true → is_silent bytes ≡ false → first_bad bytes ≡ None → (o : Result Line Fault) → run tests (line_rule m) (seen bytes) ≡ o
+read_either : (m : Manner) (bytes : Text) → is_short bytes ≡ true → is_silent bytes ≡ false → first_bad bytes ≡ None → (o : Result Line Fault) → run (tests m) (line_rule m) (seen bytes) ≡ o
     → ((x : Line) × LineText m bytes x) ⊎ ((r : Refusal) × RefusedText m bytes r)
-read_either m bytes short spoken good (Ok x) e = inl (x, worded short spoken good (found_so tests (line_rule m) (seen bytes) x e))
+read_either m bytes short spoken good (Ok x) e = inl (x, worded short spoken good (found_so (tests m) (line_rule m) (seen bytes) x e))
 read_either m bytes short spoken good (Err f) e =
-    inr (refusal_of f.kind (column bytes f.left), bad_word f.kind f.left short spoken good (refused_so tests (line_rule m) (seen bytes) f (healthy_line m).sound refl e))
+    inr (refusal_of f.kind (column bytes f.left), bad_word f.kind f.left short spoken good (refused_so (tests m) (line_rule m) (seen bytes) f (healthy_line m).sound refl e))
 
 either_of : (m : Manner) (bytes : Text) (short quiet : Bool) (bad : Option ℕ) → is_short bytes ≡ short → is_silent bytes ≡ quiet → first_bad bytes ≡ bad
     → ((x : Line) × LineText m bytes x) ⊎ ((r : Refusal) × RefusedText m bytes r)
 either_of m bytes false quiet bad e f g = inr (long (length bytes), too_long e)
 either_of m bytes true true bad e f g = inl (blank, silent e f)
 either_of m bytes true false (Some at) e f g = inr (syntax at, bad_byte e f g)
-either_of m bytes true false None e f g = read_either m bytes e f g (run tests (line_rule m) (seen bytes)) refl
+either_of m bytes true false None e f g = read_either m bytes e f g (run (tests m) (line_rule m) (seen bytes)) refl
 
 pub settled_text : (m : Manner) (bytes : Text) → IsSettledText m bytes
 settled_text m bytes = record {

@@ -1,14 +1,17 @@
 -- What follows an operation's name; f is what may follow the operation.
-use Rattle.std.specs.Prelude.{ℕ, zero, suc, List, [], ◌∷◌, ◌++◌, Option, codes}
+use Rattle.std.specs.Prelude.{ℕ, zero, suc, pos, Bool, false, ◌&&◌, List, [], ◌∷◌, ◌++◌, Option, Some, None, codes}
 use Rattle.map_nums.specs.declared.Stat.{Stat}
+use Rattle.map_nums.specs.declared.Stat.TheVariants.{Sum}
 use Rattle.map_nums.specs.declared.Rate.{Rate}
+use Rattle.map_nums.specs.Numbers.{greatest_value}
 use Rattle.map_words.specs.Bytes.{Text}
-use Rattle.map_defs.specs.Ops.{Term, Op, local_op, difference_op, ratio_op, rating_op}
+use Rattle.map_defs.specs.Ops.{Term, number_term, Op, local_op, difference_op, ratio_op, rating_op, focal_op, zonal_op, form_op, direction_op, flow_op, spread_op, sight_op, region_op}
 use Rattle.grammar_core.specs.Rules.{Rule, on, next, also}
 use Rattle.statement_parser.specs.Lines.{Manner, Line}
-use Rattle.statement_parser.specs.Places.{the, value_of, term_of, cell_of}
+use Rattle.statement_parser.specs.Forms.{form_of}
+use Rattle.statement_parser.specs.Places.{the, maybe, value_of, disc_of, reach_of, limit_of, term_of, weights_of, cell_of}
 use Rattle.statement_parser.specs.declared.operation.Operation.{Operation}
-use Rattle.statement_parser.specs.declared.operation.Operation.TheVariants.{Local, Difference, Ratio, Rating}
+use Rattle.statement_parser.specs.declared.operation.Operation.TheVariants.{Local, Difference, Ratio, Rating, Focal, Proximity, Insularity, Zonal, Incremental, Drainage}
 
 -- word term
 abbrev pub term_after : Text → (Term → Rule Text Line) → Rule Text Line
@@ -26,6 +29,10 @@ optional_part word place default f = also (on (the word) (λ _. next place f)) (
 -- "of" term "and" term {"and" term}, 2 to 8 terms
 abbrev pub statistic_body : Stat → (Op → Rule Text Line) → Rule Text Line
 statistic_body s f = term_after (codes "of") (λ a. term_after (codes "and") (λ b. further_terms (codes "and") (λ ts. f (local_op s ts)) 6 (a ∷ b ∷ [])))
+
+-- "of" term
+abbrev pub single_body : (Term → Op) → (Op → Rule Text Line) → Rule Text Line
+single_body make f = term_after (codes "of") (λ a. f (make a))
 
 -- "of" term word term
 abbrev pub pair_body : Text → (Term → Term → Op) → (Op → Rule Text Line) → Rule Text Line
@@ -48,9 +55,58 @@ rating_body f =
     term_after (codes "of") (λ a. next (the (codes "with")) (λ _. rate_part (λ r.
     with_rates (λ rs. f (rating_op a rs)) 31 (r ∷ []))))
 
+-- ["at" RADIUS]
+abbrev pub radius_part : Stat → Term → (Op → Rule Text Line) → Rule Text Line
+radius_part s a f = optional_part (codes "at") disc_of None (λ r. f (focal_op s r a))
+
+-- "on" term ["from" VALUE] ["to" VALUE] ["within" REACH]
+abbrev pub sight_part : Term → (Op → Rule Text Line) → Rule Text Line
+sight_part a f =
+    term_after (codes "on") (λ surface.
+    optional_part (codes "from") value_of (pos 0) (λ from.
+    optional_part (codes "to") value_of (pos 0) (λ to.
+    optional_part (codes "within") reach_of 64 (λ reach. f (sight_op (record { from = from; to = to; reach = reach }) a surface)))))
+
+-- of the Focal statistics, the sum may radiate
+abbrev pub radiates : Manner → Stat → Bool
+radiates m Sum = m.sight
+radiates m s = false
+
+-- "of" term, and then what radiates or a radius
+abbrev pub focal_body : Manner → Stat → (Op → Rule Text Line) → Rule Text Line
+focal_body m s f = term_after (codes "of") (λ a. also (on (maybe (radiates m s) (the (codes "radiating"))) (λ _. sight_part a f)) (radius_part s a f))
+
+-- ["spreading" "in" term]
+abbrev pub friction_part : (Term → Rule Text Line) → Rule Text Line
+friction_part f = also (on (the (codes "spreading")) (λ _. term_after (codes "in") f)) (f (number_term (pos 1)))
+
+-- "of" term ["spreading" "in" term] ["within" LIMIT]
+abbrev pub spread_body : (Op → Rule Text Line) → Rule Text Line
+spread_body f =
+    term_after (codes "of") (λ a. friction_part (λ friction. optional_part (codes "within") limit_of greatest_value (λ limit. f (spread_op limit a friction))))
+
+-- the flow that carries weights, or else the direction
+abbrev pub drainage_op : Term → Option Term → Op
+drainage_op a None = direction_op a
+drainage_op a (Some weights) = flow_op a weights
+
+-- "of" term ["carrying" term]
+abbrev pub drainage_body : (Op → Rule Text Line) → Rule Text Line
+drainage_body f = term_after (codes "of") (λ a. optional_part (codes "carrying") weights_of None (λ w. f (drainage_op a w)))
+
 -- what follows the name of each operation
 abbrev pub operation_body : Manner → (Op → Rule Text Line) → Operation → Rule Text Line
 operation_body m f (Local s) = statistic_body s f
 operation_body m f Difference = pair_body (codes "and") difference_op f
 operation_body m f Ratio = pair_body (codes "and") ratio_op f
 operation_body m f Rating = rating_body f
+operation_body m f (Focal s) = focal_body m s f
+operation_body m f Proximity = spread_body f
+operation_body m f Insularity = single_body region_op f
+operation_body m f (Zonal s) = pair_body (codes "within") (zonal_op s) f
+operation_body m f (Incremental form) = single_body (form_op (form_of form)) f
+operation_body m f Drainage = drainage_body f
+
+-- "(" term {"," term} ")", 1 to 8 terms
+abbrev pub call_body : (List Term → Rule Text Line) → Rule Text Line
+call_body f = term_after (codes "(") (λ a. further_terms (codes ",") (λ ts. next (the (codes ")")) (λ _. f ts)) 7 (a ∷ []))

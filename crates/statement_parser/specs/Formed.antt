@@ -1,13 +1,16 @@
--- What every line that is read keeps: names, ranges and counts.
-use Rattle.std.specs.Prelude.{ℕ, ◌≤◌, ◌||◌, List, [], ◌∷◌, length, IsTrue}
+-- What every line keeps: names, ranges and counts.
+use Rattle.std.specs.Prelude.{ℕ, ◌≤◌, ◌||◌, List, [], ◌∷◌, length, Option, Some, None, IsTrue}
+use Rattle.map_nums.specs.declared.Stat.{Stat}
+use Rattle.map_nums.specs.declared.Stat.TheVariants.{Product}
 use Rattle.map_nums.specs.declared.Rate.{Rate}
-use Rattle.map_nums.specs.Numbers.{is_value}
+use Rattle.map_nums.specs.Numbers.{is_value, greatest_value}
 use Rattle.layer_tiles.specs.Cells.{IsCell}
 use Rattle.map_words.specs.Bytes.{Text}
 use Rattle.map_words.specs.Names.{is_plain, is_dotted}
-use Rattle.map_defs.specs.Ops.{Term, layer_term, number_term, Op, local_op, difference_op, ratio_op, rating_op}
+use Rattle.map_defs.specs.Sight.{Sighting}
+use Rattle.map_defs.specs.Ops.{Term, layer_term, number_term, Op, local_op, difference_op, ratio_op, rating_op, focal_op, zonal_op, form_op, direction_op, flow_op, spread_op, sight_op, region_op}
 use Rattle.map_defs.specs.Statements.{Written, plain, call}
-use Rattle.statement_parser.specs.Lines.{Edit, define, paint, new_layer, drop, Request, ask_value, ask_grid, ask_list, Line, blank, edit, ask, quit}
+use Rattle.statement_parser.specs.Lines.{Edit, define, paint, new_layer, drop, Request, ask_value, ask_grid, ask_show, ask_legend, ask_table, ask_stamps, ask_list, Line, blank, edit, ask, quit}
 
 abbrev pub Each : {A : Type 0} → (A → Type 0) → List A → Type 0
 Each P [] = Unit {0}
@@ -22,21 +25,44 @@ pub record IsRate (r : Rate) : Type 0 where
   pub high : IsTrue (is_value r.high)
   pub give : IsCell r.give
 
--- no line writes other operations yet
+-- a statistic of a neighbourhood or a zone
+abbrev pub IsNoProduct : Stat → Type 0
+IsNoProduct Product = ⊥
+IsNoProduct s = Unit {0}
+
+abbrev pub IsBetween : ℕ → ℕ → ℕ → Type 0
+IsBetween low high n = (low ≤ n) × (n ≤ high)
+
+abbrev pub IsRadius : Option ℕ → Type 0
+IsRadius None = Unit {0}
+IsRadius (Some r) = IsBetween 1 32 r
+
+pub record IsSighting (s : Sighting) : Type 0 where
+  pub from : IsTrue (is_value s.from)
+  pub to : IsTrue (is_value s.to)
+  pub reach : IsBetween 1 64 s.reach
+
 abbrev pub IsOp : Op → Type 0
 IsOp (local_op s ts) = (2 ≤ length ts) × (length ts ≤ 8) × Each IsTerm ts
 IsOp (difference_op l r) = IsTerm l × IsTerm r
 IsOp (ratio_op l r) = IsTerm l × IsTerm r
 IsOp (rating_op t rs) = IsTerm t × (1 ≤ length rs) × (length rs ≤ 32) × Each IsRate rs
-IsOp op = ⊥
+IsOp (focal_op s r t) = IsNoProduct s × IsRadius r × IsTerm t
+IsOp (zonal_op s t u) = IsNoProduct s × IsTerm t × IsTerm u
+IsOp (form_op f t) = IsTerm t
+IsOp (direction_op t) = IsTerm t
+IsOp (flow_op t u) = IsTerm t × IsTerm u
+IsOp (spread_op limit t u) = (limit ≤ greatest_value) × IsTerm t × IsTerm u
+IsOp (sight_op s t u) = IsSighting s × IsTerm t × IsTerm u
+IsOp (region_op t) = IsTerm t
 
 abbrev pub IsWritten : Written → Type 0
 IsWritten (plain o) = IsOp o
-IsWritten (call p ts) = ⊥
+IsWritten (call p ts) = IsTrue (is_plain p) × (1 ≤ length ts) × (length ts ≤ 8) × Each IsTerm ts
 
 -- a row or a column
 abbrev pub IsSide : ℕ → Type 0
-IsSide n = (1 ≤ n) × (n ≤ 4096)
+IsSide n = IsBetween 1 4096 n
 
 abbrev pub IsEdit : Edit → Type 0
 IsEdit (define n w) = IsTrue (is_plain n) × IsWritten w
@@ -51,6 +77,10 @@ IsAny n = IsTrue (is_plain n || is_dotted n)
 abbrev pub IsRequest : Request → Type 0
 IsRequest (ask_value n r c) = IsAny n × IsSide r × IsSide c
 IsRequest (ask_grid n) = IsAny n
+IsRequest (ask_show n) = IsAny n
+IsRequest (ask_legend n) = IsAny n
+IsRequest (ask_table n v) = IsAny n × IsAny v
+IsRequest (ask_stamps n) = IsAny n
 IsRequest ask_list = Unit {0}
 
 abbrev pub IsFormed : Line → Type 0

@@ -1,4 +1,5 @@
 pub mod Lines
+pub mod Forms
 pub mod Operations
 pub mod Commands
 pub mod Places
@@ -14,9 +15,10 @@ pub mod ReadLine
 pub mod Texts
 pub mod Parsed
 pub mod Formed
+pub mod There
 pub mod Spacing
 pub mod TermTexts
 pub mod Canonical
 pub mod Printing
-pub mod Rows
+pub mod Worked
 pub mod LineOf

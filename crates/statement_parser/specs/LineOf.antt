@@ -17,7 +17,7 @@ of_words bytes (Err f) = Err (refusal_of f.kind (column bytes f.left))
 
 abbrev pub of_bytes : Manner → Text → Option ℕ → Result Line Refusal
 of_bytes m bytes (Some at) = Err (syntax at)
-of_bytes m bytes None = of_words bytes (run tests (line_rule m) (seen bytes))
+of_bytes m bytes None = of_words bytes (run (tests m) (line_rule m) (seen bytes))
 
 unfoldable pub line_of : Manner → Text → Result Line Refusal
 line_of m bytes = if is_short bytes then (if is_silent bytes then Ok blank else of_bytes m bytes (first_bad bytes)) else Err (long (length bytes))

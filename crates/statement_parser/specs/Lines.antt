@@ -1,11 +1,19 @@
 -- What lines are.
-use Rattle.std.specs.Prelude.{ℕ, ℤ, Option}
+use Rattle.std.specs.Prelude.{ℕ, ℤ, Bool, List, Option}
 use Rattle.map_words.specs.Bytes.{Text}
 use Rattle.map_defs.specs.Statements.{Written}
+use Rattle.statement_parser.specs.declared.operation.Operation.{Operation}
+use Rattle.statement_parser.specs.declared.command.Command.{Command}
 
--- how lines are read: the language, and whether it may still be set. There is one manner
-pub data Manner : Type 0 where
-  first_language : Manner
+-- how lines are read: which rows of the language are there
+pub record Manner : Type 0 where
+  -- beside LocalSum, which always is
+  pub operations : List Operation
+  pub commands : List Command
+  -- whether FocalSum may radiate
+  pub sight : Bool
+  -- whether procedures may be called
+  pub calls : Bool
 
 -- a line that changes the map
 pub data Edit : Type 0 where
@@ -20,6 +28,11 @@ pub data Edit : Type 0 where
 pub data Request : Type 0 where
   ask_value : Text → ℕ → ℕ → Request
   ask_grid : Text → Request
+  ask_show : Text → Request
+  ask_legend : Text → Request
+  -- zones, values
+  ask_table : Text → Text → Request
+  ask_stamps : Text → Request
   ask_list : Request
 
 pub data Line : Type 0 where

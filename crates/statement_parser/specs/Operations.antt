@@ -1,10 +1,14 @@
 -- The operations by their names.
-use Rattle.std.specs.Prelude.{Bool, List, [], ◌∷◌, ◌++◌, Option, is_some, find, codes, bytes_eq}
+use Rattle.std.specs.Prelude.{Bool, List, [], ◌∷◌, ◌++◌, Option, None, is_some, find, codes, bytes_eq, if◌then◌else◌}
+use Rattle.std.specs.List.{list_any}
 use Rattle.map_nums.specs.declared.Stat.{Stat}
 use Rattle.map_nums.specs.declared.Stat.TheVariants.{Sum, Product, Maximum, Minimum, Mean, Median, Majority, Minority, Variety}
 use Rattle.map_words.specs.Bytes.{Text}
+use Rattle.statement_parser.specs.Lines.{Manner}
+use Rattle.statement_parser.specs.declared.op.Form.{Form}
+use Rattle.statement_parser.specs.declared.op.Form.TheVariants.{Linkage, Length, Partition, Frontage, Gradient, Aspect}
 use Rattle.statement_parser.specs.declared.operation.Operation.{Operation}
-use Rattle.statement_parser.specs.declared.operation.Operation.TheVariants.{Local, Difference, Ratio, Rating}
+use Rattle.statement_parser.specs.declared.operation.Operation.TheVariants.{Local, Difference, Ratio, Rating, Focal, Proximity, Insularity, Zonal, Incremental, Drainage}
 
 abbrev pub stat_text : Stat → Text
 stat_text Sum = codes "Sum"
@@ -17,22 +21,48 @@ stat_text Majority = codes "Majority"
 stat_text Minority = codes "Minority"
 stat_text Variety = codes "Variety"
 
+abbrev pub form_text : Form → Text
+form_text Linkage = codes "Linkage"
+form_text Length = codes "Length"
+form_text Partition = codes "Partition"
+form_text Frontage = codes "Frontage"
+form_text Gradient = codes "Gradient"
+form_text Aspect = codes "Aspect"
+
 -- an operation's name
 abbrev pub operation_text : Operation → Text
 operation_text (Local s) = codes "Local" ++ stat_text s
 operation_text Difference = codes "LocalDifference"
 operation_text Ratio = codes "LocalRatio"
 operation_text Rating = codes "LocalRating"
+operation_text (Focal s) = codes "Focal" ++ stat_text s
+operation_text Proximity = codes "FocalProximity"
+operation_text Insularity = codes "FocalInsularity"
+operation_text (Zonal s) = codes "Zonal" ++ stat_text s
+operation_text (Incremental f) = codes "Incremental" ++ form_text f
+operation_text Drainage = codes "IncrementalDrainage"
 
--- all operations
+-- all operations: no product is Focal or Zonal
 abbrev pub operations : List Operation
 operations =
     Local Sum ∷ Local Product ∷ Local Maximum ∷ Local Minimum ∷ Local Mean ∷ Local Median ∷ Local Majority ∷ Local Minority ∷ Local Variety
-    ∷ Difference ∷ Ratio ∷ Rating ∷ []
+    ∷ Difference ∷ Ratio ∷ Rating
+    ∷ Focal Sum ∷ Focal Maximum ∷ Focal Minimum ∷ Focal Mean ∷ Focal Median ∷ Focal Majority ∷ Focal Minority ∷ Focal Variety
+    ∷ Proximity ∷ Insularity
+    ∷ Zonal Sum ∷ Zonal Maximum ∷ Zonal Minimum ∷ Zonal Mean ∷ Zonal Median ∷ Zonal Majority ∷ Zonal Minority ∷ Zonal Variety
+    ∷ Incremental Linkage ∷ Incremental Length ∷ Incremental Partition ∷ Incremental Frontage ∷ Incremental Gradient ∷ Incremental Aspect ∷ Drainage ∷ []
 
 -- the operation with this name
-unfoldable pub operation_named : Text → Option Operation
-operation_named t = find (λ o. bytes_eq (operation_text o) t) operations
+unfoldable pub find_operation : Text → Option Operation
+find_operation t = find (λ o. bytes_eq (operation_text o) t) operations
 
-abbrev pub is_operation : Text → Bool
-is_operation t = is_some (operation_named t)
+-- a row of these has this name
+abbrev pub has_row : List Operation → Text → Bool
+has_row os t = list_any (λ o. bytes_eq (operation_text o) t) os
+
+-- the operation with this name, where it is there
+unfoldable pub operation_named : Manner → Text → Option Operation
+operation_named m t = if has_row (Local Sum ∷ m.operations) t then find_operation t else None
+
+abbrev pub is_operation : Manner → Text → Bool
+is_operation m t = is_some (operation_named m t)

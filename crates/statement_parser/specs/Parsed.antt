@@ -15,7 +15,7 @@ use Rattle.statement_parser.specs.Texts.{LineText, RefusedText, Refusal, long, s
 abbrev pub IsWordsRead : {V : Type 0} → Manner → (V → Line) → List Text → Result V ReadError → Type 0
 IsWordsRead m view ws (Ok x) = IsLine m ws (view x)
 IsWordsRead m view ws (Err errors.NoMemory) = Unit {0}
-IsWordsRead m view ws (Err (errors.Fault f)) = IsRefusedAt tests (line_rule m) ws f.kind f.left
+IsWordsRead m view ws (Err (errors.Fault f)) = IsRefusedAt (tests m) (line_rule m) ws f.kind f.left
 
 -- what a refusal says; want of memory says nothing
 abbrev pub refusal_view : LineRefusal → Option Refusal

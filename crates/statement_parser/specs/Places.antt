@@ -1,11 +1,12 @@
 -- What a word may be at each place of a line.
-use Rattle.std.specs.Prelude.{ℕ, ℤ, pos, nat_abs, not, ◌&&◌, ◌||◌, Option, Some, None, option_map, codes, bytes_eq, if◌then◌else◌}
+use Rattle.std.specs.Prelude.{ℕ, ℤ, pos, nat_abs, Bool, false, not, ◌&&◌, ◌||◌, Option, Some, None, option_map, codes, bytes_eq, if◌then◌else◌}
 use Rattle.map_nums.specs.Numbers.{vmin, vmax}
 use Rattle.map_words.specs.Bytes.{Text}
 use Rattle.map_words.specs.Names.{has_name_form, is_plain, is_dotted}
 use Rattle.map_words.specs.Numbers.{is_number, number_in}
 use Rattle.grammar_core.specs.Refusals.{Tests}
 use Rattle.map_defs.specs.Ops.{Term, layer_term, number_term}
+use Rattle.statement_parser.specs.Lines.{Manner}
 use Rattle.statement_parser.specs.Operations.{is_operation}
 
 -- this very word
@@ -24,22 +25,60 @@ any_of t = if is_plain t || is_dotted t then Some t else None
 abbrev pub value_of : Text → Option ℤ
 value_of t = number_in vmin vmax t
 
+-- a number from 1 on, or from 0 on, in a range
+abbrev pub count_of : ℤ → ℤ → Text → Option ℕ
+count_of low high t = option_map nat_abs (number_in low high t)
+
 -- a row or a column
 abbrev pub side_of : Text → Option ℕ
-side_of t = option_map nat_abs (number_in (pos 1) (pos 4096) t)
+side_of t = count_of (pos 1) (pos 4096) t
+
+-- the radius of a disc
+abbrev pub disc_of : Text → Option (Option ℕ)
+disc_of t = option_map Some (count_of (pos 1) (pos 32) t)
+
+-- how far sight reaches
+abbrev pub reach_of : Text → Option ℕ
+reach_of t = count_of (pos 1) (pos 64) t
+
+-- the greatest cost of a spread
+abbrev pub limit_of : Text → Option ℕ
+limit_of t = count_of (pos 0) vmax t
 
 abbrev pub term_of : Text → Option Term
 term_of t = if is_plain t then Some (layer_term t) else option_map number_term (value_of t)
 
+-- the term of a part that may be left out
+abbrev pub weights_of : Text → Option (Option Term)
+weights_of t = option_map Some (term_of t)
+
 abbrev pub cell_of : Text → Option (Option ℤ)
 cell_of t = if bytes_eq t (codes "null") then Some None else option_map Some (value_of t)
 
+-- a place that may not be there
+abbrev pub maybe : {A : Type 0} → Bool → (Text → Option A) → Text → Option A
+maybe there f t = if there then f t else None
+
+-- a procedure's name, where calls are there
+abbrev pub call_of : Manner → Text → Option Text
+call_of m t = maybe m.calls name_of t
+
 -- what refusals ask of a word
-abbrev pub tests : Tests Text
-tests = record {
+abbrev pub tests : Manner → Tests Text
+tests m = record {
   number = codes "1";
   operation = codes "LocalSum";
   is_number = is_number;
-  is_stranger = λ t. has_name_form t && not (is_operation t);
+  is_stranger = λ t. has_name_form t && not (is_operation m t);
   opens = λ t. bytes_eq t (codes "(");
+}
+
+-- what the reading of one word asks: whether it is a number
+abbrev pub reading : Tests Text
+reading = record {
+  number = codes "1";
+  operation = codes "LocalSum";
+  is_number = is_number;
+  is_stranger = λ t. false;
+  opens = λ t. false;
 }

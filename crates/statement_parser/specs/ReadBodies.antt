@@ -1,17 +1,23 @@
 -- Reading operations, on lists.
-use Rattle.std.specs.Prelude.{suc, false, List, [], ◌∷◌, length, Option, Some, None, Ok, codes, if◌then◌else◌}
+use Rattle.std.specs.Prelude.{ℕ, suc, pos, false, List, [], ◌∷◌, length, Option, Some, None, Ok, codes, if◌then◌else◌}
 use Rattle.map_nums.specs.declared.Stat.{Stat}
+use Rattle.map_nums.specs.Numbers.{greatest_value}
 use Rattle.map_words.specs.Bytes.{Text}
-use Rattle.map_defs.specs.Ops.{Term, Op, local_op, difference_op, ratio_op, rating_op}
+use Rattle.map_defs.specs.Ops.{Term, Op, local_op, difference_op, ratio_op, rating_op, focal_op, zonal_op, form_op, spread_op, sight_op, region_op}
+use Rattle.map_defs.specs.Statements.{Written, plain, call}
 use Rattle.grammar_core.specs.declared.Kind.TheVariants.{Syntax, Operation as UnknownOperation}
 use Rattle.grammar_core.specs.Refusals.{is_unknown}
 use Rattle.grammar_core.specs.Run.{refused}
-use Rattle.grammar_core.specs.Readers.{◌>>=◌, Read, one_at}
-use Rattle.statement_parser.specs.Places.{the, tests}
+use Rattle.grammar_core.specs.Readers.{◌>>=◌, Read, one_at, starts}
+use Rattle.statement_parser.specs.Lines.{Manner}
+use Rattle.statement_parser.specs.Forms.{form_of}
+use Rattle.statement_parser.specs.Places.{the, maybe, value_of, disc_of, reach_of, limit_of, weights_of, call_of, tests, reading}
 use Rattle.statement_parser.specs.Operations.{operation_named}
-use Rattle.statement_parser.specs.ReadParts.{term_after_at, further_at, rate_at, with_at}
+use Rattle.statement_parser.specs.Bodies.{radiates, drainage_op}
+use Rattle.statement_parser.specs.ReadParts.{term_after_at, further_at, optional_at, rate_at, with_at, friction_at}
+use Rattle.statement_parser.specs.declared.op.Form.{Form}
 use Rattle.statement_parser.specs.declared.operation.Operation.{Operation}
-use Rattle.statement_parser.specs.declared.operation.Operation.TheVariants.{Local, Difference, Ratio, Rating}
+use Rattle.statement_parser.specs.declared.operation.Operation.TheVariants.{Local, Difference, Ratio, Rating, Focal, Proximity, Insularity, Zonal, Incremental, Drainage}
 
 unfoldable pub statistic_at : Stat → List Text → Read Text Op
 statistic_at s ws = do
@@ -39,21 +45,99 @@ ratio_at ws = do
 unfoldable pub rating_at : List Text → Read Text Op
 rating_at ws = do
   a ← term_after_at (codes "of") ws
-  v ← one_at tests (the (codes "with")) false a.1
+  v ← one_at reading (the (codes "with")) false a.1
   r ← rate_at v.1
   rs ← with_at 31 (r.0 ∷ []) r.1
   Ok (rating_op a.0 rs.0, rs.1)
 
-abbrev pub operation_at : Operation → List Text → Read Text Op
-operation_at (Local s) ws = statistic_at s ws
-operation_at Difference ws = difference_at ws
-operation_at Ratio ws = ratio_at ws
-operation_at Rating ws = rating_at ws
+unfoldable pub radius_at : Stat → Term → List Text → Read Text Op
+radius_at s a ws = do
+  r ← optional_at (codes "at") disc_of None ws
+  Ok (focal_op s r.0 a, r.1)
 
-abbrev pub named_at : Option Operation → List Text → Read Text Op
-named_at None ws = refused Syntax (suc (length ws))
-named_at (Some o) ws = operation_at o ws
+unfoldable pub sight_at : Term → List Text → Read Text Op
+sight_at a ws = do
+  u ← one_at reading (the (codes "radiating")) false ws
+  surface ← term_after_at (codes "on") u.1
+  from ← optional_at (codes "from") value_of (pos 0) surface.1
+  to ← optional_at (codes "to") value_of (pos 0) from.1
+  reach ← optional_at (codes "within") reach_of 64 to.1
+  Ok (sight_op (record { from = from.0; to = to.0; reach = reach.0 }) a surface.0, reach.1)
 
-unfoldable pub body_at : List Text → Read Text Op
-body_at [] = refused Syntax 0
-body_at (w ∷ ws) = if is_unknown tests (w ∷ ws) then refused UnknownOperation (suc (length ws)) else named_at (operation_named w) ws
+unfoldable pub reaching_at : Manner → Stat → Term → List Text → Read Text Op
+reaching_at m s a ws = if starts (maybe (radiates m s) (the (codes "radiating"))) ws then sight_at a ws else radius_at s a ws
+
+unfoldable pub focal_at : Manner → Stat → List Text → Read Text Op
+focal_at m s ws = do
+  a ← term_after_at (codes "of") ws
+  reaching_at m s a.0 a.1
+
+unfoldable pub spread_at : List Text → Read Text Op
+spread_at ws = do
+  a ← term_after_at (codes "of") ws
+  friction ← friction_at a.1
+  limit ← optional_at (codes "within") limit_of greatest_value friction.1
+  Ok (spread_op limit.0 a.0 friction.0, limit.1)
+
+unfoldable pub region_at : List Text → Read Text Op
+region_at ws = do
+  a ← term_after_at (codes "of") ws
+  Ok (region_op a.0, a.1)
+
+unfoldable pub zonal_at : Stat → List Text → Read Text Op
+zonal_at s ws = do
+  p ← pair_at (codes "within") ws
+  Ok (zonal_op s p.0.0 p.0.1, p.1)
+
+unfoldable pub incremental_at : Form → List Text → Read Text Op
+incremental_at form ws = do
+  a ← term_after_at (codes "of") ws
+  Ok (form_op (form_of form) a.0, a.1)
+
+unfoldable pub drainage_at : List Text → Read Text Op
+drainage_at ws = do
+  a ← term_after_at (codes "of") ws
+  w ← optional_at (codes "carrying") weights_of None a.1
+  Ok (drainage_op a.0 w.0, w.1)
+
+abbrev pub operation_at : Manner → Operation → List Text → Read Text Op
+operation_at m (Local s) ws = statistic_at s ws
+operation_at m Difference ws = difference_at ws
+operation_at m Ratio ws = ratio_at ws
+operation_at m Rating ws = rating_at ws
+operation_at m (Focal s) ws = focal_at m s ws
+operation_at m Proximity ws = spread_at ws
+operation_at m Insularity ws = region_at ws
+operation_at m (Zonal s) ws = zonal_at s ws
+operation_at m (Incremental form) ws = incremental_at form ws
+operation_at m Drainage ws = drainage_at ws
+
+-- the terms of a call, to its end
+unfoldable pub given_at : List Text → Read Text (List Term)
+given_at ws = do
+  a ← term_after_at (codes "(") ws
+  ts ← further_at (codes ",") 7 (a.0 ∷ []) a.1
+  u ← one_at reading (the (codes ")")) false ts.1
+  Ok (ts.0, u.1)
+
+unfoldable pub call_at : Text → List Text → Read Text Written
+call_at p ws = do
+  ts ← given_at ws
+  Ok (call p ts.0, ts.1)
+
+unfoldable pub plain_at : Manner → Operation → List Text → Read Text Written
+plain_at m o ws = do
+  op ← operation_at m o ws
+  Ok (plain op.0, op.1)
+
+abbrev pub called_at : Option Text → List Text → Read Text Written
+called_at None ws = refused Syntax (suc (length ws))
+called_at (Some p) ws = call_at p ws
+
+abbrev pub named_at : Manner → Option Operation → Option Text → List Text → Read Text Written
+named_at m None p ws = called_at p ws
+named_at m (Some o) p ws = plain_at m o ws
+
+unfoldable pub body_at : Manner → List Text → Read Text Written
+body_at m [] = refused Syntax 0
+body_at m (w ∷ ws) = if is_unknown (tests m) (w ∷ ws) then refused UnknownOperation (suc (length ws)) else named_at m (operation_named m w) (call_of m w) ws

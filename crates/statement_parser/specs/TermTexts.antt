@@ -1,5 +1,5 @@
 -- The texts of terms.
-use Rattle.std.specs.Prelude.{List, [], ◌∷◌, codes}
+use Rattle.std.specs.Prelude.{List, [], ◌∷◌, ◌++◌, codes}
 use Rattle.std.specs.Fmt.{signed_decimal}
 use Rattle.map_words.specs.Bytes.{Text}
 use Rattle.map_defs.specs.Ops.{Term, layer_term, number_term}
@@ -16,3 +16,13 @@ terms_after word (t ∷ ts) = word ∷ term_text t ∷ terms_after word ts
 abbrev pub terms_texts : List Term → List Text
 terms_texts [] = []
 terms_texts (t ∷ ts) = term_text t ∷ terms_after (codes "and") ts
+
+-- the terms with a comma and a space before each
+abbrev pub listed_after : List Term → Text
+listed_after [] = []
+listed_after (t ∷ ts) = 44 ∷ 32 ∷ (term_text t ++ listed_after ts)
+
+-- the terms with a comma and a space between
+abbrev pub listed : List Term → Text
+listed [] = []
+listed (t ∷ ts) = term_text t ++ listed_after ts

@@ -39,7 +39,7 @@ refusal_of Number at = number at
 pub data RefusedText (m : Manner) (bytes : Text) : Refusal → Type 0 where
   too_long : is_short bytes ≡ false → RefusedText m bytes (long (length bytes))
   bad_byte : {at : ℕ} → is_short bytes ≡ true → is_silent bytes ≡ false → first_bad bytes ≡ Some at → RefusedText m bytes (syntax at)
-  bad_word : (kind : Kind) (left : ℕ) → is_short bytes ≡ true → is_silent bytes ≡ false → first_bad bytes ≡ None → IsRefusedAt tests (line_rule m) (seen bytes) kind left
+  bad_word : (kind : Kind) (left : ℕ) → is_short bytes ≡ true → is_silent bytes ≡ false → first_bad bytes ≡ None → IsRefusedAt (tests m) (line_rule m) (seen bytes) kind left
       → RefusedText m bytes (refusal_of kind (column bytes left))
 
 -- of all bytes, either they are one line, or they are refused in one way

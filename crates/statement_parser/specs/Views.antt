@@ -1,9 +1,11 @@
 -- What the parser's values are, without where they lie in memory.
-use Rattle.std.specs.Prelude.{List, map}
+use Rattle.std.specs.Prelude.{ℕ, nat_abs, List, map, Option, Some, None}
 use Rattle.map_words.specs.Bytes.{Text}
 use Rattle.map_words.specs.declared.cutting.Word.{Word}
 use Rattle.statement_parser.specs.declared.op.Term as terms
 use Rattle.statement_parser.specs.declared.op.Term.TheVariants as a_term
+use Rattle.statement_parser.specs.declared.op.Reach as reaches
+use Rattle.statement_parser.specs.declared.op.Reach.TheVariants as a_reach
 use Rattle.statement_parser.specs.declared.op.Op as ops
 use Rattle.statement_parser.specs.declared.op.Op.TheVariants as an_op
 use Rattle.statement_parser.specs.declared.line.Written as writtens
@@ -14,13 +16,19 @@ use Rattle.statement_parser.specs.declared.line.Request as requests
 use Rattle.statement_parser.specs.declared.line.Request.TheVariants as a_request
 use Rattle.statement_parser.specs.declared.line.Line as lines
 use Rattle.statement_parser.specs.declared.line.Line.TheVariants as a_line
-use Rattle.map_defs.specs.Ops.{Term, layer_term, number_term, Op, local_op, difference_op, ratio_op, rating_op}
-use Rattle.map_defs.specs.Statements.{Written, plain}
-use Rattle.statement_parser.specs.Lines.{Edit, define, paint, new_layer, drop, Request, ask_value, ask_grid, ask_list, Line, blank, edit, ask, quit}
+use Rattle.map_defs.specs.Ops.{Term, layer_term, number_term, Op, local_op, difference_op, ratio_op, rating_op, focal_op, zonal_op, form_op, direction_op, flow_op, spread_op, sight_op, region_op}
+use Rattle.map_defs.specs.Statements.{Written, plain, call}
+use Rattle.statement_parser.specs.Forms.{form_of}
+use Rattle.statement_parser.specs.declared.rows.Rows.{Rows}
+use Rattle.statement_parser.specs.Lines.{Manner, Edit, define, paint, new_layer, drop, Request, ask_value, ask_grid, ask_show, ask_legend, ask_table, ask_stamps, ask_list, Line, blank, edit, ask, quit}
 
 -- the texts of words
 abbrev pub texts_of : List Word → List Text
 texts_of ws = map (λ (w : Word). w.text.now) ws
+
+-- the rows that are there
+abbrev pub manner_of : Rows → Manner
+manner_of r = record { operations = r.operations.now; commands = r.commands.now; sight = r.sight; calls = r.calls }
 
 abbrev pub term_view : terms.Term → Term
 term_view (a_term.Layer n) = layer_term n
@@ -29,14 +37,27 @@ term_view (a_term.Number z) = number_term z
 abbrev pub terms_view : List terms.Term → List Term
 terms_view ts = map term_view ts
 
+abbrev pub reach_view : reaches.Reach → Option ℕ
+reach_view a_reach.Square = None
+reach_view (a_reach.Disc r) = Some r
+
 abbrev pub op_view : ops.Op → Op
 op_view (an_op.Local s ts) = local_op s (terms_view ts.items)
 op_view (an_op.Difference l r) = difference_op (term_view l) (term_view r)
 op_view (an_op.Ratio l r) = ratio_op (term_view l) (term_view r)
 op_view (an_op.Rating t rs) = rating_op (term_view t) rs.items
+op_view (an_op.Focal s t r) = focal_op s (reach_view r) (term_view t)
+op_view (an_op.Zonal s t u) = zonal_op s (term_view t) (term_view u)
+op_view (an_op.Incremental f t) = form_op (form_of f) (term_view t)
+op_view (an_op.Direction t) = direction_op (term_view t)
+op_view (an_op.Flow t u) = flow_op (term_view t) (term_view u)
+op_view (an_op.Spread t u limit) = spread_op (nat_abs limit) (term_view t) (term_view u)
+op_view (an_op.Sight t u from to reach) = sight_op (record { from = from; to = to; reach = reach }) (term_view t) (term_view u)
+op_view (an_op.Region t) = region_op (term_view t)
 
 abbrev pub written_view : writtens.Written → Written
 written_view (a_written.Plain o) = plain (op_view o)
+written_view (a_written.Call p ts) = call p (terms_view ts.items)
 
 abbrev pub edit_view : edits.LineEdit → Edit
 edit_view (an_edit.Define n w) = define n (written_view w)
@@ -47,6 +68,10 @@ edit_view (an_edit.Drop n) = drop n
 abbrev pub request_view : requests.Request → Request
 request_view (a_request.Value n r c) = ask_value n r c
 request_view (a_request.Grid n) = ask_grid n
+request_view (a_request.Show n) = ask_show n
+request_view (a_request.Legend n) = ask_legend n
+request_view (a_request.Table n v) = ask_table n v
+request_view (a_request.Stamps n) = ask_stamps n
 request_view a_request.List = ask_list
 
 abbrev pub line_view : lines.Line → Line

@@ -1,19 +1,26 @@
 //! Reading what follows the names of operations.
 
-ghost use Rattle.std.specs.Prelude.{◌≡◌};
-ghost use Rattle.statement_parser.specs.Views.{texts_of, term_view, terms_view, op_view};
+ghost use Rattle.std.specs.Prelude.{◌≡◌, suc, length, nat_abs, None, option_map, codes};
+ghost use Rattle.statement_parser.specs.Views.{texts_of, term_view, terms_view, op_view, reach_view, written_view, manner_of};
 ghost use Rattle.statement_parser.specs.Gives.{Gives};
-ghost use Rattle.statement_parser.specs.Places.{value_of};
-ghost use Rattle.statement_parser.specs.ReadBodies.{statistic_at, pair_at, difference_at, ratio_at, rating_at, body_at};
-ghost use Rattle.statement_parser.specs.ReadParts.{term_after_at, further_at, optional_at, range_at, rate_at, with_at};
+ghost use Rattle.grammar_core.specs.Readers.{starts};
+ghost use Rattle.map_nums.specs.Numbers.{greatest_value};
+ghost use Rattle.statement_parser.specs.Bodies.{radiates, drainage_op};
+ghost use Rattle.statement_parser.specs.Places.{the as word_of, maybe, call_of, value_of, disc_of, reach_of, limit_of, weights_of};
+ghost use Rattle.statement_parser.specs.ReadBodies.{statistic_at, pair_at, difference_at, ratio_at, rating_at, radius_at, sight_at, reaching_at, focal_at, spread_at, region_at, zonal_at, incremental_at, drainage_at, operation_at, given_at, call_at, plain_at, called_at, body_at};
+ghost use Rattle.statement_parser.specs.ReadParts.{term_after_at, further_at, optional_at, range_at, rate_at, with_at, friction_at};
 
 use crate::fault::ReadError;
-use crate::op::{Op, Term};
+use crate::line::Written;
+use crate::op::{Form, Op, Reach, Term};
 use crate::operation::{Operation, operation_named};
-use crate::places::{cell, is_next, is_unknown_operation, misfit, term, the, value};
+use crate::places::{
+    cell, is_next, is_unknown_operation, limit, misfit, radius, reach, term, the, value, weights,
+};
+use crate::rows::Rows;
 use grammar_core::{Fault, Kind};
-use map_nums::{Rate, Stat, Value};
-use map_words::Word;
+use map_nums::{Rate, Stat, VMAX, Value};
+use map_words::{Name, NameRefusal, Word};
 use std::alloc::Global;
 
 /// This word and a term.
@@ -177,12 +184,322 @@ fn rating<'t, 'a>(alloc: Global, words: &'t [Word<'a>]) -> Result<(Op, &'t [Word
     Ok((Op::Rating { of, rates }, rest))
 }
 
-/// An operation.
-#[tactic(auto, unfolding(crate::specs::ReadBodies::body_at))]
-pub fn body<'t, 'a>(alloc: Global, words: &'t [Word<'a>]) -> Result<(Op, &'t [Word<'a>]), ReadError>
-    ensures { Gives (λ x. (op_view x.0, texts_of x.1.now)) result (body_at (texts_of words.now)) }
+/// The radius after `at`, or the square.
+#[tactic(auto, unfolding(crate::specs::ReadParts::optional_at))]
+fn reach_part<'t, 'a>(words: &'t [Word<'a>]) -> Result<(Reach, &'t [Word<'a>]), ReadError>
+    ensures { Gives (λ x. (reach_view x.0, texts_of x.1.now)) result (optional_at (codes "at") disc_of None (texts_of words.now)) }
 {
-    if is_unknown_operation(words) {
+    if !is_next(b"at", words) {
+        return Ok((Reach::Square, words));
+    }
+    let rest = the(b"at", words)?;
+    let (radius, rest) = radius(rest)?;
+    Ok((Reach::Disc(radius), rest))
+}
+
+#[tactic(auto, unfolding(crate::specs::ReadBodies::radius_at))]
+fn near<'t, 'a>(
+    stat: Stat,
+    of: Term,
+    words: &'t [Word<'a>],
+) -> Result<(Op, &'t [Word<'a>]), ReadError>
+    ensures { Gives (λ x. (op_view x.0, texts_of x.1.now)) result (radius_at stat (term_view of) (texts_of words.now)) }
+{
+    let (reach, rest) = reach_part(words)?;
+    Ok((Op::Focal { stat, of, reach }, rest))
+}
+
+/// How far sight reaches, after `within`; the default where it is left out.
+#[tactic(auto, unfolding(crate::specs::ReadParts::optional_at))]
+fn sight_reach<'t, 'a>(words: &'t [Word<'a>]) -> Result<(u32, &'t [Word<'a>]), ReadError>
+    ensures { Gives (λ x. (x.0, texts_of x.1.now)) result (optional_at (codes "within") reach_of 64 (texts_of words.now)) }
+{
+    if !is_next(b"within", words) {
+        return Ok((64, words));
+    }
+    let rest = the(b"within", words)?;
+    reach(rest)
+}
+
+#[tactic(auto, unfolding(crate::specs::ReadBodies::sight_at))]
+fn sight<'t, 'a>(
+    alloc: Global,
+    of: Term,
+    words: &'t [Word<'a>],
+) -> Result<(Op, &'t [Word<'a>]), ReadError>
+    ensures { Gives (λ x. (op_view x.0, texts_of x.1.now)) result (sight_at (term_view of) (texts_of words.now)) }
+{
+    let rest = the(b"radiating", words)?;
+    let (surface, rest) = term_after(alloc, b"on", rest)?;
+    let (from, rest) = optional_value(b"from", 0, rest)?;
+    let (to, rest) = optional_value(b"to", 0, rest)?;
+    let (reach, rest) = sight_reach(rest)?;
+    Ok((
+        Op::Sight {
+            of,
+            surface,
+            from,
+            to,
+            reach,
+        },
+        rest,
+    ))
+}
+
+/// Whether this statistic may radiate.
+fn may_radiate(rows: &Rows<'_>, stat: Stat) -> bool
+    ensures { result ≡ radiates (manner_of rows.now) stat }
+{
+    match stat {
+        Stat::Sum => rows.sight,
+        _ => false,
+    }
+}
+
+/// Whether a sum that radiates follows.
+fn is_radiating(rows: &Rows<'_>, stat: Stat, words: &[Word<'_>]) -> bool
+    ensures { result ≡ starts (maybe (radiates (manner_of rows.now) stat) (word_of (codes "radiating"))) (texts_of words.now) }
+{
+    if !may_radiate(rows, stat) {
+        return false;
+    }
+    is_next(b"radiating", words)
+}
+
+#[tactic(auto, unfolding(crate::specs::ReadBodies::reaching_at))]
+fn reaching<'t, 'a>(
+    alloc: Global,
+    rows: &Rows<'_>,
+    stat: Stat,
+    of: Term,
+    words: &'t [Word<'a>],
+) -> Result<(Op, &'t [Word<'a>]), ReadError>
+    ensures { Gives (λ x. (op_view x.0, texts_of x.1.now)) result (reaching_at (manner_of rows.now) stat (term_view of) (texts_of words.now)) }
+{
+    if is_radiating(rows, stat, words) {
+        return sight(alloc, of, words);
+    }
+    near(stat, of, words)
+}
+
+#[tactic(auto, unfolding(crate::specs::ReadBodies::focal_at))]
+fn focal<'t, 'a>(
+    alloc: Global,
+    rows: &Rows<'_>,
+    stat: Stat,
+    words: &'t [Word<'a>],
+) -> Result<(Op, &'t [Word<'a>]), ReadError>
+    ensures { Gives (λ x. (op_view x.0, texts_of x.1.now)) result (focal_at (manner_of rows.now) stat (texts_of words.now)) }
+{
+    let (of, rest) = term_after(alloc, b"of", words)?;
+    reaching(alloc, rows, stat, of, rest)
+}
+
+/// The friction after `spreading in`, or 1.
+#[tactic(auto, unfolding(crate::specs::ReadParts::friction_at))]
+fn friction_part<'t, 'a>(
+    alloc: Global,
+    words: &'t [Word<'a>],
+) -> Result<(Term, &'t [Word<'a>]), ReadError>
+    ensures { Gives (λ x. (term_view x.0, texts_of x.1.now)) result (friction_at (texts_of words.now)) }
+{
+    if !is_next(b"spreading", words) {
+        return Ok((Term::Number(1), words));
+    }
+    let rest = the(b"spreading", words)?;
+    term_after(alloc, b"in", rest)
+}
+
+/// The limit after `within`, or the greatest value.
+#[tactic(auto, unfolding(crate::specs::ReadParts::optional_at))]
+fn limit_part<'t, 'a>(words: &'t [Word<'a>]) -> Result<(Value, &'t [Word<'a>]), ReadError>
+    ensures { Gives (λ x. (nat_abs x.0, texts_of x.1.now)) result (optional_at (codes "within") limit_of greatest_value (texts_of words.now)) }
+{
+    if !is_next(b"within", words) {
+        return Ok((VMAX as Value, words));
+    }
+    let rest = the(b"within", words)?;
+    limit(rest)
+}
+
+#[tactic(auto, unfolding(crate::specs::ReadBodies::spread_at))]
+fn spread<'t, 'a>(alloc: Global, words: &'t [Word<'a>]) -> Result<(Op, &'t [Word<'a>]), ReadError>
+    ensures { Gives (λ x. (op_view x.0, texts_of x.1.now)) result (spread_at (texts_of words.now)) }
+{
+    let (of, rest) = term_after(alloc, b"of", words)?;
+    let (friction, rest) = friction_part(alloc, rest)?;
+    let (limit, rest) = limit_part(rest)?;
+    Ok((
+        Op::Spread {
+            of,
+            friction,
+            limit,
+        },
+        rest,
+    ))
+}
+
+#[tactic(auto, unfolding(crate::specs::ReadBodies::region_at))]
+fn region<'t, 'a>(alloc: Global, words: &'t [Word<'a>]) -> Result<(Op, &'t [Word<'a>]), ReadError>
+    ensures { Gives (λ x. (op_view x.0, texts_of x.1.now)) result (region_at (texts_of words.now)) }
+{
+    let (of, rest) = term_after(alloc, b"of", words)?;
+    Ok((Op::Region { of }, rest))
+}
+
+#[tactic(auto, unfolding(crate::specs::ReadBodies::zonal_at))]
+fn zonal<'t, 'a>(
+    alloc: Global,
+    stat: Stat,
+    words: &'t [Word<'a>],
+) -> Result<(Op, &'t [Word<'a>]), ReadError>
+    ensures { Gives (λ x. (op_view x.0, texts_of x.1.now)) result (zonal_at stat (texts_of words.now)) }
+{
+    let ((of, zones), rest) = pair(alloc, b"within", words)?;
+    Ok((Op::Zonal { stat, of, zones }, rest))
+}
+
+#[tactic(auto, unfolding(crate::specs::ReadBodies::incremental_at))]
+fn incremental<'t, 'a>(
+    alloc: Global,
+    form: Form,
+    words: &'t [Word<'a>],
+) -> Result<(Op, &'t [Word<'a>]), ReadError>
+    ensures { Gives (λ x. (op_view x.0, texts_of x.1.now)) result (incremental_at form (texts_of words.now)) }
+{
+    let (of, rest) = term_after(alloc, b"of", words)?;
+    Ok((Op::Incremental { form, of }, rest))
+}
+
+/// The weights after `carrying`, where they are there.
+#[tactic(auto, unfolding(crate::specs::ReadParts::optional_at))]
+fn weights_part<'t, 'a>(
+    alloc: Global,
+    words: &'t [Word<'a>],
+) -> Result<(Option<Term>, &'t [Word<'a>]), ReadError>
+    ensures { Gives (λ x. (option_map term_view x.0, texts_of x.1.now)) result (optional_at (codes "carrying") weights_of None (texts_of words.now)) }
+{
+    if !is_next(b"carrying", words) {
+        return Ok((None, words));
+    }
+    let rest = the(b"carrying", words)?;
+    weights(alloc, rest)
+}
+
+/// The operation of a surface, with weights or without.
+fn drained(of: Term, weights: Option<Term>) -> Op
+    ensures { op_view result ≡ drainage_op (term_view of) (option_map term_view weights) }
+{
+    match weights {
+        None => Op::Direction { of },
+        Some(weights) => Op::Flow { of, weights },
+    }
+}
+
+#[tactic(auto, unfolding(crate::specs::ReadBodies::drainage_at))]
+fn drainage<'t, 'a>(alloc: Global, words: &'t [Word<'a>]) -> Result<(Op, &'t [Word<'a>]), ReadError>
+    ensures { Gives (λ x. (op_view x.0, texts_of x.1.now)) result (drainage_at (texts_of words.now)) }
+{
+    let (of, rest) = term_after(alloc, b"of", words)?;
+    let (weights, rest) = weights_part(alloc, rest)?;
+    Ok((drained(of, weights), rest))
+}
+
+/// What follows an operation's name.
+fn operation<'t, 'a>(
+    alloc: Global,
+    rows: &Rows<'_>,
+    operation: Operation,
+    words: &'t [Word<'a>],
+) -> Result<(Op, &'t [Word<'a>]), ReadError>
+    ensures { Gives (λ x. (op_view x.0, texts_of x.1.now)) result (operation_at (manner_of rows.now) operation (texts_of words.now)) }
+{
+    match operation {
+        Operation::Local(stat) => statistic(alloc, stat, words),
+        Operation::Difference => difference(alloc, words),
+        Operation::Ratio => ratio(alloc, words),
+        Operation::Rating => rating(alloc, words),
+        Operation::Focal(stat) => focal(alloc, rows, stat, words),
+        Operation::Proximity => spread(alloc, words),
+        Operation::Insularity => region(alloc, words),
+        Operation::Zonal(stat) => zonal(alloc, stat, words),
+        Operation::Incremental(form) => incremental(alloc, form, words),
+        Operation::Drainage => drainage(alloc, words),
+    }
+}
+
+#[tactic(auto, unfolding(crate::specs::ReadBodies::plain_at))]
+fn plain<'t, 'a>(
+    alloc: Global,
+    rows: &Rows<'_>,
+    named: Operation,
+    words: &'t [Word<'a>],
+) -> Result<(Written, &'t [Word<'a>]), ReadError>
+    ensures { Gives (λ x. (written_view x.0, texts_of x.1.now)) result (plain_at (manner_of rows.now) named (texts_of words.now)) }
+{
+    let (op, rest) = operation(alloc, rows, named, words)?;
+    Ok((Written::Plain(op), rest))
+}
+
+/// The terms of a call, to its end.
+#[tactic(auto, unfolding(crate::specs::ReadBodies::given_at))]
+fn given<'t, 'a>(
+    alloc: Global,
+    words: &'t [Word<'a>],
+) -> Result<(Vec<Term>, &'t [Word<'a>]), ReadError>
+    ensures { Gives (λ x. (terms_view x.0.items, texts_of x.1.now)) result (given_at (texts_of words.now)) }
+{
+    let (first, rest) = term_after(alloc, b"(", words)?;
+    let mut terms = Vec::new(alloc);
+    terms.push(first)?;
+    let (terms, rest) = further_terms(alloc, b",", 7, terms, rest)?;
+    let rest = the(b")", rest)?;
+    Ok((terms, rest))
+}
+
+#[tactic(auto, unfolding(crate::specs::ReadBodies::call_at))]
+fn call<'t, 'a>(
+    alloc: Global,
+    procedure: Name,
+    words: &'t [Word<'a>],
+) -> Result<(Written, &'t [Word<'a>]), ReadError>
+    ensures { Gives (λ x. (written_view x.0, texts_of x.1.now)) result (call_at procedure (texts_of words.now)) }
+{
+    let (given, rest) = given(alloc, words)?;
+    Ok((Written::Call { procedure, given }, rest))
+}
+
+/// What follows a word that is no operation.
+fn called<'t, 'a>(
+    alloc: Global,
+    rows: &Rows<'_>,
+    word: &[u8],
+    words: &'t [Word<'a>],
+    rest: &'t [Word<'a>],
+) -> Result<(Written, &'t [Word<'a>]), ReadError>
+    requires { length words.now ≡ suc (length rest.now) }
+    ensures { Gives (λ x. (written_view x.0, texts_of x.1.now)) result (called_at (call_of (manner_of rows.now) word.now) (texts_of rest.now)) }
+{
+    if !rows.calls {
+        return Err(ReadError::Fault(misfit(false, words)));
+    }
+    match Name::plain(alloc, word) {
+        Ok(name) => call(alloc, name, rest),
+        Err(NameRefusal::Form) => Err(ReadError::Fault(misfit(false, words))),
+        Err(NameRefusal::NoMemory) => Err(ReadError::NoMemory),
+    }
+}
+
+/// An operation or a call.
+#[tactic(auto, unfolding(crate::specs::ReadBodies::body_at))]
+pub fn body<'t, 'a>(
+    alloc: Global,
+    rows: &Rows<'_>,
+    words: &'t [Word<'a>],
+) -> Result<(Written, &'t [Word<'a>]), ReadError>
+    ensures { Gives (λ x. (written_view x.0, texts_of x.1.now)) result (body_at (manner_of rows.now) (texts_of words.now)) }
+{
+    if is_unknown_operation(rows, words) {
         return Err(ReadError::Fault(Fault {
             kind: Kind::Operation,
             left: words.len(),
@@ -190,12 +507,9 @@ pub fn body<'t, 'a>(alloc: Global, words: &'t [Word<'a>]) -> Result<(Op, &'t [Wo
     }
     match words {
         [] => Err(ReadError::Fault(misfit(false, words))),
-        [first, rest @ ..] => match operation_named(first.text) {
-            Some(Operation::Local(stat)) => statistic(alloc, stat, rest),
-            Some(Operation::Difference) => difference(alloc, rest),
-            Some(Operation::Ratio) => ratio(alloc, rest),
-            Some(Operation::Rating) => rating(alloc, rest),
-            None => Err(ReadError::Fault(misfit(false, words))),
+        [first, rest @ ..] => match operation_named(rows, first.text) {
+            Some(named) => plain(alloc, rows, named, rest),
+            None => called(alloc, rows, first.text, words, rest),
         },
     }
 }

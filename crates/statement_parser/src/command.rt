@@ -1,7 +1,10 @@
 //! The words that lines begin with, but for names.
 
 ghost use Rattle.std.specs.Prelude.{◌≡◌, find, bytes_eq};
-ghost use Rattle.statement_parser.specs.Commands.{command_text, command_named as command_of_name};
+ghost use Rattle.statement_parser.specs.Commands.{command_text, has_command, find_command, command_named as command_of_name};
+ghost use Rattle.statement_parser.specs.Views.{manner_of};
+
+use crate::rows::Rows;
 
 /// A line that begins with a word of its own.
 #[derive(Clone, Copy, Debug, PartialEq, Eq)]
@@ -11,17 +14,25 @@ pub enum Command {
     Drop,
     Value,
     Grid,
+    Show,
+    Legend,
+    Table,
+    Stamps,
     List,
     Quit,
 }
 
 /// All commands.
-const COMMANDS: [Command; 7] = [
+const COMMANDS: [Command; 11] = [
     Command::Paint,
     Command::New,
     Command::Drop,
     Command::Value,
     Command::Grid,
+    Command::Show,
+    Command::Legend,
+    Command::Table,
+    Command::Stamps,
     Command::List,
     Command::Quit,
 ];
@@ -36,6 +47,10 @@ fn command_word(command: Command) -> &'static [u8]
         Command::Drop => b"drop",
         Command::Value => b"value",
         Command::Grid => b"grid",
+        Command::Show => b"show",
+        Command::Legend => b"legend",
+        Command::Table => b"table",
+        Command::Stamps => b"stamps",
         Command::List => b"list",
         Command::Quit => b"quit",
     }
@@ -51,10 +66,30 @@ fn named_among(commands: &[Command], word: &[u8]) -> Option<Command>
         .find(|command| command_word(*command) == word)
 }
 
-/// The command of a word.
-#[tactic(auto, unfolding(crate::specs::Commands::command_named))]
-pub fn command_named(word: &[u8]) -> Option<Command>
-    ensures { result ≡ command_of_name word.now }
+/// The command of a word, whether it is there or not.
+#[tactic(auto, unfolding(crate::specs::Commands::find_command))]
+fn known_command(word: &[u8]) -> Option<Command>
+    ensures { result ≡ find_command word.now }
 {
     named_among(&COMMANDS, word)
+}
+
+/// Whether one of these commands has this word.
+fn is_among(commands: &[Command], word: &[u8]) -> bool
+    ensures { result ≡ has_command commands.now word.now }
+{
+    commands
+        .iter()
+        .any(|command| command_word(*command) == word)
+}
+
+/// The command of a word, where it is there.
+#[tactic(auto, unfolding(crate::specs::Commands::command_named))]
+pub fn command_named(rows: &Rows<'_>, word: &[u8]) -> Option<Command>
+    ensures { result ≡ command_of_name (manner_of rows.now) word.now }
+{
+    if !is_among(rows.commands, word) {
+        return None;
+    }
+    known_command(word)
 }

@@ -3,7 +3,7 @@
 ghost use Rattle.map_words.specs.Bytes.{Text};
 ghost use Rattle.statement_parser.specs.LineOf.{IsLineOf};
 ghost use Rattle.statement_parser.specs.Lines.{Manner};
-ghost use Rattle.statement_parser.specs.Rows.{Rows};
+ghost use Rattle.statement_parser.specs.Worked.{Worked};
 ghost use Rattle.statement_parser.specs.Texts.{IsSettledText};
 
 /// All bytes are either one line, or refused in one way.
@@ -18,5 +18,5 @@ pub fn lines_are_read()
 
 /// Worked lines are what the definitions make of them.
 pub fn worked_lines()
-    ensures { Rows }
+    ensures { Worked }
 {}

@@ -1,6 +1,7 @@
 //! Lines of the map language: what they are, how they are read, and their one canonical text.
 //!
-//! [`parse_line`] gives the [`Line`] that a line of bytes is, or the first fault.
+//! [`parse_line`] gives the [`Line`] that a line of bytes is, or the first fault. The grammar is that of the whole language;
+//! [`Rows`] tells which of its operations and commands are there, and a line of any other is refused.
 #![tactic(auto)]
 
 mod bodies;
@@ -15,10 +16,14 @@ mod parsing;
 mod places;
 mod printing;
 mod refusal;
+mod rows;
 
+pub use command::Command;
 pub use laws::{lines_are_read, lines_are_settled, worked_lines};
 pub use line::{Line, LineEdit, Request, Written};
 pub use line_text::parse_line;
-pub use op::{Op, Term};
+pub use op::{Form, Op, Reach, Term};
+pub use operation::Operation;
 pub use printing::print_written;
 pub use refusal::LineRefusal;
+pub use rows::Rows;

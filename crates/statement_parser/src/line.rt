@@ -1,6 +1,6 @@
 //! Lines, as reading gives them.
 
-use crate::op::Op;
+use crate::op::{Op, Term};
 use layer_tiles::Cell;
 use map_words::Name;
 
@@ -8,6 +8,8 @@ use map_words::Name;
 #[derive(Debug, Drop)]
 pub enum Written {
     Plain(Op),
+    /// The terms that are given to a procedure, in order.
+    Call { procedure: Name, given: Vec<Term> },
 }
 
 /// A line that changes the map. Rows and columns count from 1.
@@ -40,6 +42,13 @@ pub enum LineEdit {
 pub enum Request {
     Value { name: Name, r: u32, c: u32 },
     Grid(Name),
+    /// The layer's cells as signs.
+    Show(Name),
+    /// The layer's values with their labels.
+    Legend(Name),
+    /// The values of a layer by the zones of another.
+    Table { zones: Name, values: Name },
+    Stamps(Name),
     List,
 }
 

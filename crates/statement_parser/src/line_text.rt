@@ -5,17 +5,18 @@ ghost use Rattle.map_words.specs.Bytes.{first_bad, is_silent as is_silent_text};
 ghost use Rattle.map_words.specs.Words.{words_of};
 ghost use Rattle.map_words.specs.Cut.{placed_all};
 ghost use Rattle.statement_parser.specs.LineOf.{line_of, IsLineRead};
-ghost use Rattle.statement_parser.specs.Lines.{first_language};
 ghost use Rattle.statement_parser.specs.Texts.{is_short, refusal_of};
 ghost use Rattle.statement_parser.specs.Columns.{first_column as first_column_of, column_among};
 ghost use Rattle.statement_parser.specs.Formed.{IsFormed};
+ghost use Rattle.statement_parser.specs.There.{IsThere};
 ghost use Rattle.statement_parser.specs.Parsed.{IsParsed, refusal_view};
-ghost use Rattle.statement_parser.specs.Views.{line_view};
+ghost use Rattle.statement_parser.specs.Views.{line_view, manner_of};
 
 use crate::fault::ReadError;
 use crate::line::Line;
 use crate::parsing::parse_words;
 use crate::refusal::LineRefusal;
+use crate::rows::Rows;
 use grammar_core::{Fault, Kind};
 use map_words::{Word, WordRefusal, is_silent, words};
 use std::alloc::Global;
@@ -57,14 +58,19 @@ fn refusal(len: usize, words: &[Word<'_>], fault: Fault) -> LineRefusal
 }
 
 /// The line that these words of it are.
-fn of_words(alloc: Global, line: &[u8], words: &[Word<'_>]) -> Result<Line, LineRefusal>
+fn of_words(
+    alloc: Global,
+    rows: &Rows<'_>,
+    line: &[u8],
+    words: &[Word<'_>],
+) -> Result<Line, LineRefusal>
     requires short { is_short line.now ≡ true }
     requires spoken { is_silent_text line.now ≡ false }
     requires good { first_bad line.now ≡ None }
     requires words { placed_all words.now ≡ words_of line.now }
-    ensures { IsParsed first_language line_view line.now result }
+    ensures { IsParsed (manner_of rows.now) line_view line.now result }
 {
-    match parse_words(alloc, words) {
+    match parse_words(alloc, rows, words) {
         Ok(read) => Ok(read),
         Err(ReadError::NoMemory) => Err(LineRefusal::NoMemory),
         Err(ReadError::Fault(fault)) => Err(refusal(line.len(), words, fault)),
@@ -72,8 +78,8 @@ fn of_words(alloc: Global, line: &[u8], words: &[Word<'_>]) -> Result<Line, Line
 }
 
 /// The line that bytes are.
-fn read_line(alloc: Global, line: &[u8]) -> Result<Line, LineRefusal>
-    ensures { IsParsed first_language line_view line.now result }
+fn read_line(alloc: Global, rows: &Rows<'_>, line: &[u8]) -> Result<Line, LineRefusal>
+    ensures { IsParsed (manner_of rows.now) line_view line.now result }
 {
     if line.len() > LONGEST {
         return Err(LineRefusal::Long(line.len() as u64));
@@ -82,17 +88,18 @@ fn read_line(alloc: Global, line: &[u8]) -> Result<Line, LineRefusal>
         return Ok(Line::Blank);
     }
     match words(alloc, line) {
-        Ok(words) => of_words(alloc, line, words.as_slice()),
+        Ok(words) => of_words(alloc, rows, line, words.as_slice()),
         Err(WordRefusal::Byte(at)) => Err(LineRefusal::Syntax(at)),
         Err(WordRefusal::NoMemory) => Err(LineRefusal::NoMemory),
     }
 }
 
-/// The line that bytes are, without their line end, or their first fault.
-pub fn parse_line(alloc: Global, line: &[u8]) -> Result<Line, LineRefusal>
-    ensures parsed { IsParsed first_language line_view line.now result }
-    ensures read { IsLineRead (line_of first_language line.now) line_view result }
+/// The line that bytes are, without their line end, or their first fault; by the rows that are there.
+pub fn parse_line(alloc: Global, rows: &Rows<'_>, line: &[u8]) -> Result<Line, LineRefusal>
+    ensures parsed { IsParsed (manner_of rows.now) line_view line.now result }
+    ensures read { IsLineRead (line_of (manner_of rows.now) line.now) line_view result }
     ensures formed { IfOk result (λ x. IsFormed (line_view x)) }
+    ensures there { IfOk result (λ x. IsThere (manner_of rows.now) (line_view x)) }
 {
-    read_line(alloc, line)
+    read_line(alloc, rows, line)
 }

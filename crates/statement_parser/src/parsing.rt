@@ -1,29 +1,29 @@
 //! Reading lines.
 
 ghost use Rattle.std.specs.Prelude.{◌≡◌};
-ghost use Rattle.statement_parser.specs.Views.{texts_of, line_view};
+ghost use Rattle.statement_parser.specs.Views.{texts_of, line_view, manner_of};
 ghost use Rattle.statement_parser.specs.Gives.{Gives};
-ghost use Rattle.statement_parser.specs.Lines.{first_language};
+ghost use Rattle.statement_parser.specs.Lines.{ask, ask_grid, ask_show, ask_legend, ask_stamps};
 ghost use Rattle.statement_parser.specs.Parsed.{IsWordsRead};
-ghost use Rattle.statement_parser.specs.ReadLine.{define_at, line_at, quit_at};
-ghost use Rattle.statement_parser.specs.ReadCommands.{corners_at, paint_at, new_at, drop_at, value_at, grid_at, list_at};
+ghost use Rattle.statement_parser.specs.ReadLine.{define_at, command_at, line_at, quit_at};
+ghost use Rattle.statement_parser.specs.ReadCommands.{corners_at, paint_at, new_at, drop_at, value_at, any_line_at, table_at, list_at};
 
 use crate::bodies::body;
 use crate::command::{Command, command_named};
 use crate::fault::ReadError;
-use crate::line::{Line, LineEdit, Request, Written};
+use crate::line::{Line, LineEdit, Request};
 use crate::places::{any, cell, end, misfit, name, side, the};
+use crate::rows::Rows;
 use map_words::{Name, NameRefusal, Word};
 use std::alloc::Global;
 
 #[tactic(auto, unfolding(crate::specs::ReadLine::define_at))]
-fn define(alloc: Global, name: Name, words: &[Word<'_>]) -> Result<Line, ReadError>
-    ensures { Gives line_view result (define_at name (texts_of words.now)) }
+fn define(alloc: Global, rows: &Rows<'_>, name: Name, words: &[Word<'_>]) -> Result<Line, ReadError>
+    ensures { Gives line_view result (define_at (manner_of rows.now) name (texts_of words.now)) }
 {
     let rest = the(b"=", words)?;
-    let (op, rest) = body(alloc, rest)?;
+    let (written, rest) = body(alloc, rows, rest)?;
     end(rest)?;
-    let written = Written::Plain(op);
     Ok(Line::Edit(LineEdit::Define { name, written }))
 }
 
@@ -103,13 +103,50 @@ fn value(alloc: Global, words: &[Word<'_>]) -> Result<Line, ReadError>
     Ok(Line::Ask(Request::Value { name, r, c }))
 }
 
-#[tactic(auto, unfolding(crate::specs::ReadCommands::grid_at))]
+#[tactic(auto, unfolding(crate::specs::ReadCommands::any_line_at))]
 fn grid(alloc: Global, words: &[Word<'_>]) -> Result<Line, ReadError>
-    ensures { Gives line_view result (grid_at (texts_of words.now)) }
+    ensures { Gives line_view result (any_line_at (λ n. ask (ask_grid n)) (texts_of words.now)) }
 {
     let (name, rest) = any(alloc, words)?;
     end(rest)?;
     Ok(Line::Ask(Request::Grid(name)))
+}
+
+#[tactic(auto, unfolding(crate::specs::ReadCommands::any_line_at))]
+fn show(alloc: Global, words: &[Word<'_>]) -> Result<Line, ReadError>
+    ensures { Gives line_view result (any_line_at (λ n. ask (ask_show n)) (texts_of words.now)) }
+{
+    let (name, rest) = any(alloc, words)?;
+    end(rest)?;
+    Ok(Line::Ask(Request::Show(name)))
+}
+
+#[tactic(auto, unfolding(crate::specs::ReadCommands::any_line_at))]
+fn legend(alloc: Global, words: &[Word<'_>]) -> Result<Line, ReadError>
+    ensures { Gives line_view result (any_line_at (λ n. ask (ask_legend n)) (texts_of words.now)) }
+{
+    let (name, rest) = any(alloc, words)?;
+    end(rest)?;
+    Ok(Line::Ask(Request::Legend(name)))
+}
+
+#[tactic(auto, unfolding(crate::specs::ReadCommands::any_line_at))]
+fn stamps(alloc: Global, words: &[Word<'_>]) -> Result<Line, ReadError>
+    ensures { Gives line_view result (any_line_at (λ n. ask (ask_stamps n)) (texts_of words.now)) }
+{
+    let (name, rest) = any(alloc, words)?;
+    end(rest)?;
+    Ok(Line::Ask(Request::Stamps(name)))
+}
+
+#[tactic(auto, unfolding(crate::specs::ReadCommands::table_at))]
+fn table(alloc: Global, words: &[Word<'_>]) -> Result<Line, ReadError>
+    ensures { Gives line_view result (table_at (texts_of words.now)) }
+{
+    let (zones, rest) = any(alloc, words)?;
+    let (values, rest) = any(alloc, rest)?;
+    end(rest)?;
+    Ok(Line::Ask(Request::Table { zones, values }))
 }
 
 #[tactic(auto, unfolding(crate::specs::ReadCommands::list_at))]
@@ -128,23 +165,36 @@ fn quit(words: &[Word<'_>]) -> Result<Line, ReadError>
     Ok(Line::Quit)
 }
 
+/// What follows a command's word.
+fn commanded(alloc: Global, command: Command, words: &[Word<'_>]) -> Result<Line, ReadError>
+    ensures { Gives line_view result (command_at command (texts_of words.now)) }
+{
+    match command {
+        Command::Paint => paint(alloc, words),
+        Command::New => new_layer(alloc, words),
+        Command::Drop => drop_line(alloc, words),
+        Command::Value => value(alloc, words),
+        Command::Grid => grid(alloc, words),
+        Command::Show => show(alloc, words),
+        Command::Legend => legend(alloc, words),
+        Command::Table => table(alloc, words),
+        Command::Stamps => stamps(alloc, words),
+        Command::List => list(words),
+        Command::Quit => quit(words),
+    }
+}
+
 /// A line by its words.
 #[tactic(auto, unfolding(crate::specs::ReadLine::line_at))]
-fn line(alloc: Global, words: &[Word<'_>]) -> Result<Line, ReadError>
-    ensures { Gives line_view result (line_at (texts_of words.now)) }
+fn line(alloc: Global, rows: &Rows<'_>, words: &[Word<'_>]) -> Result<Line, ReadError>
+    ensures { Gives line_view result (line_at (manner_of rows.now) (texts_of words.now)) }
 {
     match words {
         [] => Ok(Line::Blank),
-        [first, rest @ ..] => match command_named(first.text) {
-            Some(Command::Paint) => paint(alloc, rest),
-            Some(Command::New) => new_layer(alloc, rest),
-            Some(Command::Drop) => drop_line(alloc, rest),
-            Some(Command::Value) => value(alloc, rest),
-            Some(Command::Grid) => grid(alloc, rest),
-            Some(Command::List) => list(rest),
-            Some(Command::Quit) => quit(rest),
+        [first, rest @ ..] => match command_named(rows, first.text) {
+            Some(command) => commanded(alloc, command, rest),
             None => match Name::plain(alloc, first.text) {
-                Ok(name) => define(alloc, name, rest),
+                Ok(name) => define(alloc, rows, name, rest),
                 Err(NameRefusal::Form) => Err(ReadError::Fault(misfit(false, words))),
                 Err(NameRefusal::NoMemory) => Err(ReadError::NoMemory),
             },
@@ -153,8 +203,8 @@ fn line(alloc: Global, words: &[Word<'_>]) -> Result<Line, ReadError>
 }
 
 /// The line that words are, or their first fault.
-pub fn parse_words(alloc: Global, words: &[Word<'_>]) -> Result<Line, ReadError>
-    ensures { IsWordsRead first_language line_view (texts_of words.now) result }
+pub fn parse_words(alloc: Global, rows: &Rows<'_>, words: &[Word<'_>]) -> Result<Line, ReadError>
+    ensures { IsWordsRead (manner_of rows.now) line_view (texts_of words.now) result }
 {
-    line(alloc, words)
+    line(alloc, rows, words)
 }

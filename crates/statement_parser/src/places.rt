@@ -1,10 +1,10 @@
 //! Readers of one word.
 
-ghost use Rattle.std.specs.Prelude.{◌≡◌, IsTrue, length, true, false, Some};
+ghost use Rattle.std.specs.Prelude.{◌≡◌, IsTrue, length, nat_abs, true, false, Some, option_map};
 ghost use Rattle.map_nums.specs.Numbers.{is_value};
 ghost use Rattle.grammar_core.specs.Readers.{one_at, end_at, starts, fault_kind};
 ghost use Rattle.grammar_core.specs.Refusals.{is_unknown};
-ghost use Rattle.statement_parser.specs.Views.{texts_of, term_view};
+ghost use Rattle.statement_parser.specs.Views.{texts_of, term_view, manner_of};
 ghost use Rattle.statement_parser.specs.Gives.{Gives};
 ghost use Rattle.statement_parser.specs.Places as place;
 ghost use Rattle.std.specs.Prelude.{◌||◌, IfSome};
@@ -14,6 +14,7 @@ ghost use Rattle.map_words.specs.Named.{IsNamed};
 use crate::fault::ReadError;
 use crate::op::Term;
 use crate::operation::operation_named;
+use crate::rows::Rows;
 use grammar_core::{Fault, Kind};
 use layer_tiles::Cell;
 use map_nums::{VMAX, Value};
@@ -22,7 +23,7 @@ use std::alloc::Global;
 
 /// The fault of a word that its place doesn't take; where a number is due, a number is told from another word.
 pub fn misfit(due: bool, words: &[Word<'_>]) -> Fault
-    ensures { result ≡ record { kind = fault_kind place.tests due (texts_of words.now); left = length words.now } }
+    ensures { result ≡ record { kind = fault_kind place.reading due (texts_of words.now); left = length words.now } }
 {
     let kind = match words {
         [first, ..] if due && is_number(first.text) => Kind::Number,
@@ -36,7 +37,7 @@ pub fn misfit(due: bool, words: &[Word<'_>]) -> Fault
 
 /// This very word.
 pub fn the<'t, 'a>(word: &[u8], words: &'t [Word<'a>]) -> Result<&'t [Word<'a>], ReadError>
-    ensures { Gives (λ rest. (tt, texts_of rest.now)) result (one_at place.tests (place.the word.now) false (texts_of words.now)) }
+    ensures { Gives (λ rest. (tt, texts_of rest.now)) result (one_at place.reading (place.the word.now) false (texts_of words.now)) }
 {
     match words {
         [first, rest @ ..] if first.text == word => Ok(rest),
@@ -59,7 +60,7 @@ pub fn name<'t, 'a>(
     alloc: Global,
     words: &'t [Word<'a>],
 ) -> Result<(Name, &'t [Word<'a>]), ReadError>
-    ensures { Gives (λ x. (x.0, texts_of x.1.now)) result (one_at place.tests place.name_of false (texts_of words.now)) }
+    ensures { Gives (λ x. (x.0, texts_of x.1.now)) result (one_at place.reading place.name_of false (texts_of words.now)) }
 {
     match words {
         [] => Err(ReadError::Fault(misfit(false, words))),
@@ -87,7 +88,7 @@ pub fn any<'t, 'a>(
     alloc: Global,
     words: &'t [Word<'a>],
 ) -> Result<(Name, &'t [Word<'a>]), ReadError>
-    ensures { Gives (λ x. (x.0, texts_of x.1.now)) result (one_at place.tests place.any_of false (texts_of words.now)) }
+    ensures { Gives (λ x. (x.0, texts_of x.1.now)) result (one_at place.reading place.any_of false (texts_of words.now)) }
 {
     match words {
         [] => Err(ReadError::Fault(misfit(false, words))),
@@ -118,6 +119,33 @@ fn side_word(text: &[u8]) -> Option<u32>
     }
 }
 
+fn radius_word(text: &[u8]) -> Option<u32>
+    ensures { option_map Some result ≡ place.disc_of text.now }
+{
+    match number_in(1, 32, text) {
+        None => None,
+        Some(radius) => Some(radius as u32),
+    }
+}
+
+fn reach_word(text: &[u8]) -> Option<u32>
+    ensures { result ≡ place.reach_of text.now }
+{
+    match number_in(1, 64, text) {
+        None => None,
+        Some(reach) => Some(reach as u32),
+    }
+}
+
+fn limit_word(text: &[u8]) -> Option<Value>
+    ensures { option_map nat_abs result ≡ place.limit_of text.now }
+{
+    match number_in(0, VMAX, text) {
+        None => None,
+        Some(limit) => Some(limit as Value),
+    }
+}
+
 fn cell_word(text: &[u8]) -> Option<Cell>
     ensures { result ≡ place.cell_of text.now }
 {
@@ -132,7 +160,7 @@ fn cell_word(text: &[u8]) -> Option<Cell>
 
 /// A number that a cell may hold.
 pub fn value<'t, 'a>(words: &'t [Word<'a>]) -> Result<(Value, &'t [Word<'a>]), ReadError>
-    ensures { Gives (λ x. (x.0, texts_of x.1.now)) result (one_at place.tests place.value_of true (texts_of words.now)) }
+    ensures { Gives (λ x. (x.0, texts_of x.1.now)) result (one_at place.reading place.value_of true (texts_of words.now)) }
 {
     match words {
         [] => Err(ReadError::Fault(misfit(true, words))),
@@ -145,7 +173,7 @@ pub fn value<'t, 'a>(words: &'t [Word<'a>]) -> Result<(Value, &'t [Word<'a>]), R
 
 /// A row or a column.
 pub fn side<'t, 'a>(words: &'t [Word<'a>]) -> Result<(u32, &'t [Word<'a>]), ReadError>
-    ensures { Gives (λ x. (x.0, texts_of x.1.now)) result (one_at place.tests place.side_of true (texts_of words.now)) }
+    ensures { Gives (λ x. (x.0, texts_of x.1.now)) result (one_at place.reading place.side_of true (texts_of words.now)) }
 {
     match words {
         [] => Err(ReadError::Fault(misfit(true, words))),
@@ -156,9 +184,48 @@ pub fn side<'t, 'a>(words: &'t [Word<'a>]) -> Result<(u32, &'t [Word<'a>]), Read
     }
 }
 
+/// The radius of a disc, in cells.
+pub fn radius<'t, 'a>(words: &'t [Word<'a>]) -> Result<(u32, &'t [Word<'a>]), ReadError>
+    ensures { Gives (λ x. (Some x.0, texts_of x.1.now)) result (one_at place.reading place.disc_of true (texts_of words.now)) }
+{
+    match words {
+        [] => Err(ReadError::Fault(misfit(true, words))),
+        [first, rest @ ..] => match radius_word(first.text) {
+            Some(radius) => Ok((radius, rest)),
+            None => Err(ReadError::Fault(misfit(true, words))),
+        },
+    }
+}
+
+/// How many cells sight reaches.
+pub fn reach<'t, 'a>(words: &'t [Word<'a>]) -> Result<(u32, &'t [Word<'a>]), ReadError>
+    ensures { Gives (λ x. (x.0, texts_of x.1.now)) result (one_at place.reading place.reach_of true (texts_of words.now)) }
+{
+    match words {
+        [] => Err(ReadError::Fault(misfit(true, words))),
+        [first, rest @ ..] => match reach_word(first.text) {
+            Some(reach) => Ok((reach, rest)),
+            None => Err(ReadError::Fault(misfit(true, words))),
+        },
+    }
+}
+
+/// The greatest cost of a spread.
+pub fn limit<'t, 'a>(words: &'t [Word<'a>]) -> Result<(Value, &'t [Word<'a>]), ReadError>
+    ensures { Gives (λ x. (nat_abs x.0, texts_of x.1.now)) result (one_at place.reading place.limit_of true (texts_of words.now)) }
+{
+    match words {
+        [] => Err(ReadError::Fault(misfit(true, words))),
+        [first, rest @ ..] => match limit_word(first.text) {
+            Some(limit) => Ok((limit, rest)),
+            None => Err(ReadError::Fault(misfit(true, words))),
+        },
+    }
+}
+
 /// A number that a cell may hold, or null.
 pub fn cell<'t, 'a>(words: &'t [Word<'a>]) -> Result<(Cell, &'t [Word<'a>]), ReadError>
-    ensures { Gives (λ x. (x.0, texts_of x.1.now)) result (one_at place.tests place.cell_of true (texts_of words.now)) }
+    ensures { Gives (λ x. (x.0, texts_of x.1.now)) result (one_at place.reading place.cell_of true (texts_of words.now)) }
 {
     match words {
         [] => Err(ReadError::Fault(misfit(true, words))),
@@ -174,7 +241,7 @@ pub fn term<'t, 'a>(
     alloc: Global,
     words: &'t [Word<'a>],
 ) -> Result<(Term, &'t [Word<'a>]), ReadError>
-    ensures { Gives (λ x. (term_view x.0, texts_of x.1.now)) result (one_at place.tests place.term_of true (texts_of words.now)) }
+    ensures { Gives (λ x. (term_view x.0, texts_of x.1.now)) result (one_at place.reading place.term_of true (texts_of words.now)) }
 {
     match words {
         [] => Err(ReadError::Fault(misfit(true, words))),
@@ -182,6 +249,26 @@ pub fn term<'t, 'a>(
             Ok(name) => Ok((Term::Layer(name), rest)),
             Err(NameRefusal::Form) => match value_word(first.text) {
                 Some(value) => Ok((Term::Number(value), rest)),
+                None => Err(ReadError::Fault(misfit(true, words))),
+            },
+            Err(NameRefusal::NoMemory) => Err(ReadError::NoMemory),
+        },
+    }
+}
+
+/// The weights of a flow.
+pub fn weights<'t, 'a>(
+    alloc: Global,
+    words: &'t [Word<'a>],
+) -> Result<(Option<Term>, &'t [Word<'a>]), ReadError>
+    ensures { Gives (λ x. (option_map term_view x.0, texts_of x.1.now)) result (one_at place.reading place.weights_of true (texts_of words.now)) }
+{
+    match words {
+        [] => Err(ReadError::Fault(misfit(true, words))),
+        [first, rest @ ..] => match Name::plain(alloc, first.text) {
+            Ok(name) => Ok((Some(Term::Layer(name)), rest)),
+            Err(NameRefusal::Form) => match value_word(first.text) {
+                Some(value) => Ok((Some(Term::Number(value)), rest)),
                 None => Err(ReadError::Fault(misfit(true, words))),
             },
             Err(NameRefusal::NoMemory) => Err(ReadError::NoMemory),
@@ -199,24 +286,24 @@ pub fn end(words: &[Word<'_>]) -> Result<(), ReadError>
     }
 }
 
-fn is_stranger(text: &[u8]) -> bool
-    ensures { result ≡ place.tests.is_stranger text.now }
+fn is_stranger(rows: &Rows<'_>, text: &[u8]) -> bool
+    ensures { result ≡ (place.tests (manner_of rows.now)).is_stranger text.now }
 {
     if !has_name_form(text) {
         return false;
     }
-    operation_named(text).is_none()
+    operation_named(rows, text).is_none()
 }
 
 /// Whether a word follows that has a name's form, is no operation and isn't called.
-pub fn is_unknown_operation(words: &[Word<'_>]) -> bool
-    ensures { result ≡ is_unknown place.tests (texts_of words.now) }
+pub fn is_unknown_operation(rows: &Rows<'_>, words: &[Word<'_>]) -> bool
+    ensures { result ≡ is_unknown (place.tests (manner_of rows.now)) (texts_of words.now) }
 {
     match words {
         [] => false,
-        [first] => is_stranger(first.text),
+        [first] => is_stranger(rows, first.text),
         [first, second, ..] => {
-            if !is_stranger(first.text) {
+            if !is_stranger(rows, first.text) {
                 return false;
             }
             second.text != b"(".as_slice()

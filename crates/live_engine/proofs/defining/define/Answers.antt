@@ -27,7 +27,7 @@ returns-then-statements_with-gt-MOST_STATEMENTS g c =
     record {
       accepts = (
         accept_err (seen_in old) (edits.define n w) (edits.beyond edits.statements)
-            (define_many old n c.args.written c.requires.kept other c.statements_with.result (count_defined c.statements_with.result (entries_in old) n c.args.written c.statements_with.ensures) c.if-statements_with-gt-MOST_STATEMENTS.true),
+            (define_many old n c.args.written c.requires.plain c.requires.formed c.requires.kept other c.statements_with.result (count_defined c.statements_with.result (entries_in old) n c.args.written c.requires.formed c.statements_with.ensures) c.if-statements_with-gt-MOST_STATEMENTS.true),
         refl,
       );
       kept = c.requires.kept;
@@ -37,7 +37,7 @@ returns-then-statements_with-gt-MOST_STATEMENTS g c =
 pub with_statement-requires : goal.with_statement-requires
 with_statement-requires g c =
     let old = c.args.held.now in
-    groups_few old c.args.name c.args.written c.requires.kept (other_from (find_def (entries_in old) c.args.name) c.kind_of.result c.kind_of.ensures c.in_default.not-Source)
+    groups_few old c.args.name c.args.written c.requires.plain c.requires.formed c.requires.kept (other_from (find_def (entries_in old) c.args.name) c.kind_of.result c.kind_of.ensures c.in_default.not-Source)
 
 pub returns-in-Err-Cycle : goal.returns-in-Err-Cycle
 returns-in-Err-Cycle g c =
@@ -49,8 +49,8 @@ returns-in-Err-Cycle g c =
     record {
       accepts = (
         accept_err (seen_in old) (edits.define n w) (edits.cycle n)
-            (define_cycle old n c.args.written c.requires.kept other c.statements_with.result (count_defined c.statements_with.result (entries_in old) n c.args.written c.statements_with.ensures) c.if-statements_with-gt-MOST_STATEMENTS.false
-            (looped_with old n c.args.written c.requires.kept other true looped)),
+            (define_cycle old n c.args.written c.requires.plain c.requires.formed c.requires.kept other c.statements_with.result (count_defined c.statements_with.result (entries_in old) n c.args.written c.requires.formed c.statements_with.ensures) c.if-statements_with-gt-MOST_STATEMENTS.false
+            (looped_with old n c.args.written c.requires.plain c.requires.formed c.requires.kept other true looped)),
         refl,
       );
       kept = c.requires.kept;
@@ -67,9 +67,9 @@ evaluated-requires g c =
     record {
       kept = c.requires.kept;
       shift = (c.requires.plain, c.requires.formed);
-      graph = put.0 ∙ groups_with old n c.args.written c.requires.kept other;
-      lawful = lawful_with old n c.args.written c.requires.kept other c.statements_with.result (count_defined c.statements_with.result (entries_in old) n c.args.written c.statements_with.ensures) c.if-statements_with-gt-MOST_STATEMENTS.false
-          (looped_with old n c.args.written c.requires.kept other false put.1);
+      graph = put.0 ∙ groups_with old n c.args.written c.requires.plain c.requires.formed c.requires.kept other;
+      lawful = lawful_with old n c.args.written c.requires.plain c.requires.formed c.requires.kept other c.statements_with.result (count_defined c.statements_with.result (entries_in old) n c.args.written c.requires.formed c.statements_with.ensures) c.if-statements_with-gt-MOST_STATEMENTS.false
+          (looped_with old n c.args.written c.requires.plain c.requires.formed c.requires.kept other false put.1);
     }
 
 pub returns-in-Ok-evaluated : goal.returns-in-Ok-evaluated
@@ -79,17 +79,17 @@ returns-in-Ok-evaluated g c =
     let w = written_view c.args.written in
     let other : OtherThanSource (find_def (entries_in old) n) = other_from (find_def (entries_in old) n) c.kind_of.result c.kind_of.ensures c.in_default.not-Source in
     let put = subst (IsGraphWith old.graph n (written_node n w ∷ [])) c.in-Ok.is c.with_statement.ensures in
-    let count = count_defined c.statements_with.result (entries_in old) n c.args.written c.statements_with.ensures in
+    let count = count_defined c.statements_with.result (entries_in old) n c.args.written c.requires.formed c.statements_with.ensures in
     let few = c.if-statements_with-gt-MOST_STATEMENTS.false in
-    let alone = looped_with old n c.args.written c.requires.kept other false put.1 in
+    let alone = looped_with old n c.args.written c.requires.plain c.requires.formed c.requires.kept other false put.1 in
     let items = insert_entry bytes_eq old.names.entries n (Statement c.args.written) in
-    let es = with_it old n c.args.written c.requires.kept other in
+    let es = with_it old n c.args.written c.requires.plain c.requires.formed c.requires.kept other in
     record {
       accepts = accepts_after old c.place.new.held items es c.in-Ok.graph c.in-Ok-evaluated.values.items c.place.result c.place.ensures (entries_insert old.names.entries n (Statement c.args.written)) c.in-Ok-evaluated.ensures.values
-          (edits.define n w) (define_puts_it old n c.args.written c.requires.kept other c.statements_with.result count few alone);
+          (edits.define n w) (define_puts_it old n c.args.written c.requires.plain c.requires.formed c.requires.kept other c.statements_with.result count few alone);
       kept = kept_after old c.place.new.held items es c.in-Ok.graph c.in-Ok-evaluated.values.items c.place.result c.place.ensures (entries_insert old.names.entries n (Statement c.args.written)) c.in-Ok-evaluated.ensures.values
           c.in-Ok-evaluated.ensures.stamped (held_insert old.extent old.names.entries n c.requires.kept.held (Statement c.args.written) c.requires.plain c.requires.formed)
-          (lawful_with old n c.args.written c.requires.kept other c.statements_with.result count few alone) (put.0 ∙ groups_with old n c.args.written c.requires.kept other);
+          (lawful_with old n c.args.written c.requires.plain c.requires.formed c.requires.kept other c.statements_with.result count few alone) (put.0 ∙ groups_with old n c.args.written c.requires.plain c.requires.formed c.requires.kept other);
       parts = c.evaluated.ensures.parts;
     }
 
@@ -100,12 +100,12 @@ returns-in-Err g c =
     let w = written_view c.args.written in
     let other : OtherThanSource (find_def (entries_in old) n) = other_from (find_def (entries_in old) n) c.kind_of.result c.kind_of.ensures c.in_default.not-Source in
     let put = subst (IsGraphWith old.graph n (written_node n w ∷ [])) c.in-Ok.is c.with_statement.ensures in
-    let count = count_defined c.statements_with.result (entries_in old) n c.args.written c.statements_with.ensures in
-    let alone = looped_with old n c.args.written c.requires.kept other false put.1 in
+    let count = count_defined c.statements_with.result (entries_in old) n c.args.written c.requires.formed c.statements_with.ensures in
+    let alone = looped_with old n c.args.written c.requires.plain c.requires.formed c.requires.kept other false put.1 in
     record {
       accepts = subst (Refuses (seen_in old) (seen_in old) (edits.define n w)) (sym c.refused.ensures)
-          (halted (seen_in old) (edits.define n w) (with_it old n c.args.written c.requires.kept other)
-          (define_puts_it old n c.args.written c.requires.kept other c.statements_with.result count c.if-statements_with-gt-MOST_STATEMENTS.false alone) (seen_in old) c.in-Err.halt refl c.in-Err.ensures.values refl);
+          (halted (seen_in old) (edits.define n w) (with_it old n c.args.written c.requires.plain c.requires.formed c.requires.kept other)
+          (define_puts_it old n c.args.written c.requires.plain c.requires.formed c.requires.kept other c.statements_with.result count c.if-statements_with-gt-MOST_STATEMENTS.false alone) (seen_in old) c.in-Err.halt refl c.in-Err.ensures.values refl);
       kept = c.requires.kept;
       parts = c.evaluated.ensures.parts;
     }

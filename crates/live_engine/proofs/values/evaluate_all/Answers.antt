@@ -40,7 +40,7 @@ loop-node-preserved-then-not-is_defined g c =
     let here = given_at ns nodes k c.node.result c.in-Some.node c.node.ensures c.requires.graph c.in-Some.is in
     let lacking = lacks_as_told ns nodes c.in-Some.node.now.name c.is_defined.result false c.is_defined.ensures c.requires.graph c.if-not-is_defined.true in
     record {
-      up = step_skipped (state_of scene) c.args.stamp (settled_scene scene c.requires.acyclic c.len-count.ensures.unique) k c.loop-node.values.items c.loop-node.invariant.up (flat_node c.in-Some.node.now) here lacking;
+      up = step_skipped (state_of scene) c.args.stamp (settled_scene scene c.requires.scene c.requires.acyclic c.len-count.ensures.unique) k c.loop-node.values.items c.loop-node.invariant.up (flat_node c.in-Some.node.now) here lacking;
       parts = c.loop-node.invariant.parts;
     }
 
@@ -51,7 +51,7 @@ evaluate_one-requires-clause-statement g c =
     let nodes = nodes_of (after_scene scene) in
     let k = c.loop-node.k in
     let here = given_at ns nodes k c.node.result c.in-Some.node c.node.ensures c.requires.graph c.in-Some.is in
-    statement_at (state_of scene) c.args.stamp (settled_scene scene c.requires.acyclic c.len-count.ensures.unique) k c.loop-node.values.items c.loop-node.invariant.up (flat_node c.in-Some.node.now) here
+    statement_at (state_of scene) c.args.stamp (settled_scene scene c.requires.scene c.requires.acyclic c.len-count.ensures.unique) k c.loop-node.values.items c.loop-node.invariant.up (flat_node c.in-Some.node.now) here
 
 pub evaluate_one-requires-clause-there : goal.evaluate_one-requires-clause-there
 evaluate_one-requires-clause-there g c =
@@ -63,7 +63,7 @@ evaluate_one-requires-clause-there g c =
     let n = c.in-Some.node.now.name in
     let lacking = lacks_as_told ns nodes n c.is_defined.result true c.is_defined.ensures c.requires.graph c.if-not-is_defined.false in
     subst (λ (vs : List Valued). is_some (made scene.extent (at_hand (state_of scene) vs) (find_making (layers (after_scene scene)) n)) ≡ true) (sym c.deref.ensures.value)
-    (there_at (state_of scene) c.args.stamp (settled_scene scene c.requires.acyclic c.len-count.ensures.unique) k c.loop-node.values.items c.loop-node.invariant.up (flat_node c.in-Some.node.now) here lacking)
+    (there_at (state_of scene) c.args.stamp (settled_scene scene c.requires.scene c.requires.acyclic c.len-count.ensures.unique) k c.loop-node.values.items c.loop-node.invariant.up (flat_node c.in-Some.node.now) here lacking)
 
 pub returns-in_err-valued-clause-values : goal.returns-in_err-valued-clause-values
 returns-in_err-valued-clause-values g c =
@@ -77,7 +77,7 @@ returns-in_err-valued-clause-values g c =
     let halt = c.in_err-valued.field-0.0 in
     let valued = subst (λ (vs : List Valued). IsValued scene.extent n (made scene.extent (at_hand (state_of scene) vs) (find_making (layers (after_scene scene)) n)) (Err halt)) c.deref.ensures.value c.in_err-valued.ensures.value in
     rw (p.1, p.2)
-    (step_halted (state_of scene) c.args.stamp (settled_scene scene c.requires.acyclic c.len-count.ensures.unique) k c.loop-node.values.items c.loop-node.invariant.up (flat_node c.in-Some.node.now) here halt valued)
+    (step_halted (state_of scene) c.args.stamp (settled_scene scene c.requires.scene c.requires.acyclic c.len-count.ensures.unique) k c.loop-node.values.items c.loop-node.invariant.up (flat_node c.in-Some.node.now) here halt valued)
 
 pub loop-node-smaller : goal.loop-node-smaller
 loop-node-smaller g c =
@@ -99,7 +99,7 @@ loop-node-preserved g c =
     let v = c.in_ok-valued.valued in
     let valued = subst (λ (vs : List Valued). IsValued scene.extent n (made scene.extent (at_hand (state_of scene) vs) (find_making (layers (after_scene scene)) n)) (Ok v)) c.deref.ensures.value c.in_ok-valued.ensures.value in
     record {
-      up = step_pushed (state_of scene) c.args.stamp (settled_scene scene c.requires.acyclic c.len-count.ensures.unique) k c.loop-node.values.items c.loop-node.invariant.up (flat_node c.in-Some.node.now) here
+      up = step_pushed (state_of scene) c.args.stamp (settled_scene scene c.requires.scene c.requires.acyclic c.len-count.ensures.unique) k c.loop-node.values.items c.loop-node.invariant.up (flat_node c.in-Some.node.now) here
           v c.push.new.self.items valued c.in_ok-valued.ensures.stamped c.in-Ok.ensures.items;
       parts = parts_twice (g.M.Tally.counts c.args.tally.now) (g.M.Tally.counts c.loop-node.tally) (g.M.Tally.counts c.evaluate_one.new.tally) c.loop-node.invariant.parts c.evaluate_one.ensures.parts;
     }
@@ -111,7 +111,7 @@ returns-clause-values g c =
     let nodes = nodes_of (after_scene scene) in
     let k = c.loop-node.k in
     let long = none_past ns nodes k c.node.result c.node.ensures c.requires.graph c.in_default.not-Some in
-    all_done (state_of scene) c.args.stamp (settled_scene scene c.requires.acyclic c.len-count.ensures.unique) k c.loop-node.values.items c.loop-node.invariant.up long
+    all_done (state_of scene) c.args.stamp (settled_scene scene c.requires.scene c.requires.acyclic c.len-count.ensures.unique) k c.loop-node.values.items c.loop-node.invariant.up long
 
 pub returns-clause-names : goal.returns-clause-names
 returns-clause-names g c =
@@ -120,4 +120,4 @@ returns-clause-names g c =
     let nodes = nodes_of (after_scene scene) in
     let k = c.loop-node.k in
     let long = none_past ns nodes k c.node.result c.node.ensures c.requires.graph c.in_default.not-Some in
-    all_named (state_of scene) c.args.stamp (settled_scene scene c.requires.acyclic c.len-count.ensures.unique) k c.loop-node.values.items c.loop-node.invariant.up long
+    all_named (state_of scene) c.args.stamp (settled_scene scene c.requires.scene c.requires.acyclic c.len-count.ensures.unique) k c.loop-node.values.items c.loop-node.invariant.up long

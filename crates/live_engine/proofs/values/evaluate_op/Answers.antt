@@ -16,7 +16,7 @@ returns-in-Ok-copy-clause-value g c =
     let scene = c.args.scene.now in
     let cells = cells_after c.operands_of-operands.result in
     valued_layer scene.extent (at_hand (state_of scene) c.args.values.now) c.args.op.now (find_making (layers (after_scene scene)) c.args.name.now) cells c.requires.statement c.operands_of-operands.ensures.cells
-    c.args.stamp c.args.name.now (record { name = c.in-Ok-copy.name; layer = c.in-Ok.layer }) c.in-Ok-copy.ensures c.in-Ok.ensures.layer
+    c.args.stamp c.requires.formed c.args.name.now (record { name = c.in-Ok-copy.name; layer = c.in-Ok.layer }) c.in-Ok-copy.ensures c.in-Ok.ensures.layer
 
 pub returns-in-Err-Overflow-clause-value : goal.returns-in-Err-Overflow-clause-value
 returns-in-Err-Overflow-clause-value g c =

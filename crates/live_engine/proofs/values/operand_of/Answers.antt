@@ -12,7 +12,7 @@ unreachable-requires-in-None-find c =
     let scene = c.args.scene.now in
     let values = c.args.values.now in
     let n = c.in-Layer.name in
-    let making = making_none (after_scene scene) n c.find.result (own_scene scene) c.find.ensures.def c.in-None-find.is in
+    let making = making_none (after_scene scene) n c.find.result (own_scene scene c.requires.scene) c.find.ensures.def c.in-None-find.is in
     never_absent scene.extent (at_hand (state_of scene) values) c.args.term.now n c.in-Layer.is (hand_none (state_of scene) values n making) c.requires.there
 
 pub unreachable-requires-in-None-layer_of : goal.unreachable-requires-in-None-layer_of
@@ -21,7 +21,7 @@ unreachable-requires-in-None-layer_of c =
     let values = c.args.values.now in
     let n = c.in-Layer.name in
     let a = c.in-Some-Statement in
-    let making = making_statement (after_scene scene) n c.find.result (own_scene scene) c.find.ensures.def a.field-0-0 (a.is ∙ ap (λ f. Some f) a.field-0-is) in
+    let making = making_statement (after_scene scene) n c.find.result (own_scene scene c.requires.scene) c.find.ensures.def a.field-0-0 (a.is ∙ ap (λ f. Some f) a.field-0-is) in
     let hand : at_hand (state_of scene) values n ≡ None = hand_kept (state_of scene) values n making.0 making.1 ∙ sym c.layer_of.ensures ∙ ap (option_map (λ l. grid_of l.now)) c.in-None-layer_of.is in
     never_absent scene.extent (at_hand (state_of scene) values) c.args.term.now n c.in-Layer.is hand c.requires.there
 
@@ -31,7 +31,7 @@ returns-in-Some-Source-clause-cells c =
     let values = c.args.values.now in
     let n = c.in-Layer.name in
     let a = c.in-Some-Source in
-    let making = making_source (after_scene scene) n c.find.result (own_scene scene) c.find.ensures.def a.change (a.is ∙ ap (λ f. Some f) a.field-0-is) in
+    let making = making_source (after_scene scene) n c.find.result (own_scene scene c.requires.scene) c.find.ensures.def a.change (a.is ∙ ap (λ f. Some f) a.field-0-is) in
     cells_of_layer scene.extent (at_hand (state_of scene) values) c.args.term.now n c.in-Layer.is (Some (record { size = a.change.size; cells = a.change.cells })) (hand_source (state_of scene) values n _ making)
 
 pub returns-in-Some-layer_of-clause-size : goal.returns-in-Some-layer_of-clause-size
@@ -48,7 +48,7 @@ returns-in-Some-layer_of-clause-cells c =
     let n = c.in-Layer.name in
     let a = c.in-Some-Statement in
     let b = c.in-Some-layer_of in
-    let making = making_statement (after_scene scene) n c.find.result (own_scene scene) c.find.ensures.def a.field-0-0 (a.is ∙ ap (λ f. Some f) a.field-0-is) in
+    let making = making_statement (after_scene scene) n c.find.result (own_scene scene c.requires.scene) c.find.ensures.def a.field-0-0 (a.is ∙ ap (λ f. Some f) a.field-0-is) in
     let hand : at_hand (state_of scene) values n ≡ Some (grid_of b.layer.now) = hand_kept (state_of scene) values n making.0 making.1 ∙ sym c.layer_of.ensures ∙ ap (option_map (λ l. grid_of l.now)) b.is in
     cells_of_layer scene.extent (at_hand (state_of scene) values) c.args.term.now n c.in-Layer.is (Some (grid_of b.layer.now)) hand
     ∙ ap (λ (s : ChangeState). Some s.cells) (sym c.same.ensures)

@@ -4,7 +4,8 @@ use Rattle.map_defs.specs.Ops.{terms_of}
 use Rattle.statement_parser.specs.Views.{op_view, term_view}
 use Rattle.live_engine.specs.Scenes.{state_of}
 use Rattle.live_engine.specs.Values.{at_hand}
-use Rattle.statement_parser.proofs.TermLemmas.{term_formed, past_last}
+use Rattle.map_lines.proofs.Terms.{term_formed}
+use Rattle.statement_parser.proofs.TermLemmas.{past_last}
 use Rattle.live_engine.proofs.Hand.{operand_there, operands_more, operands_all}
 use Rattle.live_engine.proofs.values.operands_of.Goals as goal
 

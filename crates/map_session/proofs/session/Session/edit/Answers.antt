@@ -17,7 +17,7 @@ returns-clause-does g c =
     let s = c.args.self.now in
     let e = line_edit (edit_view c.args.edit) in
     let D = λ (r : Result Reply NoMemory). Does s (record { header = f.header; engine = c.edit.new.self }) (edited s (accept s.engine e)) r in
-    elim c.match-edit-3.branch [
+    elim c.match-edit-4.branch [
       | in-Ok w ↦ subst D (sym w.result-is)
           (edit_done f.header f.engine c.edit.new.self s e c.next_number.result c.in_ok-reply.reply c.self.view_is w.in-Ok.ensures.accepts.0 (c.next_number.ensures ∙ ap (λ k. raised k 1) c.number.ensures.number) c.in_ok-reply.ensures)
       | in-Err+in_ok-cause-in-Err w ↦ subst D (sym w.result-is)

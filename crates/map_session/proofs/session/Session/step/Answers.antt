@@ -1,5 +1,6 @@
 use Rattle.std.proofs.Common.{subst, refl, Ok}
-use Rattle.statement_parser.specs.Lines.{first_language, blank, quit}
+use Rattle.map_lines.specs.Present.{present}
+use Rattle.statement_parser.specs.Lines.{blank, quit}
 use Rattle.statement_parser.specs.LineOf.{line_of, IsLineRead}
 use Rattle.statement_parser.specs.Views.{edit_view, request_view, line_view}
 use Rattle.statement_parser.specs.declared.line.Line.{Line}
@@ -10,22 +11,22 @@ use Rattle.map_session.proofs.session.Session.step.Goals as goal
 pub returns-in-Ok-Blank-clause-steps : goal.returns-in-Ok-Blank-clause-steps
 returns-in-Ok-Blank-clause-steps g c =
     stepped_empty c.args.self.now c.args.line.now blank Silent c.empty.result
-    (subst (λ (l : Line). IsLineRead (line_of first_language c.args.line.now) line_view (Ok l)) c.in-Ok-Blank.field-0-is c.in-Ok-Blank.ensures.read) refl c.empty.ensures
+    (subst (λ (l : Line). IsLineRead (line_of present c.args.line.now) line_view (Ok l)) c.in-Ok-Blank.field-0-is c.in-Ok-Blank.ensures.read) refl c.empty.ensures
 
 pub returns-in-Ok-Edit-clause-steps : goal.returns-in-Ok-Edit-clause-steps
 returns-in-Ok-Edit-clause-steps g c =
     stepped_edit c.args.self.now c.edit.new.self c.args.line.now (edit_view c.in-Ok-Edit.edit) c.edit.result
-    (subst (λ (l : Line). IsLineRead (line_of first_language c.args.line.now) line_view (Ok l)) c.in-Ok-Edit.field-0-is c.in-Ok-Edit.ensures.read) c.edit.ensures.does
+    (subst (λ (l : Line). IsLineRead (line_of present c.args.line.now) line_view (Ok l)) c.in-Ok-Edit.field-0-is c.in-Ok-Edit.ensures.read) c.edit.ensures.does
 
 pub returns-in-Ok-Ask-clause-steps : goal.returns-in-Ok-Ask-clause-steps
 returns-in-Ok-Ask-clause-steps g c =
     stepped_ask c.self.inside.header c.self.inside.engine c.args.self.now c.args.line.now (request_view c.in-Ok-Ask.request) c.answer.result c.self.view_is
-    (subst (λ (l : Line). IsLineRead (line_of first_language c.args.line.now) line_view (Ok l)) c.in-Ok-Ask.field-0-is c.in-Ok-Ask.ensures.read) c.answer.ensures.says
+    (subst (λ (l : Line). IsLineRead (line_of present c.args.line.now) line_view (Ok l)) c.in-Ok-Ask.field-0-is c.in-Ok-Ask.ensures.read) c.answer.ensures.says
 
 pub returns-in-Ok-Quit-clause-steps : goal.returns-in-Ok-Quit-clause-steps
 returns-in-Ok-Quit-clause-steps g c =
     stepped_empty c.args.self.now c.args.line.now quit Quit c.empty-in-Ok-Quit.result
-    (subst (λ (l : Line). IsLineRead (line_of first_language c.args.line.now) line_view (Ok l)) c.in-Ok-Quit.field-0-is c.in-Ok-Quit.ensures.read) refl c.empty-in-Ok-Quit.ensures
+    (subst (λ (l : Line). IsLineRead (line_of present c.args.line.now) line_view (Ok l)) c.in-Ok-Quit.field-0-is c.in-Ok-Quit.ensures.read) refl c.empty-in-Ok-Quit.ensures
 
 pub returns-in_ok-cause-in-Err-clause-steps : goal.returns-in_ok-cause-in-Err-clause-steps
 returns-in_ok-cause-in-Err-clause-steps g c =

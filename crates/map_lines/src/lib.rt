@@ -1,0 +1,58 @@
+//! Which lines of the map language are there: the rows of its operations and commands, and the reading of lines by them.
+//!
+//! [`parse_line`] gives the [`Line`] that a line of bytes is, or the first fault. A further row is a line here and in
+//! `specs/Present`, and its case in `specs/Formed`; what reads the row's lines is proved in `statement_parser` already.
+#![tactic(auto)]
+
+ghost use Rattle.std.specs.Prelude.{◌≡◌, IfOk};
+ghost use Rattle.statement_parser.specs.LineOf.{line_of, IsLineRead};
+ghost use Rattle.statement_parser.specs.Parsed.{IsParsed};
+ghost use Rattle.statement_parser.specs.Views.{line_view, manner_of};
+ghost use Rattle.map_lines.specs.Present.{present};
+ghost use Rattle.map_lines.specs.Formed.{IsFormed};
+
+use map_nums::Stat;
+use statement_parser::{Command, Line, LineRefusal, Operation, Rows};
+use std::alloc::Global;
+
+/// The operations that are there beside `LocalSum`.
+const OPERATIONS: [Operation; 11] = [
+    Operation::Local(Stat::Product),
+    Operation::Local(Stat::Maximum),
+    Operation::Local(Stat::Minimum),
+    Operation::Local(Stat::Mean),
+    Operation::Local(Stat::Median),
+    Operation::Local(Stat::Majority),
+    Operation::Local(Stat::Minority),
+    Operation::Local(Stat::Variety),
+    Operation::Difference,
+    Operation::Ratio,
+    Operation::Rating,
+];
+
+/// The commands that are there.
+const COMMANDS: [Command; 7] = [
+    Command::Paint,
+    Command::New,
+    Command::Drop,
+    Command::Value,
+    Command::Grid,
+    Command::List,
+    Command::Quit,
+];
+
+/// The line that bytes are, without their line end, or their first fault.
+#[tactic(auto, unfolding(crate::specs::Present::present))]
+pub fn parse_line(alloc: Global, line: &[u8]) -> Result<Line, LineRefusal>
+    ensures parsed { IsParsed present line_view line.now result }
+    ensures read { IsLineRead (line_of present line.now) line_view result }
+    ensures formed { IfOk result (λ x. IsFormed (line_view x)) }
+{
+    let rows = Rows {
+        operations: &OPERATIONS,
+        commands: &COMMANDS,
+        sight: false,
+        calls: false,
+    };
+    statement_parser::parse_line(alloc, &rows, line)
+}

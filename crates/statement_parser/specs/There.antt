@@ -1,0 +1,60 @@
+-- Which lines are there: those whose rows are.
+use Rattle.std.specs.Prelude.{◌∷◌, IsTrue}
+use Rattle.map_nums.specs.declared.Stat.TheVariants.{Sum}
+use Rattle.map_defs.specs.Ops.{Op, local_op, difference_op, ratio_op, rating_op, focal_op, zonal_op, form_op, direction_op, flow_op, spread_op, sight_op, region_op}
+use Rattle.map_defs.specs.Statements.{Written, plain, call}
+use Rattle.statement_parser.specs.Lines.{Manner, Edit, define, paint, new_layer, drop, Request, ask_value, ask_grid, ask_show, ask_legend, ask_table, ask_stamps, ask_list, Line, blank, edit, ask, quit}
+use Rattle.statement_parser.specs.Forms.{form_row}
+use Rattle.statement_parser.specs.Operations.{operation_text, has_row}
+use Rattle.statement_parser.specs.Commands.{command_text, has_command}
+use Rattle.statement_parser.specs.declared.operation.Operation.{Operation}
+use Rattle.statement_parser.specs.declared.operation.Operation.TheVariants.{Local, Difference, Ratio, Rating, Focal, Proximity, Insularity, Zonal, Incremental, Drainage}
+use Rattle.statement_parser.specs.declared.command.Command.{Command}
+use Rattle.statement_parser.specs.declared.command.Command.TheVariants.{Paint, New, Drop, Value, Grid, Show, Legend, Table, Stamps, List as Listing, Quit}
+
+-- the operation's row is there
+abbrev pub HasRow : Manner → Operation → Type 0
+HasRow m o = IsTrue (has_row (Local Sum ∷ m.operations) (operation_text o))
+
+-- the command's row is there
+abbrev pub HasCommand : Manner → Command → Type 0
+HasCommand m c = IsTrue (has_command m.commands (command_text c))
+
+abbrev pub IsOpThere : Manner → Op → Type 0
+IsOpThere m (local_op s ts) = HasRow m (Local s)
+IsOpThere m (difference_op l r) = HasRow m Difference
+IsOpThere m (ratio_op l r) = HasRow m Ratio
+IsOpThere m (rating_op t rs) = HasRow m Rating
+IsOpThere m (focal_op s r t) = HasRow m (Focal s)
+IsOpThere m (zonal_op s t u) = HasRow m (Zonal s)
+IsOpThere m (form_op f t) = HasRow m (Incremental (form_row f))
+IsOpThere m (direction_op t) = HasRow m Drainage
+IsOpThere m (flow_op t u) = HasRow m Drainage
+IsOpThere m (spread_op limit t u) = HasRow m Proximity
+IsOpThere m (sight_op s t u) = HasRow m (Focal Sum) × IsTrue m.sight
+IsOpThere m (region_op t) = HasRow m Insularity
+
+abbrev pub IsWrittenThere : Manner → Written → Type 0
+IsWrittenThere m (plain o) = IsOpThere m o
+IsWrittenThere m (call p ts) = IsTrue m.calls
+
+abbrev pub IsEditThere : Manner → Edit → Type 0
+IsEditThere m (define n w) = IsWrittenThere m w
+IsEditThere m (paint n r1 c1 r2 c2 v) = HasCommand m Paint
+IsEditThere m (new_layer n v) = HasCommand m New
+IsEditThere m (drop n) = HasCommand m Drop
+
+abbrev pub IsRequestThere : Manner → Request → Type 0
+IsRequestThere m (ask_value n r c) = HasCommand m Value
+IsRequestThere m (ask_grid n) = HasCommand m Grid
+IsRequestThere m (ask_show n) = HasCommand m Show
+IsRequestThere m (ask_legend n) = HasCommand m Legend
+IsRequestThere m (ask_table n v) = HasCommand m Table
+IsRequestThere m (ask_stamps n) = HasCommand m Stamps
+IsRequestThere m ask_list = HasCommand m Listing
+
+abbrev pub IsThere : Manner → Line → Type 0
+IsThere m blank = Unit {0}
+IsThere m (edit e) = IsEditThere m e
+IsThere m (ask r) = IsRequestThere m r
+IsThere m quit = HasCommand m Quit

@@ -1,0 +1,69 @@
+-- Worked lines, where the first operations and commands are there, and where all are.
+use Rattle.std.specs.Prelude.{pos, negsuc, true, false, [], ◌∷◌, ◌++◌, Some, None, codes}
+use Rattle.map_nums.specs.declared.Stat.TheVariants as stats
+use Rattle.map_words.specs.Bytes.{Text}
+use Rattle.map_defs.specs.Ops.{layer_term, number_term, local_op, rating_op, focal_op, spread_op, sight_op}
+use Rattle.map_defs.specs.Statements.{plain, call}
+use Rattle.statement_parser.specs.Lines.{Manner, define, paint, new_layer, ask_grid, ask_table, Line, blank, edit, ask}
+use Rattle.statement_parser.specs.Operations.{operations}
+use Rattle.statement_parser.specs.Commands.{commands}
+use Rattle.statement_parser.specs.declared.operation.Operation.TheVariants.{Local, Rating}
+use Rattle.statement_parser.specs.declared.command.Command.TheVariants.{Paint, New, Grid}
+use Rattle.statement_parser.specs.Texts.{LineText, Refusal, syntax, operation, number, RefusedText}
+
+abbrev pub first_rows : Manner
+first_rows = record { operations = Rating ∷ []; commands = Paint ∷ New ∷ Grid ∷ []; sight = false; calls = false }
+
+abbrev pub all_rows : Manner
+all_rows = record { operations = operations; commands = commands; sight = true; calls = true }
+
+abbrev pub Is : Text → Line → Type 0
+Is bytes x = LineText first_rows bytes x
+
+abbrev pub IsRefused : Text → Refusal → Type 0
+IsRefused bytes r = RefusedText first_rows bytes r
+
+abbrev pub IsOfAll : Text → Line → Type 0
+IsOfAll bytes x = LineText all_rows bytes x
+
+abbrev pub IsRefusedOfAll : Text → Refusal → Type 0
+IsRefusedOfAll bytes r = RefusedText all_rows bytes r
+
+pub record Worked : Type 0 where
+  pub empty : Is [] blank
+  pub note : Is (codes "# note (") blank
+  pub whole : Is (codes "B = LocalSum of A and 3") (edit (define (codes "B") (plain (local_op stats.Sum (layer_term (codes "A") ∷ number_term (pos 3) ∷ [])))))
+  pub rated : Is (codes "R = LocalRating of A with 9 for 1 to 3 with null for -5") (edit (define (codes "R") (plain (rating_op (layer_term (codes "A"))
+      (record { low = pos 1; high = pos 3; give = Some (pos 9) } ∷ record { low = negsuc 4; high = negsuc 4; give = None } ∷ [])))))
+  pub painted : Is (codes "paint A 01 +1 2 2 -0") (edit (paint (codes "A") 1 1 2 2 (Some (pos 0))))
+  pub fresh : Is (codes "new C 1") (edit (new_layer (codes "C") (Some (pos 1))))
+  pub fresh_null : Is (codes "new C null") (edit (new_layer (codes "C") None))
+  pub dotted : Is (codes "grid A.result.b") (ask (ask_grid (codes "A.result.b")))
+  pub alone : IsRefused (codes "foo") (syntax 4)
+  pub unknown : IsRefused (codes "C = LocalSun of A and 1") (operation 5)
+  pub cut : IsRefused (codes "C = LocalSum of A and") (syntax 22)
+  pub blanks : IsRefused (codes "C = LocalSum of A and  ") (syntax 24)
+  pub zero_row : IsRefused (codes "paint A 0 1 1 1 1") (number 9)
+  pub huge : IsRefused (codes "B = LocalSum of A and 99999999999999999999") (number 23)
+  pub reserved : IsRefused (codes "C = of") (operation 5)
+  pub reserved_call : IsRefused (codes "C = of(A)") (syntax 5)
+  pub not_yet : IsRefused (codes "C = FocalSum of A") (operation 5)
+  pub reserved_name : IsRefused (codes "end = LocalSum of A and 1") (syntax 1)
+  pub reserved_layer : IsRefused (codes "new of 1") (syntax 5)
+  pub beyond : IsRefused (codes "new C 2000000001") (number 7)
+  pub later_form : IsRefused (codes "label C 1 x") (syntax 1)
+  pub bad_byte : IsRefused (codes "C = LocalSun of " ++ 127 ∷ []) (syntax 17)
+  pub ninth : IsRefused (codes "B = LocalSum of 1 and 2 and 3 and 4 and 5 and 6 and 7 and 8 and 9") (syntax 61)
+  pub called_early : IsRefused (codes "C = Twice(A, 3)") (syntax 5)
+  pub not_yet_named : IsRefused (codes "show A") (syntax 1)
+  pub near : IsOfAll (codes "C = FocalSum of A at 2") (edit (define (codes "C") (plain (focal_op stats.Sum (Some 2) (layer_term (codes "A"))))))
+  pub sighted : IsOfAll (codes "C = FocalSum of A radiating on B to 5") (edit (define (codes "C") (plain (sight_op (record { from = pos 0; to = pos 5; reach = 64 }) (layer_term (codes "A")) (layer_term (codes "B"))))))
+  pub spread : IsOfAll (codes "C = FocalProximity of A spreading in 2 within 7") (edit (define (codes "C") (plain (spread_op 7 (layer_term (codes "A")) (number_term (pos 2))))))
+  pub called : IsOfAll (codes "C=Twice(A,3)") (edit (define (codes "C") (call (codes "Twice") (layer_term (codes "A") ∷ number_term (pos 3) ∷ []))))
+  pub tabled : IsOfAll (codes "table A.b C") (ask (ask_table (codes "A.b") (codes "C")))
+  pub far : IsRefusedOfAll (codes "C = FocalMean of A at 33") (number 23)
+  pub no_mean : IsRefusedOfAll (codes "C = FocalMean of A radiating on B") (syntax 20)
+  pub no_product : IsRefusedOfAll (codes "C = FocalProduct of A") (operation 5)
+  pub named_call : IsRefusedOfAll (codes "C = FocalSum(A)") (syntax 13)
+  pub no_call : IsRefusedOfAll (codes "C = Twice") (operation 5)
+  pub no_more : IsRefusedOfAll (codes "C = Twice(1, 2, 3, 4, 5, 6, 7, 8, 9)") (syntax 33)
