@@ -59,6 +59,15 @@ fn line(engine: &mut Engine, alloc: Global, text: &[u8], tally: &mut Counts) -> 
     }
 }
 
+/// The engine says this to a line.
+fn says(rt: &(impl AllocGlobal + Abort), engine: &mut Engine, text: &[u8], want: Said) {
+    assert_eq!(rt;
+        line(engine, rt.alloc(), text, &mut Counts::new()),
+        want,
+        "{text:?}"
+    );
+}
+
 /// What the engine says to a load of one cell everywhere.
 fn load(engine: &mut Engine, alloc: Global, extent: Extent, name: &[u8], value: Value) -> Said {
     match (
@@ -72,17 +81,6 @@ fn load(engine: &mut Engine, alloc: Global, extent: Extent, name: &[u8], value: 
     }
 }
 
-/// The engine says this to each line.
-fn answers(rt: &(impl AllocGlobal + Abort), engine: &mut Engine, rows: &[(&[u8], Said)]) {
-    for (text, want) in rows {
-        assert_eq!(rt;
-            line(engine, rt.alloc(), text, &mut Counts::new()),
-            *want,
-            "{text:?}"
-        );
-    }
-}
-
 /// An engine whose one source A has this value in each cell.
 fn with_source(
     rt: &(impl AllocGlobal + Abort),
@@ -92,10 +90,8 @@ fn with_source(
 ) -> Result<Engine, Fail> {
     let extent = Extent::new(rows, columns).ok_or("limits")?;
     let mut engine = Engine::new(rt.alloc(), extent);
-    assert_eq!(rt;
-        load(&mut engine, rt.alloc(), extent, b"A", value),
-        Said::Number(1)
-    );
+    let said = load(&mut engine, rt.alloc(), extent, b"A", value);
+    assert_eq!(rt; said, Said::Number(1));
     Ok(engine)
 }
 
@@ -120,62 +116,116 @@ fn stamps(engine: &Engine, alloc: Global, name: &[u8]) -> Option<Vec<u64>> {
     Some(stamps)
 }
 
+/// What stands at a place of the list of names.
+#[derive(Clone, Copy, Debug, PartialEq, Eq)]
+enum Stands {
+    Source,
+    Statement,
+    Nothing,
+}
+
+fn stands_at(engine: &Engine, k: u32) -> Stands {
+    match engine.entry(k) {
+        Some(Entry::Source(_)) => Stands::Source,
+        Some(Entry::Statement(_, _)) => Stands::Statement,
+        None => Stands::Nothing,
+    }
+}
+
 #[test]
 fn cycle_through_two_statements(rt: HostRuntime) -> Result<(), Fail> {
     let mut engine = with_source(&rt, 1, 1, 7)?;
-    let rows: [(&[u8], Said); 3] = [
-        (b"B = LocalSum of C and 1", Said::Number(2)),
-        (b"C = LocalSum of B and 1", Said::Cycle),
-        (b"C = LocalSum of C and 1", Said::Cycle),
-    ];
-    answers(&rt, &mut engine, &rows);
+    says(
+        &rt,
+        &mut engine,
+        b"B = LocalSum of C and 1",
+        Said::Number(2),
+    );
+    says(&rt, &mut engine, b"C = LocalSum of B and 1", Said::Cycle);
+    says(&rt, &mut engine, b"C = LocalSum of C and 1", Said::Cycle);
     assert_eq!(rt; engine.number(), 2);
-    assert!(rt; matches!(engine.entry(0), Some(Entry::Source(_))));
-    assert!(rt; matches!(engine.entry(1), Some(Entry::Statement(_, _))));
-    assert!(rt; engine.entry(2).is_none());
+    let list = [
+        stands_at(&engine, 0),
+        stands_at(&engine, 1),
+        stands_at(&engine, 2),
+    ];
+    assert_eq!(rt; list, [Stands::Source, Stands::Statement, Stands::Nothing]);
     Ok(())
 }
 
 #[test]
 fn overflow_found_late(rt: HostRuntime) -> Result<(), Fail> {
     let mut engine = with_source(&rt, 1, 33, 1)?;
-    let rows: [(&[u8], Said); 3] = [
-        (b"B = LocalProduct of A and 50000", Said::Number(2)),
-        (b"C = LocalProduct of B and 1000", Said::Number(3)),
-        (b"paint A 1 32 1 33 41", Said::Overflow(1, 32)),
-    ];
-    answers(&rt, &mut engine, &rows);
-    assert_eq!(rt; value(&engine, rt.alloc(), b"C", 31), Some(50_000_000));
-    assert_eq!(rt; value(&engine, rt.alloc(), b"A", 32), Some(1));
-    answers(
+    says(
         &rt,
         &mut engine,
-        &[(b"paint A 1 32 1 33 40", Said::Number(4))],
+        b"B = LocalProduct of A and 50000",
+        Said::Number(2),
     );
+    says(
+        &rt,
+        &mut engine,
+        b"C = LocalProduct of B and 1000",
+        Said::Number(3),
+    );
+    says(
+        &rt,
+        &mut engine,
+        b"paint A 1 32 1 33 41",
+        Said::Overflow(1, 32),
+    );
+    assert_eq!(rt; value(&engine, rt.alloc(), b"C", 31), Some(50_000_000));
+    assert_eq!(rt; value(&engine, rt.alloc(), b"A", 32), Some(1));
+    says(&rt, &mut engine, b"paint A 1 32 1 33 40", Said::Number(4));
     assert_eq!(rt; value(&engine, rt.alloc(), b"C", 32), Some(2_000_000_000));
     Ok(())
+}
+
+/// What an engine says to a load D of one row of 33 cells.
+fn said_to_row(engine: &mut Engine, alloc: Global) -> Option<Said> {
+    let row = Extent::new(1, 33)?;
+    Some(load(engine, alloc, row, b"D", 1))
 }
 
 #[test]
 fn refused_lines(rt: HostRuntime) -> Result<(), Fail> {
     let mut engine = with_source(&rt, 3, 3, 1)?;
-    let rows: [(&[u8], Said); 7] = [
-        (b"B = LocalSum of A and 3", Said::Number(2)),
-        (b"paint Z 1 1 1 1 1", Said::Unknown),
-        (b"paint B 1 1 1 1 1", Said::Derived),
-        (b"paint A 1 1 4 1 0", Said::Size(3, 3)),
-        (b"A = LocalSum of B and 1", Said::Exists),
-        (b"drop Q", Said::Unknown),
-        (b"new B 1", Said::Exists),
-    ];
-    answers(&rt, &mut engine, &rows);
-    let row = Extent::new(1, 33).ok_or("limits")?;
+    says(
+        &rt,
+        &mut engine,
+        b"B = LocalSum of A and 3",
+        Said::Number(2),
+    );
+    says(&rt, &mut engine, b"paint Z 1 1 1 1 1", Said::Unknown);
+    says(&rt, &mut engine, b"paint B 1 1 1 1 1", Said::Derived);
+    says(&rt, &mut engine, b"paint A 1 1 4 1 0", Said::Size(3, 3));
+    says(&rt, &mut engine, b"A = LocalSum of B and 1", Said::Exists);
+    says(&rt, &mut engine, b"drop Q", Said::Unknown);
+    says(&rt, &mut engine, b"new B 1", Said::Exists);
     assert_eq!(rt;
-        load(&mut engine, rt.alloc(), row, b"D", 1),
-        Said::Size(3, 3)
+        said_to_row(&mut engine, rt.alloc()),
+        Some(Said::Size(3, 3))
     );
     assert_eq!(rt; engine.number(), 2);
     Ok(())
+}
+
+/// The engine takes a line as its edit of this number, and the last cell of B is then this.
+fn takes(
+    rt: &(impl AllocGlobal + Abort),
+    engine: &mut Engine,
+    text: &[u8],
+    number: u64,
+    last: Option<Value>,
+) {
+    says(rt, engine, text, Said::Number(number));
+    assert_eq!(rt; value(engine, rt.alloc(), b"B", 8), last, "{text:?}");
+}
+
+/// Whether a statement has no layer, since it lacks an operand.
+fn lacks(engine: &Engine, alloc: Global, name: &[u8]) -> Result<bool, Fail> {
+    let name = Name::plain(alloc, name)?;
+    Ok(matches!(engine.layer(&name), Err(Missing { name: Some(_) })))
 }
 
 #[test]
@@ -183,18 +233,37 @@ fn each_call_changes_the_map(rt: HostRuntime) -> Result<(), Fail> {
     let square = Extent::new(3, 3).ok_or("limits")?;
     let mut engine = Engine::new(rt.alloc(), square);
     assert_eq!(rt; engine.extent().cells(), 9);
-    let rows: [(&[u8], Said, Option<Value>); 4] = [
-        (b"new A 1", Said::Number(1), None),
-        (b"B = LocalSum of A and 3", Said::Number(2), Some(4)),
-        (b"paint A 3 3 3 3 5", Said::Number(3), Some(8)),
-        (b"drop A", Said::Number(4), None),
-    ];
-    for (text, want, last) in rows {
-        answers(&rt, &mut engine, &[(text, want)]);
-        assert_eq!(rt; value(&engine, rt.alloc(), b"B", 8), last, "{text:?}");
+    takes(&rt, &mut engine, b"new A 1", 1, None);
+    takes(&rt, &mut engine, b"B = LocalSum of A and 3", 2, Some(4));
+    takes(&rt, &mut engine, b"paint A 3 3 3 3 5", 3, Some(8));
+    takes(&rt, &mut engine, b"drop A", 4, None);
+    assert!(rt; lacks(&engine, rt.alloc(), b"B")?);
+    Ok(())
+}
+
+/// A line with a number of two digits in it.
+fn numbered(alloc: Global, before: &[u8], k: u8, after: &[u8]) -> Result<Vec<u8>, Fail> {
+    let mut text = Vec::from_slice(alloc, before)?;
+    text.push(b'0' + k / 10)?;
+    text.push(b'0' + k % 10)?;
+    text.extend_from_slice(after)?;
+    Ok(text)
+}
+
+/// The engine takes so many lines with the numbers from 0 on in them, as its edits behind this one.
+fn takes_all(
+    rt: &(impl AllocGlobal + Abort),
+    engine: &mut Engine,
+    before: &[u8],
+    after: &[u8],
+    count: u8,
+    number: u64,
+) -> Result<(), Fail> {
+    for k in 0..count {
+        let text = numbered(rt.alloc(), before, k, after)?;
+        let want = number.saturating_add(u64::from(k) + 1);
+        says(rt, engine, &text, Said::Number(want));
     }
-    let name = Name::plain(rt.alloc(), b"B")?;
-    assert!(rt; matches!(engine.layer(&name), Err(Missing { name: Some(_) })));
     Ok(())
 }
 
@@ -202,71 +271,51 @@ fn each_call_changes_the_map(rt: HostRuntime) -> Result<(), Fail> {
 fn limits(rt: HostRuntime) -> Result<(), Fail> {
     let extent = Extent::new(1, 1).ok_or("limits")?;
     let mut engine = Engine::new(rt.alloc(), extent);
-    for k in 0..32u8 {
-        let mut text = *b"new S00 1";
-        text[5] = b'0' + k / 10;
-        text[6] = b'0' + k % 10;
-        answers(&rt, &mut engine, &[(&text, Said::Number(u64::from(k) + 1))]);
-    }
-    answers(
+    takes_all(&rt, &mut engine, b"new S", b" 1", 32, 0)?;
+    says(&rt, &mut engine, b"new T 1", Said::Limit(Which::Sources));
+    takes_all(&rt, &mut engine, b"A", b" = LocalSum of Q and 1", 64, 32)?;
+    let more = Said::Limit(Which::Statements);
+    says(&rt, &mut engine, b"B = LocalSum of Q and 1", more);
+    says(
         &rt,
         &mut engine,
-        &[(b"new T 1", Said::Limit(Which::Sources))],
+        b"A00 = LocalSum of Q and 2",
+        Said::Number(97),
     );
-    for k in 0..64u8 {
-        let mut text = *b"A00 = LocalSum of Q and 1";
-        text[1] = b'0' + k / 10;
-        text[2] = b'0' + k % 10;
-        answers(
-            &rt,
-            &mut engine,
-            &[(&text, Said::Number(u64::from(k) + 33))],
-        );
-    }
-    let rows: [(&[u8], Said); 2] = [
-        (b"B = LocalSum of Q and 1", Said::Limit(Which::Statements)),
-        (b"A00 = LocalSum of Q and 2", Said::Number(97)),
+    Ok(())
+}
+
+/// A paint of a layer A of 33 by 33 ones, as the second edit, has so many looks, and A then has these stamps, and these
+/// values at places 1053, 1054 and 1088.
+fn paints(
+    rt: &(impl AllocGlobal + Abort),
+    text: &[u8],
+    looks: u64,
+    want: &[u64],
+    cells: [Option<Value>; 3],
+) -> Result<(), Fail> {
+    let mut engine = with_source(rt, 33, 33, 1)?;
+    let mut tally = Counts::new();
+    let said = line(&mut engine, rt.alloc(), text, &mut tally);
+    assert_eq!(rt; said, Said::Number(2));
+    assert_eq!(rt; (tally.looks(), tally.picks()), (looks, 0), "{text:?}");
+    let stamps = stamps(&engine, rt.alloc(), b"A").ok_or("no layer")?;
+    assert_eq!(rt; stamps.as_slice(), want, "{text:?}");
+    let seen = [
+        value(&engine, rt.alloc(), b"A", 1053),
+        value(&engine, rt.alloc(), b"A", 1054),
+        value(&engine, rt.alloc(), b"A", 1088),
     ];
-    answers(&rt, &mut engine, &rows);
+    assert_eq!(rt; seen, cells, "{text:?}");
     Ok(())
 }
 
 #[test]
 fn rectangles_across_tiles(rt: HostRuntime) -> Result<(), Fail> {
-    let places: [u32; 3] = [1053, 1054, 1088];
-    let rows: [(&[u8], [u64; 4], u64, [Option<Value>; 3]); 2] = [
-        // the corner of four tiles
-        (
-            b"paint A 32 32 33 33 9",
-            [2, 2, 2, 2],
-            4,
-            [Some(1), Some(9), Some(9)],
-        ),
-        // all of the last column but its last row
-        (
-            b"paint A 1 33 32 33 null",
-            [1, 2, 1, 1],
-            1,
-            [Some(1), Some(1), Some(1)],
-        ),
-    ];
-    for (text, want, looks, cells) in rows {
-        let mut engine = with_source(&rt, 33, 33, 1)?;
-        let mut tally = Counts::new();
-        assert_eq!(rt;
-            line(&mut engine, rt.alloc(), text, &mut tally),
-            Said::Number(2)
-        );
-        assert_eq!(rt; (tally.looks(), tally.picks()), (looks, 0), "{text:?}");
-        let stamps = stamps(&engine, rt.alloc(), b"A").ok_or("no layer")?;
-        assert_eq!(rt; stamps.as_slice(), want.as_slice(), "{text:?}");
-        for k in 0..3 {
-            assert_eq!(rt;
-                value(&engine, rt.alloc(), b"A", places[k]),
-                cells[k],
-                "{text:?}"
-            );
-        }
-    }
-    Ok(())
+    // the corner of four tiles
+    let corner = [Some(1), Some(9), Some(9)];
+    paints(&rt, b"paint A 32 32 33 33 9", 4, &[2, 2, 2, 2], corner)?;
+    // all of the last column but its last row
+    let column = [Some(1), Some(1), Some(1)];
+    paints(&rt, b"paint A 1 33 32 33 null", 1, &[1, 2, 1, 1], column)
 }

@@ -2,6 +2,7 @@
 use map_lines::parse_line;
 use statement_parser::{Line, LineEdit, LineRefusal, Op, Request, Term, print_written};
 use std::alloc::Global;
+use std::process::Abort;
 use std::test::Fail;
 
 /// Why a line is refused.
@@ -9,80 +10,101 @@ fn refusal(alloc: Global, line: &[u8]) -> Option<LineRefusal> {
     parse_line(alloc, line).err()
 }
 
+/// A line is refused for this.
+fn refused(rt: &(impl AllocGlobal + Abort), line: &[u8], want: LineRefusal) {
+    assert_eq!(rt; refusal(rt.alloc(), line), Some(want));
+}
+
 #[test]
-fn refused_lines(rt: HostRuntime) {
-    let lines: [(&[u8], LineRefusal); 29] = [
-        (b"foo", LineRefusal::Syntax(4)),
-        (b"C = LocalSun of A and 1", LineRefusal::Operation(5)),
-        (b"C = LocalSum of A and", LineRefusal::Syntax(22)),
-        (b"C = LocalSum of A and  ", LineRefusal::Syntax(24)),
-        (b"new of 1", LineRefusal::Syntax(5)),
-        (b"new C 2000000001", LineRefusal::Number(7)),
-        (b"new C x", LineRefusal::Syntax(7)),
-        (b"new C", LineRefusal::Syntax(6)),
-        (b"new A.b 1", LineRefusal::Syntax(5)),
-        (b"new C 1 1", LineRefusal::Syntax(9)),
-        (b"paint A 0 1 1 1 1", LineRefusal::Number(9)),
-        (b"paint A 1 1 1 4097 1", LineRefusal::Number(15)),
-        (b"paint A 1 1 1 1 2000000001", LineRefusal::Number(17)),
-        (b"paint A 1 1 1 1", LineRefusal::Syntax(16)),
-        (b"drop of", LineRefusal::Syntax(6)),
-        (b"drop A.b", LineRefusal::Syntax(6)),
-        (b"grid A.paint", LineRefusal::Syntax(6)),
-        (b"symbol A 1 ab", LineRefusal::Syntax(1)),
-        (b"label Z 1 x", LineRefusal::Syntax(1)),
-        (b"legend Q", LineRefusal::Syntax(1)),
-        (b"C = end", LineRefusal::Operation(5)),
-        (b"C = paint(A)", LineRefusal::Syntax(5)),
-        (b"C = Twice(A, 3)", LineRefusal::Syntax(5)),
-        (b"C = FocalSum of A at 2", LineRefusal::Operation(5)),
-        (b"C = LocalSum(A)", LineRefusal::Syntax(13)),
-        (
-            b"C = LocalRating of A with 1 for 1 to",
-            LineRefusal::Syntax(37),
-        ),
-        (b"C = LocalRatio of A and 1 and 2", LineRefusal::Syntax(27)),
-        (b"C = LocalSun of\x1FA", LineRefusal::Syntax(16)),
-        (
-            b"C = LocalMean of 1 and 2 and 3 and 4 and 5 and 6 and 7 and 8 and 9",
-            LineRefusal::Syntax(62),
-        ),
-    ];
-    for (line, want) in lines {
-        assert_eq!(rt; refusal(rt.alloc(), line), Some(want));
+fn refused_words(rt: HostRuntime) {
+    refused(&rt, b"foo", LineRefusal::Syntax(4));
+    refused(&rt, b"drop of", LineRefusal::Syntax(6));
+    refused(&rt, b"drop A.b", LineRefusal::Syntax(6));
+    refused(&rt, b"grid A.paint", LineRefusal::Syntax(6));
+    refused(&rt, b"symbol A 1 ab", LineRefusal::Syntax(1));
+    refused(&rt, b"label Z 1 x", LineRefusal::Syntax(1));
+    refused(&rt, b"legend Q", LineRefusal::Syntax(1));
+}
+
+#[test]
+fn refused_news(rt: HostRuntime) {
+    refused(&rt, b"new of 1", LineRefusal::Syntax(5));
+    refused(&rt, b"new C 2000000001", LineRefusal::Number(7));
+    refused(&rt, b"new C x", LineRefusal::Syntax(7));
+    refused(&rt, b"new C", LineRefusal::Syntax(6));
+    refused(&rt, b"new A.b 1", LineRefusal::Syntax(5));
+    refused(&rt, b"new C 1 1", LineRefusal::Syntax(9));
+}
+
+#[test]
+fn refused_paints(rt: HostRuntime) {
+    refused(&rt, b"paint A 0 1 1 1 1", LineRefusal::Number(9));
+    refused(&rt, b"paint A 1 1 1 4097 1", LineRefusal::Number(15));
+    refused(&rt, b"paint A 1 1 1 1 2000000001", LineRefusal::Number(17));
+    refused(&rt, b"paint A 1 1 1 1", LineRefusal::Syntax(16));
+}
+
+#[test]
+fn refused_operations(rt: HostRuntime) {
+    refused(&rt, b"C = LocalSun of A and 1", LineRefusal::Operation(5));
+    refused(&rt, b"C = end", LineRefusal::Operation(5));
+    refused(&rt, b"C = paint(A)", LineRefusal::Syntax(5));
+    refused(&rt, b"C = Twice(A, 3)", LineRefusal::Syntax(5));
+    refused(&rt, b"C = FocalSum of A at 2", LineRefusal::Operation(5));
+    refused(&rt, b"C = LocalSum(A)", LineRefusal::Syntax(13));
+    refused(&rt, b"C = LocalSun of\x1FA", LineRefusal::Syntax(16));
+}
+
+#[test]
+fn refused_bodies(rt: HostRuntime) {
+    refused(&rt, b"C = LocalSum of A and", LineRefusal::Syntax(22));
+    refused(&rt, b"C = LocalSum of A and  ", LineRefusal::Syntax(24));
+    refused(
+        &rt,
+        b"C = LocalRating of A with 1 for 1 to",
+        LineRefusal::Syntax(37),
+    );
+    refused(
+        &rt,
+        b"C = LocalRatio of A and 1 and 2",
+        LineRefusal::Syntax(27),
+    );
+    refused(
+        &rt,
+        b"C = LocalMean of 1 and 2 and 3 and 4 and 5 and 6 and 7 and 8 and 9",
+        LineRefusal::Syntax(62),
+    );
+}
+
+/// A line of so many letters.
+fn letters(alloc: Global, count: u32) -> Result<Vec<u8>, Fail> {
+    let mut line = Vec::new(alloc);
+    for _ in 0..count {
+        line.push(b'x')?;
     }
+    Ok(line)
 }
 
 #[test]
 fn lines_of_any_length(rt: HostRuntime) -> Result<(), Fail> {
-    let mut long = Vec::new(rt.alloc());
-    for _ in 0..4096 {
-        long.push(b'x')?;
-    }
-    assert_eq!(rt;
-        refusal(rt.alloc(), long.as_slice()),
-        Some(LineRefusal::Syntax(1))
-    );
-    long.push(b'x')?;
-    assert_eq!(rt;
-        refusal(rt.alloc(), long.as_slice()),
-        Some(LineRefusal::Long(4097))
-    );
+    refused(&rt, &letters(rt.alloc(), 4096)?, LineRefusal::Syntax(1));
+    refused(&rt, &letters(rt.alloc(), 4097)?, LineRefusal::Long(4097));
     Ok(())
+}
+
+/// A rating with so many rates.
+fn rating(alloc: Global, count: u32) -> Result<Vec<u8>, Fail> {
+    let mut line = Vec::from_slice(alloc, b"R = LocalRating of A")?;
+    for _ in 0..count {
+        line.extend_from_slice(b" with 1 for 1")?;
+    }
+    Ok(line)
 }
 
 #[test]
 fn rates_end_at_thirty_two(rt: HostRuntime) -> Result<(), Fail> {
-    let mut line = Vec::from_slice(rt.alloc(), b"R = LocalRating of A")?;
-    for _ in 0..32 {
-        line.extend_from_slice(b" with 1 for 1")?;
-    }
-    assert!(rt; parse_line(rt.alloc(), line.as_slice()).is_ok());
-    line.extend_from_slice(b" with 1 for 1")?;
-    assert_eq!(rt;
-        parse_line(rt.alloc(), line.as_slice()).err(),
-        Some(LineRefusal::Syntax(438))
-    );
+    assert_eq!(rt; refusal(rt.alloc(), &rating(rt.alloc(), 32)?), None);
+    refused(&rt, &rating(rt.alloc(), 33)?, LineRefusal::Syntax(438));
     Ok(())
 }
 
@@ -109,6 +131,21 @@ fn form(alloc: Global, line: &[u8]) -> &'static str {
     }
 }
 
+/// A line has this form.
+fn has_form(rt: &(impl AllocGlobal + Abort), line: &[u8], want: &str) {
+    assert_eq!(rt; form(rt.alloc(), line), want);
+}
+
+#[test]
+fn each_form_is_read(rt: HostRuntime) {
+    has_form(&rt, b"\t # note \x80", "blank");
+    has_form(&rt, b" quit ", "quit");
+    has_form(&rt, b"list", "list");
+    has_form(&rt, b"value A.b 1 2", "value at 1 2");
+    has_form(&rt, b"drop Q", "drop");
+    has_form(&rt, b"paint A 1 2 3 4 null", "paint from 1 2 to 3 4");
+}
+
 /// What each cell of a new layer holds.
 fn new_cell(alloc: Global, line: &[u8]) -> Option<Option<i32>> {
     match &parse_line(alloc, line).ok()? {
@@ -118,25 +155,12 @@ fn new_cell(alloc: Global, line: &[u8]) -> Option<Option<i32>> {
 }
 
 #[test]
-fn each_form_is_read(rt: HostRuntime) {
-    let lines: [(&[u8], &str); 6] = [
-        (b"\t # note \x80", "blank"),
-        (b" quit ", "quit"),
-        (b"list", "list"),
-        (b"value A.b 1 2", "value at 1 2"),
-        (b"drop Q", "drop"),
-        (b"paint A 1 2 3 4 null", "paint from 1 2 to 3 4"),
-    ];
-    for (line, want) in lines {
-        assert_eq!(rt; form(rt.alloc(), line), want);
-    }
-    let news: [(&[u8], Option<i32>); 2] = [
-        (b"new C -2000000000", Some(-2_000_000_000)),
-        (b"new C null", None),
-    ];
-    for (line, want) in news {
-        assert_eq!(rt; new_cell(rt.alloc(), line), Some(want));
-    }
+fn new_layers_have_their_cell(rt: HostRuntime) {
+    assert_eq!(rt;
+        new_cell(rt.alloc(), b"new C -2000000000"),
+        Some(Some(-2_000_000_000))
+    );
+    assert_eq!(rt; new_cell(rt.alloc(), b"new C null"), Some(None));
 }
 
 /// The canonical text of a statement.
@@ -148,24 +172,40 @@ fn reprinted(alloc: Global, line: &[u8]) -> Option<Vec<u8>> {
     }
 }
 
+/// A statement has this canonical text.
+fn reads(rt: &(impl AllocGlobal + Abort), line: &[u8], text: &[u8]) -> Result<(), Fail> {
+    assert_eq!(rt;
+        reprinted(rt.alloc(), line).ok_or("not read")?.as_slice(),
+        text
+    );
+    Ok(())
+}
+
 #[test]
 fn texts_are_canonical(rt: HostRuntime) -> Result<(), Fail> {
-    let texts: [(&[u8], &[u8]); 3] = [
-        (
-            b"B=LocalSum\tof A and  +03 and -0",
-            b"B = LocalSum of A and 3 and 0",
-        ),
-        (b"D = LocalRatio of 1 and D", b"D = LocalRatio of 1 and D"),
-        (
-            b"R = LocalRating of A with +9 for 01 to 3 with null for -5 to -5",
-            b"R = LocalRating of A with 9 for 1 to 3 with null for -5",
-        ),
-    ];
-    for (line, want) in texts {
-        let text = reprinted(rt.alloc(), line).ok_or("not read")?;
-        assert_eq!(rt; text.as_slice(), want);
+    reads(
+        &rt,
+        b"B=LocalSum\tof A and  +03 and -0",
+        b"B = LocalSum of A and 3 and 0",
+    )?;
+    reads(
+        &rt,
+        b"D = LocalRatio of 1 and D",
+        b"D = LocalRatio of 1 and D",
+    )?;
+    reads(
+        &rt,
+        b"R = LocalRating of A with +9 for 01 to 3 with null for -5 to -5",
+        b"R = LocalRating of A with 9 for 1 to 3 with null for -5",
+    )
+}
+
+/// The number that stands at a place of an operation.
+fn number_at(op: &Op, k: u32) -> Option<i32> {
+    match op.term(k) {
+        Some(Term::Number(value)) => Some(*value),
+        _ => None,
     }
-    Ok(())
 }
 
 #[test]
@@ -174,11 +214,6 @@ fn terms_are_in_order(rt: HostRuntime) {
         left: Term::Number(4),
         right: Term::Number(7),
     };
-    for (k, want) in [(0, Some(4)), (1, Some(7)), (2, None)] {
-        let number = match op.term(k) {
-            Some(Term::Number(value)) => Some(*value),
-            _ => None,
-        };
-        assert_eq!(rt; number, want);
-    }
+    let numbers = [number_at(&op, 0), number_at(&op, 1), number_at(&op, 2)];
+    assert_eq!(rt; numbers, [Some(4), Some(7), None]);
 }

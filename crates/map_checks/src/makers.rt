@@ -53,12 +53,3 @@ pub fn stamps_of(alloc: Global, layer: &Layer) -> Result<Vec<u64>, NoMemory> {
     }
     Ok(stamps)
 }
-
-/// The places of the cells of 33 rows and columns.
-pub fn numbers() -> [Value; 1089] {
-    let mut values = [0; 1089];
-    for at in 0..1089 {
-        values[at] = at as Value;
-    }
-    values
-}

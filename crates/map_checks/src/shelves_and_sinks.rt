@@ -5,11 +5,27 @@ use map_outside::{
 };
 use std::alloc::{AllocError, Global};
 use std::io::Write;
+use std::process::Abort;
 use std::test::Fail;
 use std::{fs, io};
 
 fn named(alloc: Global, name: &str, bytes: &[u8]) -> Result<(String, Vec<u8>), AllocError> {
     Ok((String::from_str(alloc, name)?, bytes.to_vec(alloc)?))
+}
+
+/// A shelf gives these bytes of a file, or this fault.
+fn fetches(
+    rt: &(impl AllocGlobal + Abort),
+    shelf: &mut MemoryShelf,
+    name: &str,
+    limit: u64,
+    want: Result<&[u8], FetchFault>,
+) {
+    match (shelf.fetch(rt.alloc(), name, limit), want) {
+        (Ok(bytes), Ok(wanted)) => assert_eq!(rt; bytes.as_slice(), wanted),
+        (Err(fault), Err(wanted)) => assert_eq!(rt; fault, wanted),
+        _ => assert!(rt; false, "{name} {limit}"),
+    }
 }
 
 #[test]
@@ -21,21 +37,12 @@ fn memory_shelf(rt: HostRuntime) -> Result<(), Fail> {
         named(alloc, "a", b"two")?,
     ]?;
     let mut shelf = MemoryShelf::new(files, vec![in alloc; 2, 6]?);
-    for (name, limit, want) in [
-        ("a", 3, Ok(b"one".as_slice())),
-        ("b", 5, Err(FetchFault::Failed)),
-        ("b", 4, Err(FetchFault::Long)),
-        ("c", 4, Err(FetchFault::Failed)),
-        ("b", 5, Ok(b"three".as_slice())),
-        ("a", 3, Err(FetchFault::Failed)),
-    ] {
-        let got = shelf.fetch(alloc, name, limit);
-        match (got, want) {
-            (Ok(bytes), Ok(wanted)) => assert_eq!(rt; bytes.as_slice(), wanted),
-            (Err(fault), Err(wanted)) => assert_eq!(rt; fault, wanted),
-            _ => assert!(rt; false, "{name} {limit}"),
-        }
-    }
+    fetches(&rt, &mut shelf, "a", 3, Ok(b"one"));
+    fetches(&rt, &mut shelf, "b", 5, Err(FetchFault::Failed));
+    fetches(&rt, &mut shelf, "b", 4, Err(FetchFault::Long));
+    fetches(&rt, &mut shelf, "c", 4, Err(FetchFault::Failed));
+    fetches(&rt, &mut shelf, "b", 5, Ok(b"three"));
+    fetches(&rt, &mut shelf, "a", 3, Err(FetchFault::Failed));
     Ok(())
 }
 
@@ -50,44 +57,51 @@ fn taken<S: Source>(source: &mut S, is_short: bool) -> Result<(usize, [u8; 3]), 
     Ok((count, into))
 }
 
+/// A source gives this many bytes into three dots, or into the first of them.
+fn takes<S: Source>(
+    rt: &impl Abort,
+    source: &mut S,
+    is_short: bool,
+    want: Result<(usize, [u8; 3]), Failed>,
+) {
+    assert_eq!(rt; taken(source, is_short), want);
+}
+
 #[test]
 fn memory_source(rt: HostRuntime) -> Result<(), Fail> {
     let alloc = rt.alloc();
     let bytes = b"abcdef".as_slice().to_vec(alloc)?;
     let mut source = MemorySource::new(bytes, 2, vec![in alloc; 1, 3]?);
-    for (is_short, want) in [
-        (false, Err(Failed)),
-        (false, Ok((2, *b"ab."))),
-        (false, Err(Failed)),
-        (true, Ok((1, *b"c.."))),
-        (false, Ok((2, *b"de."))),
-        (false, Ok((1, *b"f.."))),
-        (false, Ok((0, *b"..."))),
-    ] {
-        assert_eq!(rt; taken(&mut source, is_short), want);
-    }
+    takes(&rt, &mut source, false, Err(Failed));
+    takes(&rt, &mut source, false, Ok((2, *b"ab.")));
+    takes(&rt, &mut source, false, Err(Failed));
+    takes(&rt, &mut source, true, Ok((1, *b"c..")));
+    takes(&rt, &mut source, false, Ok((2, *b"de.")));
+    takes(&rt, &mut source, false, Ok((1, *b"f..")));
+    takes(&rt, &mut source, false, Ok((0, *b"...")));
     Ok(())
 }
 
 #[test]
 fn read_source(rt: HostRuntime) {
     let mut source = ReadSource::new(b"abcd".as_slice());
-    for want in [(3, *b"abc"), (1, *b"d.."), (0, *b"...")] {
-        assert_eq!(rt; taken(&mut source, false), Ok(want));
-    }
+    takes(&rt, &mut source, false, Ok((3, *b"abc")));
+    takes(&rt, &mut source, false, Ok((1, *b"d..")));
+    takes(&rt, &mut source, false, Ok((0, *b"...")));
+}
+
+/// A sink answers this to bytes.
+fn puts<S: Sink>(rt: &impl Abort, sink: &mut S, bytes: &[u8], want: Result<(), PutFault>) {
+    assert_eq!(rt; sink.put(bytes), want);
 }
 
 #[test]
 fn memory_sink(rt: HostRuntime) -> Result<(), Fail> {
     let alloc = rt.alloc();
     let mut sink = MemorySink::new(alloc, vec![in alloc; 2]?);
-    for (bytes, want) in [
-        (b"ab", Ok(())),
-        (b"cd", Err(PutFault::Failed)),
-        (b"ef", Ok(())),
-    ] {
-        assert_eq!(rt; sink.put(bytes), want);
-    }
+    puts(&rt, &mut sink, b"ab", Ok(()));
+    puts(&rt, &mut sink, b"cd", Err(PutFault::Failed));
+    puts(&rt, &mut sink, b"ef", Ok(()));
     assert_eq!(rt; sink.bytes(), b"abef".as_slice());
     Ok(())
 }
