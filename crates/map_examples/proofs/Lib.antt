@@ -5,6 +5,8 @@ pub mod Scripts
 mod ChangeCounts
 mod CountedTexts
 mod TileTexts
+mod Repairs
+mod RepairTexts
 mod SampleTexts
 mod ModelTexts
 mod LimitTexts
