@@ -14,7 +14,8 @@ use Rattle.statement_parser.specs.declared.line.Written.TheVariants as a_written
 use Rattle.map_lines.specs.Formed.{IsOp, IsWritten}
 use Rattle.map_lines.proofs.Viewed.{by_view}
 use Rattle.map_defs.specs.Expansion.{expansion_of}
-use Rattle.map_edits.specs.Entries.{Def, source, statement, Entry, find_def, put_entry, drop_entry, LayerDef, given_grid, by_op, flat_layer, layers, layers_of}
+use Rattle.map_edits.specs.Entries.{Def, source, statement, Entry, find_def, put_entry, drop_entry}
+use Rattle.map_edits.specs.LayerDefs.{LayerDef, given_grid, by_op, flat_layer, layers, layers_of}
 use Rattle.map_edits.specs.Edits.{is_source, is_flat, is_zonal}
 use Rattle.map_edits.specs.Laws.{IsOwnDef, IsOwn}
 use Rattle.map_edits.proofs.Puts.{own_put}

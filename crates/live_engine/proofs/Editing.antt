@@ -17,7 +17,8 @@ use Rattle.statement_parser.specs.declared.line.Written.TheVariants as a_written
 use Rattle.indexmap.specs.IndexMap.{insert_entry}
 use Rattle.statement_graph.specs.Groups.{Group, nodes_in, has_group, put_group, drop_group}
 use Rattle.statement_graph.specs.Puts.{source_node}
-use Rattle.map_edits.specs.Entries.{Def, source, statement, Entry, find_def, put_entry, drop_entry, layers, nodes_of}
+use Rattle.map_edits.specs.Entries.{Def, source, statement, Entry, find_def, put_entry, drop_entry}
+use Rattle.map_edits.specs.LayerDefs.{layers, nodes_of}
 use Rattle.map_edits.specs.EngineStates.{EngineState}
 use Rattle.map_edits.specs.Faults.{overflow, fault_of}
 use Rattle.map_edits.specs.Edits.{Edit, load, new_layer, paint, define, drop_name, Rectangle, unknown, is_derived, exists_already, wrong_size, beyond, cycle, sources, statements, zonals, is_source, is_flat, is_zonal, is_within, painted, same_size, add_source, paint_source, bounded, put_statement, define_entry, entries_after, accept}

@@ -14,7 +14,8 @@ use Rattle.statement_parser.specs.declared.op.Term.TheVariants as a_term
 use Rattle.layer_tiles.specs.Changes.{ChangeState}
 use Rattle.layer_tiles.specs.Layers.{LayerState}
 use Rattle.layer_tiles.specs.Operands.{cells_after}
-use Rattle.map_edits.specs.Entries.{Making, Entry, given_grid, by_op, layers, find_making}
+use Rattle.map_edits.specs.Entries.{Entry}
+use Rattle.map_edits.specs.LayerDefs.{Making, given_grid, by_op, layers, find_making}
 use Rattle.map_edits.specs.EngineStates.{EngineState, all_some, made, term_cells}
 use Rattle.live_engine.specs.Held.{grid_of}
 use Rattle.live_engine.specs.Values.{IsOfStamp, kept, at_hand}

@@ -14,7 +14,7 @@ use Rattle.statement_parser.specs.Views.{op_view}
 use Rattle.statement_parser.specs.declared.op.Op.{Op}
 use Rattle.map_lines.specs.Formed.{IsOp}
 use Rattle.map_lines.proofs.Viewed.{by_view}
-use Rattle.map_edits.specs.Entries.{by_op, layers, find_making}
+use Rattle.map_edits.specs.LayerDefs.{by_op, layers, find_making}
 use Rattle.map_edits.specs.EngineStates.{EngineState, value_of}
 use Rattle.map_edits.specs.Faults.{Fault, too_many_viewers, viewers_of, wide_place, overflow_at, fault_of_layer}
 use Rattle.map_nums.specs.Options.{first_some}

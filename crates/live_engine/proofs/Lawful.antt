@@ -4,7 +4,8 @@ use Rattle.map_nums.specs.Grids.{Grid}
 use Rattle.map_defs.specs.Ops.{Name}
 use Rattle.map_defs.specs.Depths.{is_looped}
 use Rattle.map_defs.specs.Statements.{Flat, Written}
-use Rattle.map_edits.specs.Entries.{Def, source, statement, Entry, find_def, put_entry, drop_entry, layers, nodes_of}
+use Rattle.map_edits.specs.Entries.{Def, source, statement, Entry, find_def, put_entry, drop_entry}
+use Rattle.map_edits.specs.LayerDefs.{layers, nodes_of}
 use Rattle.map_edits.specs.Edits.{is_source, is_flat, most_sources, most_flats}
 use Rattle.map_edits.specs.Laws.{IsOwnDef, IsOwn}
 use Rattle.map_edits.proofs.Puts.{own_put, length-nodes_of}

@@ -12,7 +12,8 @@ use Rattle.statement_parser.specs.declared.op.Op as seen
 use Rattle.statement_parser.specs.declared.line.Written as writtens
 use Rattle.statement_parser.specs.declared.line.Written.TheVariants as a_written
 use Rattle.layer_tiles.specs.Changes.{ChangeState}
-use Rattle.map_edits.specs.Entries.{Def, source, statement, Entry, find_def, put_entry, drop_entry, given_grid, by_op, layers, find_making}
+use Rattle.map_edits.specs.Entries.{Def, source, statement, Entry, find_def, put_entry, drop_entry}
+use Rattle.map_edits.specs.LayerDefs.{given_grid, by_op, layers, find_making}
 use Rattle.map_edits.specs.Laws.{IsOwnDef, IsOwn, IsApart}
 use Rattle.map_edits.proofs.Among.{same_name}
 use Rattle.map_edits.proofs.Puts.{apart_put, apart_drop, def_making, making_by_entry}

@@ -13,7 +13,8 @@ use Rattle.statement_parser.specs.declared.line.Written as writtens
 use Rattle.statement_parser.specs.declared.line.Written.TheVariants as a_written
 use Rattle.layer_tiles.specs.Layers.{LayerState}
 use Rattle.statement_graph.specs.Groups.{nodes_in}
-use Rattle.map_edits.specs.Entries.{statement, find_def, nodes_of}
+use Rattle.map_edits.specs.Entries.{statement, find_def}
+use Rattle.map_edits.specs.LayerDefs.{nodes_of}
 use Rattle.map_edits.specs.EngineStates.{all_some, term_cells, value_of}
 use Rattle.map_edits.proofs.Looks.{made_node}
 use Rattle.map_edits.proofs.Puts.{def_making, making_by_entry}

@@ -3,7 +3,8 @@ use Rattle.std.proofs.Common.{◌≡◌, ℕ, ◌+◌, ◌-◌, List, [], ◌∷
 use Rattle.std.specs.Map.{lookup}
 use Rattle.map_defs.specs.Ops.{Name, Op}
 use Rattle.map_defs.specs.Statements.{Written}
-use Rattle.map_edits.specs.Entries.{Def, source, statement, Entry, find_def, put_entry, layers}
+use Rattle.map_edits.specs.Entries.{Def, source, statement, Entry, find_def, put_entry}
+use Rattle.map_edits.specs.LayerDefs.{layers}
 use Rattle.map_edits.specs.Edits.{is_source, is_flat}
 use Rattle.map_edits.specs.Laws.{IsOwn}
 use Rattle.live_engine.specs.Held.{def_of, entries_of}

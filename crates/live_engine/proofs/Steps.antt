@@ -10,7 +10,8 @@ use Rattle.map_defs.specs.Ops as ops
 use Rattle.map_defs.specs.Ops.{Name, needs_of}
 use Rattle.map_defs.specs.Nodes.{Node, lacks, missing}
 use Rattle.map_defs.specs.Depths.{by_depth}
-use Rattle.map_edits.specs.Entries.{Entry, Making, given_grid, by_op, layers, find_making, nodes_of}
+use Rattle.map_edits.specs.Entries.{Entry}
+use Rattle.map_edits.specs.LayerDefs.{Making, given_grid, by_op, layers, find_making, nodes_of}
 use Rattle.map_edits.specs.EngineStates.{EngineState, made, value_of}
 use Rattle.map_edits.specs.Faults.{overflow, wide_place, overflow_at, fault_of_layer, fault_of}
 use Rattle.map_nums.specs.Options.{first_some}

@@ -15,7 +15,7 @@ use Rattle.layer_tiles.specs.Layers.{LayerState, layer_of}
 use Rattle.layer_tiles.specs.Tallies.{TallyState, RisesBy, KeepsParts}
 use Rattle.layer_tiles.specs.declared.kernels.KernelRefusal.TheVariants as refusals
 use Rattle.op_jobs.specs.Evaluated.{IsEvaluated}
-use Rattle.map_edits.specs.Entries.{Making, by_op}
+use Rattle.map_edits.specs.LayerDefs.{Making, by_op}
 use Rattle.map_edits.specs.EngineStates.{all_some, term_cells, made}
 use Rattle.map_edits.specs.Faults.{wide_place, overflow_at}
 use Rattle.live_engine.specs.Held.{grid_of}

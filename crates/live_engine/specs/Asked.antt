@@ -5,7 +5,8 @@ use Rattle.map_defs.specs.Ops.{Name}
 use Rattle.map_defs.specs.Nodes.{missing}
 use Rattle.map_defs.specs.Statements.{Written}
 use Rattle.statement_parser.specs.Views.{written_view}
-use Rattle.map_edits.specs.Entries.{Def, source, statement, Entry as StateEntry, nodes_of}
+use Rattle.map_edits.specs.Entries.{Def, source, statement, Entry as StateEntry}
+use Rattle.map_edits.specs.LayerDefs.{nodes_of}
 use Rattle.map_edits.specs.EngineStates.{EngineState, value_of}
 use Rattle.live_engine.specs.Held.{grid_of}
 use Rattle.live_engine.specs.declared.reads.Missing.{Missing}

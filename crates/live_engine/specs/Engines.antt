@@ -6,7 +6,8 @@ use Rattle.map_words.specs.Names.{is_plain}
 use Rattle.map_lines.specs.Formed.{IsWritten}
 use Rattle.statement_parser.specs.Views.{written_view}
 use Rattle.statement_graph.specs.Groups.{Group}
-use Rattle.map_edits.specs.Entries.{Entry, layers}
+use Rattle.map_edits.specs.Entries.{Entry}
+use Rattle.map_edits.specs.LayerDefs.{layers}
 use Rattle.map_edits.specs.EngineStates.{EngineState}
 use Rattle.map_edits.specs.Faults.{fault_of}
 use Rattle.map_edits.specs.Edits.{is_source, is_flat, most_sources, most_flats}

@@ -4,7 +4,8 @@ use Rattle.map_defs.specs.Ops.{Name, term_names, needs_of}
 use Rattle.map_defs.specs.Nodes.{Node}
 use Rattle.map_defs.specs.Depths.{is_looped}
 use Rattle.map_defs.specs.Statements.{Flat, Written, plain, call}
-use Rattle.map_edits.specs.Entries.{Entry, layers_of, flat_layer, node_of_layer}
+use Rattle.map_edits.specs.Entries.{Entry}
+use Rattle.map_edits.specs.LayerDefs.{layers_of, flat_layer, node_of_layer}
 use Rattle.statement_graph.specs.Groups.{Group, nodes_in, put_group}
 use Rattle.statement_graph.specs.declared.refusal.GraphRefusal.{GraphRefusal}
 use Rattle.statement_graph.specs.declared.refusal.GraphRefusal.TheVariants.{Cycle, NoMemory}

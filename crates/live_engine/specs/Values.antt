@@ -6,7 +6,7 @@ use Rattle.layer_tiles.specs.Layers.{layer_of}
 use Rattle.map_defs.specs.Ops.{Name, Op}
 use Rattle.map_defs.specs.Nodes.{Node}
 use Rattle.map_defs.specs.Depths.{by_depth}
-use Rattle.map_edits.specs.Entries.{Making, given_grid, by_op, layers, find_making, nodes_of}
+use Rattle.map_edits.specs.LayerDefs.{Making, given_grid, by_op, layers, find_making, nodes_of}
 use Rattle.map_edits.specs.EngineStates.{EngineState, value_of}
 use Rattle.map_edits.specs.Faults.{overflow, wide_place, overflow_at, fault_of}
 use Rattle.live_engine.specs.Held.{grid_of}

@@ -4,7 +4,8 @@ ghost use Rattle.std.specs.Prelude.{◌≡◌, ◌≤◌, ◌-◌, ◌∷◌, []
 ghost use Rattle.indexmap.specs.IndexMap.{values};
 ghost use Rattle.map_defs.specs.Ops.{Op};
 ghost use Rattle.map_defs.specs.Statements.{Written};
-ghost use Rattle.map_edits.specs.Entries.{statement, find_def, put_entry, layers};
+ghost use Rattle.map_edits.specs.Entries.{statement, find_def, put_entry};
+ghost use Rattle.map_edits.specs.LayerDefs.{layers};
 ghost use Rattle.map_edits.specs.Edits.{is_source, is_flat};
 ghost use Rattle.map_edits.specs.Laws.{IsOwn};
 ghost use Rattle.live_engine.specs.Held.{entries_of};

@@ -9,7 +9,7 @@ ghost use Rattle.map_lines.specs.Formed.{IsOp, IsTerm, IsWritten};
 ghost use Rattle.map_defs.specs.Statements.{plain};
 ghost use Rattle.statement_parser.specs.Views.{op_view, term_view, written_view};
 ghost use Rattle.layer_tiles.specs.Operands.{cells_after};
-ghost use Rattle.map_edits.specs.Entries.{by_op, find_making, layers, nodes_of};
+ghost use Rattle.map_edits.specs.LayerDefs.{by_op, find_making, layers, nodes_of};
 ghost use Rattle.map_edits.specs.EngineStates.{all_some, made, term_cells};
 ghost use Rattle.map_edits.specs.Laws.{HasNoCycle};
 ghost use Rattle.live_engine.specs.Held.{grid_of};

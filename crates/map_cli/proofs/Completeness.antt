@@ -9,7 +9,7 @@ use Rattle.map_machine.specs.Lines.{ended_lines}
 use Rattle.map_machine.specs.Text.{session_lines}
 use Rattle.map_machine.proofs.TextLemmas.{session_lines_begin}
 use Rattle.map_machine.specs.Steps.{is_quit}
-use Rattle.map_machine.specs.Play.{Opening, goes_on}
+use Rattle.map_machine.specs.Openings.{Opening, goes_on}
 use Rattle.map_outside.specs.Contents.{Files}
 use Rattle.map_cli.specs.Completeness.{ComesToEnd, IsComplete, ComesToLimit, IsTooLong}
 use Rattle.map_cli.specs.FaultCounts.{RunCounts, NoneRose}

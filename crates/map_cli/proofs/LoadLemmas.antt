@@ -9,7 +9,8 @@ use Rattle.map_defs.specs.Ops.{Name}
 use Rattle.map_machine.specs.States.{MapState}
 use Rattle.map_machine.specs.Loads.{Opened, ready, turned_away, long_file_reply}
 use Rattle.map_machine.specs.Words.{Pair}
-use Rattle.map_machine.specs.Play.{Opening, opened_text, opened_opening, file_text, file_opening, further_text, further_opening}
+use Rattle.map_machine.specs.Play.{opened_text, file_text, further_text}
+use Rattle.map_machine.specs.Openings.{Opening, opened_opening, file_opening, further_opening}
 use Rattle.map_machine.proofs.OpeningLemmas.{file_text-long, file_text-fits, file_opening-long, file_opening-fits}
 use Rattle.map_machine.specs.declared.Kind.TheVariants.{Accepted}
 use Rattle.map_session.specs.Answered.{Opens}

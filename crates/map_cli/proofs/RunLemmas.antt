@@ -7,7 +7,8 @@ use Rattle.map_machine.specs.Lines.{ended_lines}
 use Rattle.map_machine.specs.States.{MapState}
 use Rattle.map_machine.specs.Text.{replies_to, session_text}
 use Rattle.map_machine.specs.Words.{Pair}
-use Rattle.map_machine.specs.Play.{loads_text, loads_opening, goes_on}
+use Rattle.map_machine.specs.Play.{loads_text}
+use Rattle.map_machine.specs.Openings.{loads_opening, goes_on}
 use Rattle.map_outside.specs.Contents.{Files, Grows}
 use Rattle.map_outside.proofs.Tellings.{grows_nil, grows_then}
 use Rattle.map_cli.specs.Completeness.{ComesToEnd, ComesToLimit, IsComplete, IsTooLong}

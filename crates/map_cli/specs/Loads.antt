@@ -3,7 +3,7 @@ use Rattle.std.specs.Prelude.{ℕ, ◌≡◌, ⊤, List, ◌++◌, take, Option,
 use Rattle.map_defs.specs.Ops.{Name}
 use Rattle.map_machine.specs.States.{MapState}
 use Rattle.map_machine.specs.Loads.{Opened, ready, turned_away, first_load, next_load}
-use Rattle.map_machine.specs.Play.{Opening, goes_on, turned_back}
+use Rattle.map_machine.specs.Openings.{Opening, goes_on, turned_back}
 use Rattle.map_outside.specs.Contents.{Files, Grows}
 use Rattle.map_cli.specs.declared.stop.Stop.{Stop}
 use Rattle.map_cli.specs.declared.stop.Stop.TheVariants.{Load, SourceFault, SinkFault, NoMemory, TooLong}

@@ -1,6 +1,6 @@
 -- How the loads of a run and its answer go together.
 use Rattle.std.specs.Prelude.{⊤}
-use Rattle.map_machine.specs.Play.{Opening, goes_on, turned_back, not_held}
+use Rattle.map_machine.specs.Openings.{Opening, goes_on, turned_back, not_held}
 use Rattle.map_cli.specs.declared.status.Status.{Status}
 use Rattle.map_cli.specs.declared.status.Status.TheVariants.{Done, Usage, Load, ShelfFault, SourceFault, SinkFault, NoMemory, TooLong}
 

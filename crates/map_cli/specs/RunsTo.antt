@@ -1,6 +1,7 @@
 -- What a run came to, with its limits: the most bytes of a file, and how many bytes of a session are too many.
 use Rattle.std.specs.Prelude.{ℕ, ◌≡◌, ◌↔◌, true, List, Option, IsNone, IfSome}
-use Rattle.map_machine.specs.Play.{loads_text, loads_opening}
+use Rattle.map_machine.specs.Play.{loads_text}
+use Rattle.map_machine.specs.Openings.{loads_opening}
 use Rattle.map_machine.specs.Text.{session_text}
 use Rattle.map_machine.specs.Words.{Pair}
 use Rattle.map_outside.specs.Contents.{Grows}

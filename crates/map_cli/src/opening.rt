@@ -3,7 +3,8 @@ ghost use Rattle.std.specs.Prelude.{◌≡◌, ◌<◌, ℕ, None, Some, IfOk, I
 ghost use Rattle.std.specs.List.{All};
 ghost use Rattle.map_words.specs.Names.{is_plain};
 ghost use Rattle.map_machine.specs.Loads.{Opened, ready, turned_away, first_load, next_load, long_file_reply};
-ghost use Rattle.map_machine.specs.Play.{file_text, file_opening, further_text, further_opening, pairs_text, pairs_opening};
+ghost use Rattle.map_machine.specs.Play.{file_text, further_text, pairs_text};
+ghost use Rattle.map_machine.specs.Openings.{file_opening, further_opening, pairs_opening};
 ghost use Rattle.layer_tiles.specs.Tallies.{KeepsParts};
 ghost use Rattle.map_cli.specs.FaultCounts.{RunCounts};
 ghost use Rattle.map_cli.specs.Loads.{Loads, LoadsAs, load_on, OneOpens, AllOpen};

@@ -3,7 +3,8 @@ ghost use Rattle.std.specs.Prelude.{◌≡◌, ◌<◌, ◌≤◌, ◌↔◌, tr
 ghost use Rattle.std.specs.List.{All};
 ghost use Rattle.map_words.specs.Names.{is_plain};
 ghost use Rattle.map_machine.specs.Limits.{longest_file, too_many_bytes};
-ghost use Rattle.map_machine.specs.Play.{run_text, run_opening, goes_on};
+ghost use Rattle.map_machine.specs.Play.{run_text};
+ghost use Rattle.map_machine.specs.Openings.{run_opening, goes_on};
 ghost use Rattle.map_machine.specs.Words.{run_pairs};
 ghost use Rattle.map_outside.specs.Contents.{Grows};
 ghost use Rattle.layer_tiles.specs.Tallies.{KeepsParts};

@@ -6,7 +6,8 @@ use Rattle.map_defs.specs.Statements as statements
 use Rattle.map_defs.specs.Statements.{Flat, Written}
 use Rattle.map_defs.specs.Expansion.{WrongCall, not_defined, wrong_count, expansion_of}
 use Rattle.map_defs.specs.Depths.{reaches, is_looped, by_depth}
-use Rattle.map_edits.specs.Entries.{Def, source, statement, Entry, find_def, put_entry, drop_entry, layers, nodes_of}
+use Rattle.map_edits.specs.Entries.{Def, source, statement, Entry, find_def, put_entry, drop_entry}
+use Rattle.map_edits.specs.LayerDefs.{layers, nodes_of}
 use Rattle.map_edits.specs.EngineStates.{EngineState, no_entries, value_of}
 use Rattle.map_edits.specs.Faults.{Fault, fault_of}
 use Rattle.map_edits.specs.Edits.{Edit, load, new_layer, paint, define, drop_name, Rectangle, Refusal, cycle, beyond, sources, statements as too_many, zonals, is_source, is_flat, is_zonal, most_sources, most_flats, most_zonals, is_within, painted, same_size, add_source, paint_source, bounded, put_statement, define_entry, entries_after, with_entries, may_fault, without_fault, settled, accept_entries, accept}

@@ -5,7 +5,8 @@ use Rattle.std.proofs.lemmas.Bool.{true≢false, or_parts}
 use Rattle.map_defs.specs.Ops.{Name}
 use Rattle.map_defs.specs.Nodes.{Node, needs_in}
 use Rattle.map_defs.specs.Depths.{reaches}
-use Rattle.map_edits.specs.Entries.{Def, put_entry, drop_entry, layers, find_making, nodes_of}
+use Rattle.map_edits.specs.Entries.{Def, put_entry, drop_entry}
+use Rattle.map_edits.specs.LayerDefs.{layers, find_making, nodes_of}
 use Rattle.map_edits.specs.EngineStates.{EngineState, made, value_of}
 use Rattle.map_edits.specs.Laws.{is_among, HasNoCycle, IsOwnDef, IsOwn}
 use Rattle.map_edits.proofs.Among.{bytes_eq-self, none_at, any_none}

@@ -3,7 +3,7 @@ use Rattle.std.proofs.Common.{◌≡◌, ℕ, ◌≤◌, Bool, true, false, cond
 use Rattle.std.proofs.lemmas.Bool.{false≢true, le-leb}
 use Rattle.std.proofs.lemmas.List.Sums.{sum_by-cons}
 use Rattle.map_defs.specs.Depths.{depth_in}
-use Rattle.map_edits.specs.Entries.{LayerDef, layers, nodes_of}
+use Rattle.map_edits.specs.LayerDefs.{LayerDef, layers, nodes_of}
 use Rattle.map_edits.specs.EngineStates.{EngineState}
 use Rattle.map_edits.specs.Faults.{Fault}
 use Rattle.map_edits.specs.Refusals.{Refusal}

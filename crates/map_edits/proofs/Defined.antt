@@ -5,7 +5,7 @@ use Rattle.map_nums.specs.Grids.{Size, Cells, Grid}
 use Rattle.map_defs.specs.Ops.{Name, Term, layer_term, number_term, terms_of, term_names}
 use Rattle.map_defs.specs.Operate.{operate}
 use Rattle.map_defs.specs.Nodes.{find_node, needs_in, lacks, first_some}
-use Rattle.map_edits.specs.Entries.{Making, given_grid, by_op, layers, find_making, nodes_of}
+use Rattle.map_edits.specs.LayerDefs.{Making, given_grid, by_op, layers, find_making, nodes_of}
 use Rattle.map_edits.specs.EngineStates.{EngineState, all_some, term_cells, made, value_of}
 use Rattle.map_edits.specs.Laws.{is_among, HasNoCycle}
 use Rattle.map_edits.proofs.Among.{bytes_eq-self, none_at}

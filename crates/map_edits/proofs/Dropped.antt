@@ -9,7 +9,8 @@ use Rattle.map_defs.specs.Ops.{Name, Term, layer_term, number_term, Op, sight_op
 use Rattle.map_defs.specs.Operate.{operate}
 use Rattle.map_defs.specs.Nodes.{Node, find_node, needs_in}
 use Rattle.map_defs.specs.Depths.{by_depth}
-use Rattle.map_edits.specs.Entries.{Entry, find_def, drop_entry, Making, given_grid, by_op, layers, find_making, nodes_of}
+use Rattle.map_edits.specs.Entries.{Entry, find_def, drop_entry}
+use Rattle.map_edits.specs.LayerDefs.{Making, given_grid, by_op, layers, find_making, nodes_of}
 use Rattle.map_edits.specs.EngineStates.{EngineState, all_some, term_cells, made, value_of}
 use Rattle.map_nums.specs.Options.{first_some}
 use Rattle.map_edits.specs.Faults.{Fault, too_many_viewers, viewers_among, viewers_of, wide_place, overflow_at, fault_of_layer, fault_of}

@@ -8,7 +8,8 @@ use Rattle.map_defs.specs.Operate.{operate}
 use Rattle.map_defs.specs.Statements.{Flat, Written}
 use Rattle.map_defs.specs.Nodes.{Node, find_node, needs_in, lacks, missing, first_some}
 use Rattle.map_defs.specs.Depths.{by_depth}
-use Rattle.map_edits.specs.Entries.{Def, source, statement, Entry, find_def, given_grid, layers, nodes_of}
+use Rattle.map_edits.specs.Entries.{Def, source, statement, Entry, find_def}
+use Rattle.map_edits.specs.LayerDefs.{given_grid, layers, nodes_of}
 use Rattle.map_edits.specs.EngineStates.{EngineState, all_some, term_cells, made, value_of}
 use Rattle.map_edits.specs.Laws.{is_among, is_named_in, HasNoCycle, IsOwnDef, IsOwn, IsWellMade}
 use Rattle.map_edits.proofs.Among.{same_name}

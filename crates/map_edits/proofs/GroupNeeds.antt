@@ -6,7 +6,8 @@ use Rattle.map_defs.specs.Statements.{Flat}
 use Rattle.map_defs.specs.FlatNames.{IsIn, AreApart, Each, has_dot, IsMet, AreMet, flat_names}
 use Rattle.map_defs.specs.MadeProcedures.{IsUndotted}
 use Rattle.map_defs.proofs.FlatNames.{each_at, each_more}
-use Rattle.map_edits.specs.Entries.{Def, source, statement, given_grid, by_op, LayerDef, flat_layer, find_making}
+use Rattle.map_edits.specs.Entries.{Def, source, statement}
+use Rattle.map_edits.specs.LayerDefs.{given_grid, by_op, LayerDef, flat_layer, find_making}
 use Rattle.map_edits.specs.Laws.{is_among}
 use Rattle.map_edits.specs.GroupLaws.{IsGroup}
 use Rattle.map_edits.proofs.Among.{same_name, bytes_eq-self}

@@ -6,7 +6,8 @@ use Rattle.map_defs.specs.Ops.{Name}
 use Rattle.map_defs.specs.Statements.{Flat}
 use Rattle.map_defs.specs.FlatNames.{Each, flat_names}
 use Rattle.map_defs.specs.MadeProcedures.{IsUndotted}
-use Rattle.map_edits.specs.Entries.{Def, source, statement, Entry, find_def, put_entry, drop_entry, Making, given_grid, LayerDef, flat_layer, layers_of, layers, find_making}
+use Rattle.map_edits.specs.Entries.{Def, source, statement, Entry, find_def, put_entry, drop_entry}
+use Rattle.map_edits.specs.LayerDefs.{Making, given_grid, LayerDef, flat_layer, layers_of, layers, find_making}
 use Rattle.map_edits.specs.Laws.{IsApart}
 use Rattle.map_edits.specs.GroupLaws.{IsGroup, AreGroups}
 use Rattle.map_edits.proofs.Among.{same_name, bytes_eq-self}

@@ -11,7 +11,8 @@ use Rattle.map_defs.specs.MadeProcedures.{IsUndotted}
 use Rattle.map_defs.specs.Nodes.{needs_in}
 use Rattle.map_defs.specs.Depths.{is_looped}
 use Rattle.map_defs.proofs.FlatNames.{each_at}
-use Rattle.map_edits.specs.Entries.{Def, source, statement, Entry, find_def, put_entry, drop_entry, by_op, flat_layer, layers, find_making, nodes_of}
+use Rattle.map_edits.specs.Entries.{Def, source, statement, Entry, find_def, put_entry, drop_entry}
+use Rattle.map_edits.specs.LayerDefs.{by_op, flat_layer, layers, find_making, nodes_of}
 use Rattle.map_edits.specs.Laws.{is_among, HasNoCycle, IsApart}
 use Rattle.map_edits.specs.GroupLaws.{IsGroup, AreGroups}
 use Rattle.map_edits.proofs.Among.{same_name, bytes_eq-self, bytes_eq-turned}

@@ -8,7 +8,8 @@ use Rattle.map_defs.specs.Ops.{Name}
 use Rattle.map_defs.specs.Statements.{Flat}
 use Rattle.map_defs.specs.Nodes.{Node, find_node}
 use Rattle.map_defs.specs.Depths.{depth_in, by_depth}
-use Rattle.map_edits.specs.Entries.{Def, source, statement, Entry, find_def, Making, by_op, LayerDef, flat_layer, layers_of, layers, find_making, node_of_layer, nodes_of}
+use Rattle.map_edits.specs.Entries.{Def, source, statement, Entry, find_def}
+use Rattle.map_edits.specs.LayerDefs.{Making, by_op, LayerDef, flat_layer, layers_of, layers, find_making, node_of_layer, nodes_of}
 use Rattle.map_edits.specs.Laws.{IsApart}
 use Rattle.map_edits.specs.GroupLaws.{IsGroup, AreGroups}
 use Rattle.map_edits.proofs.Among.{same_name, bytes_eq-self}

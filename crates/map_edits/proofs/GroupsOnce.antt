@@ -7,7 +7,8 @@ use Rattle.map_defs.specs.Statements.{Flat}
 use Rattle.map_defs.specs.FlatNames.{IsIn, AreApart, Each, flat_names}
 use Rattle.map_defs.specs.MadeProcedures.{IsUndotted}
 use Rattle.map_defs.specs.Nodes.{Node}
-use Rattle.map_edits.specs.Entries.{Def, source, statement, Entry, find_def, flat_layer, layers_of, layers, node_of_layer, nodes_of}
+use Rattle.map_edits.specs.Entries.{Def, source, statement, Entry, find_def}
+use Rattle.map_edits.specs.LayerDefs.{flat_layer, layers_of, layers, node_of_layer, nodes_of}
 use Rattle.map_edits.specs.Laws.{is_named_in, IsApart}
 use Rattle.map_edits.specs.GroupLaws.{IsGroup, AreGroups}
 use Rattle.map_edits.specs.ListingLaws.{AreListed, AllAreListed}

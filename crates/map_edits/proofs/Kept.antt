@@ -6,7 +6,8 @@ use Rattle.map_nums.specs.Grids.{Grid}
 use Rattle.map_defs.specs.Ops.{Name}
 use Rattle.map_defs.specs.Nodes.{Node, needs_in}
 use Rattle.map_defs.specs.Depths.{reaches, is_looped}
-use Rattle.map_edits.specs.Entries.{Def, source, Entry, put_entry, drop_entry, nodes_of}
+use Rattle.map_edits.specs.Entries.{Def, source, Entry, put_entry, drop_entry}
+use Rattle.map_edits.specs.LayerDefs.{nodes_of}
 use Rattle.map_edits.specs.Laws.{is_among, HasNoCycle, IsOwnDef, IsOwn}
 use Rattle.map_edits.proofs.Among.{same_name, any_at, any_found, none_at, any_none, any_more}
 use Rattle.map_edits.proofs.Chains.{goes_on, chains_end, no_cycle_from_ends}

@@ -10,7 +10,8 @@ use Rattle.map_defs.specs.Expansion.{WrongCall, not_defined, wrong_count, find_p
 use Rattle.map_defs.specs.Calls.{wrong_call}
 use Rattle.map_defs.proofs.Naming.{expansion_naming}
 use Rattle.map_defs.proofs.Totals.{made_bodies, made_more}
-use Rattle.map_edits.specs.Entries.{Def, source, statement, Entry, find_def, put_entry, drop_entry, layers, find_making, nodes_of}
+use Rattle.map_edits.specs.Entries.{Def, source, statement, Entry, find_def, put_entry, drop_entry}
+use Rattle.map_edits.specs.LayerDefs.{layers, find_making, nodes_of}
 use Rattle.map_edits.specs.EngineStates.{EngineState}
 use Rattle.map_edits.specs.Faults.{Fault}
 use Rattle.map_edits.specs.Refusals.{Which, procedures, labels, symbols, Refusal, unknown, exists_already, beyond, sources}

@@ -5,7 +5,8 @@ use Rattle.map_defs.specs.Statements.{Procedure}
 use Rattle.map_defs.specs.Expansion.{WrongCall, not_defined, wrong_count, find_procedure}
 use Rattle.map_defs.specs.Calls.{wrong_call}
 use Rattle.map_defs.specs.Depths.{by_depth}
-use Rattle.map_edits.specs.Entries.{Entry, find_def, drop_entry, layers, find_making, nodes_of}
+use Rattle.map_edits.specs.Entries.{Entry, find_def, drop_entry}
+use Rattle.map_edits.specs.LayerDefs.{layers, find_making, nodes_of}
 use Rattle.map_edits.specs.EngineStates.{EngineState, value_of}
 use Rattle.map_edits.specs.Faults.{fault_of_layer, fault_of}
 use Rattle.map_edits.specs.Refusals.{procedures, labels, symbols, Refusal, unknown, exists_already}

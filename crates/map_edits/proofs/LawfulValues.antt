@@ -5,7 +5,8 @@ use Rattle.map_defs.specs.Ops.{Name}
 use Rattle.map_defs.specs.FlatNames.{IsInside}
 use Rattle.map_defs.specs.Nodes.{needs_in}
 use Rattle.map_defs.specs.Depths.{reaches, is_looped}
-use Rattle.map_edits.specs.Entries.{Entry, nodes_of}
+use Rattle.map_edits.specs.Entries.{Entry}
+use Rattle.map_edits.specs.LayerDefs.{nodes_of}
 use Rattle.map_edits.specs.EngineStates.{EngineState, value_of}
 use Rattle.map_edits.specs.Refusals.{Refusal}
 use Rattle.map_edits.specs.EditForms.{Edit}

@@ -10,7 +10,8 @@ use Rattle.map_defs.specs.Statements.{Written, Flat, Procedure}
 use Rattle.map_defs.specs.Expansion.{WrongCall, not_defined, wrong_count, find_procedure, expansion_of}
 use Rattle.map_defs.specs.Calls.{wrong_call}
 use Rattle.map_defs.specs.Depths.{is_looped}
-use Rattle.map_edits.specs.Entries.{Def, source, statement, Entry, find_def, put_entry, drop_entry, LayerDef, layers_of, layers, nodes_of}
+use Rattle.map_edits.specs.Entries.{Def, source, statement, Entry, find_def, put_entry, drop_entry}
+use Rattle.map_edits.specs.LayerDefs.{LayerDef, layers_of, layers, nodes_of}
 use Rattle.map_edits.specs.EngineStates.{EngineState}
 use Rattle.map_edits.specs.Refusals.{Which, sources, statements, zonals, procedures, labels, symbols, Refusal, unknown, exists_already, beyond, cycle}
 use Rattle.map_edits.specs.Limits.{most_sources, most_flats, most_zonals, is_source, is_flat, is_zonal}

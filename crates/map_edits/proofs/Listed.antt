@@ -7,7 +7,8 @@ use Rattle.std.proofs.lemmas.Option.{none-some}
 use Rattle.map_defs.specs.Ops.{Name, needs_of}
 use Rattle.map_defs.specs.Nodes.{Node, find_node}
 use Rattle.map_defs.specs.Depths.{depth_in, by_depth}
-use Rattle.map_edits.specs.Entries.{Def, source, statement, Entry, find_def, layers, nodes_of}
+use Rattle.map_edits.specs.Entries.{Def, source, statement, Entry, find_def}
+use Rattle.map_edits.specs.LayerDefs.{layers, nodes_of}
 use Rattle.map_edits.specs.Laws.{IsOwnDef, IsOwn, IsApart}
 use Rattle.map_edits.proofs.Among.{same_name, bytes_eq-self}
 use Rattle.map_edits.proofs.Looks.{is_some-layers}

@@ -4,7 +4,8 @@ use Rattle.std.proofs.lemmas.List.{length-map}
 use Rattle.map_defs.specs.Ops.{Name, needs_of}
 use Rattle.map_edits.proofs.Among.{same_name}
 use Rattle.map_defs.specs.Nodes.{Node, find_node, needs_in}
-use Rattle.map_edits.specs.Entries.{Entry, Making, given_grid, by_op, LayerDef, layers, find_making, node_of_layer, nodes_of}
+use Rattle.map_edits.specs.Entries.{Entry}
+use Rattle.map_edits.specs.LayerDefs.{Making, given_grid, by_op, LayerDef, layers, find_making, node_of_layer, nodes_of}
 
 name_parts : (a : Name) (making : Making) → (node_of_layer (record { name = a; making = making })).name ≡ a
 name_parts a (given_grid grid) = refl

@@ -6,7 +6,8 @@ use Rattle.std.proofs.lemmas.List.Folds.{list_any-append}
 use Rattle.map_defs.specs.Ops.{Name}
 use Rattle.map_defs.specs.Nodes.{Node, find_node}
 use Rattle.map_defs.specs.Depths.{depth_in, by_depth}
-use Rattle.map_edits.specs.Entries.{Def, source, statement, Entry, nodes_of}
+use Rattle.map_edits.specs.Entries.{Def, source, statement, Entry}
+use Rattle.map_edits.specs.LayerDefs.{nodes_of}
 use Rattle.map_edits.specs.Laws.{is_named_in, IsOwnDef, IsOwn, IsApart}
 use Rattle.map_edits.proofs.Among.{same_name, bytes_eq-turned}
 use Rattle.map_edits.proofs.Listed.{Each, not_there}

@@ -2,7 +2,8 @@
 use Rattle.std.proofs.Common.{◌≡◌, suc, ◌≤◌, Bool, true, false, cond, not, List, [], ◌∷◌, length, find, Option, Some, None, option_map, bytes_eq, refl, sym, ap, subst, ◌∙◌, arith}
 use Rattle.map_defs.specs.Ops.{Name}
 use Rattle.map_defs.specs.Nodes.{needs_in}
-use Rattle.map_edits.specs.Entries.{Def, source, statement, Entry, find_def, put_entry, drop_entry, Making, given_grid, by_op, LayerDef, layers, find_making, nodes_of}
+use Rattle.map_edits.specs.Entries.{Def, source, statement, Entry, find_def, put_entry, drop_entry}
+use Rattle.map_edits.specs.LayerDefs.{Making, given_grid, by_op, LayerDef, layers, find_making, nodes_of}
 use Rattle.map_edits.specs.Laws.{IsOwnDef, IsOwn, IsApart}
 use Rattle.map_edits.proofs.Among.{same_name, bytes_eq-self, bytes_eq-turned}
 use Rattle.map_edits.proofs.Looks.{making_needs, needs_in-layers, length-nodes}

@@ -1,7 +1,7 @@
 -- The stamps that are kept are those of the layers that are defined.
 use Rattle.std.proofs.Common.{◌≡◌, ℕ, Bool, true, false, cond, ◌&&◌, List, [], ◌∷◌, map, filter, find, Option, Some, None, is_some, option_map, bytes_eq, refl, sym, ap, ◌∙◌, if◌then◌else◌}
 use Rattle.map_defs.specs.Ops.{Name}
-use Rattle.map_edits.specs.Entries.{Making, LayerDef, layers, find_making}
+use Rattle.map_edits.specs.LayerDefs.{Making, LayerDef, layers, find_making}
 use Rattle.map_edits.specs.EngineStates.{EngineState, value_of}
 use Rattle.map_edits.specs.WholeStates.{Stamps, WholeState, stamps_of}
 use Rattle.map_edits.specs.StampsAfter.{stamps_at}

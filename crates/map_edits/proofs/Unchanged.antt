@@ -13,7 +13,7 @@ use Rattle.map_defs.specs.Differences.{differs, has_changed, tile_has, square_ha
 use Rattle.map_defs.specs.Damage.{reach_of, is_damaged_at, is_damaged, op_damage}
 use Rattle.map_defs.specs.Work.{is_touched, in_one_region, op_work}
 use Rattle.map_defs.proofs.RegionCells.{same_so}
-use Rattle.map_edits.specs.Entries.{by_op}
+use Rattle.map_edits.specs.LayerDefs.{by_op}
 use Rattle.map_edits.specs.EngineStates.{EngineState}
 use Rattle.map_edits.specs.WholeStates.{cells_of}
 use Rattle.map_edits.specs.Touches.{Touch, is_whole}

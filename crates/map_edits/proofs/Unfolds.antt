@@ -6,7 +6,7 @@ use Rattle.map_defs.specs.Ops.{Name, Term, layer_term, number_term, terms_of, te
 use Rattle.map_defs.specs.Operate.{operate}
 use Rattle.map_defs.specs.Nodes.{Node, find_node, needs_in, lacks_within, lacks, first_some}
 use Rattle.map_defs.specs.Depths.{depth_within, depth_in}
-use Rattle.map_edits.specs.Entries.{Making, given_grid, by_op, LayerDef, layers, find_making, node_of_layer, nodes_of}
+use Rattle.map_edits.specs.LayerDefs.{Making, given_grid, by_op, LayerDef, layers, find_making, node_of_layer, nodes_of}
 use Rattle.map_edits.specs.EngineStates.{EngineState, all_some, term_cells, made, value_within, value_of}
 use Rattle.map_edits.specs.Laws.{is_among, HasNoCycle}
 use Rattle.map_edits.proofs.Among.{bytes_eq-self, map_agree, fold_max_agree}

@@ -2,7 +2,7 @@
 use Rattle.std.specs.Prelude.{ℕ, ◌*◌, nat_le, List, filter, Option, Some, None, Result, Ok, Err}
 use Rattle.map_defs.specs.Ops.{Name}
 use Rattle.map_defs.specs.Depths.{depth_in}
-use Rattle.map_edits.specs.Entries.{LayerDef, nodes_of}
+use Rattle.map_edits.specs.LayerDefs.{LayerDef, nodes_of}
 use Rattle.map_edits.specs.EngineStates.{EngineState}
 use Rattle.map_edits.specs.Faults.{Fault, too_many_viewers, overflow}
 use Rattle.map_edits.specs.Refusals.{Refusal}

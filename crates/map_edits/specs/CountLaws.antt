@@ -5,7 +5,7 @@ use Rattle.map_nums.specs.Grids.{Cells}
 use Rattle.map_defs.specs.Ops.{Name, Op}
 use Rattle.map_defs.specs.Nodes.{Node}
 use Rattle.map_defs.specs.Depths.{depth_in}
-use Rattle.map_edits.specs.Entries.{by_op, LayerDef, layers, nodes_of}
+use Rattle.map_edits.specs.LayerDefs.{by_op, LayerDef, layers, nodes_of}
 use Rattle.map_edits.specs.EngineStates.{EngineState}
 use Rattle.map_edits.specs.Refusals.{Refusal}
 use Rattle.map_edits.specs.Laws.{HasNoCycle}

@@ -1,6 +1,6 @@
 -- What an edit counts, summed over layers that are defined after it.
 use Rattle.std.specs.Prelude.{ℕ, List, filter, length, sum_by, is_some}
-use Rattle.map_edits.specs.Entries.{LayerDef, layers}
+use Rattle.map_edits.specs.LayerDefs.{LayerDef, layers}
 use Rattle.map_edits.specs.EngineStates.{EngineState, value_of}
 use Rattle.map_edits.specs.Touches.{Touch}
 use Rattle.map_edits.specs.LayerChanges.{changed_of, damage_of, work_of}

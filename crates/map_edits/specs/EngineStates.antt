@@ -4,7 +4,8 @@ use Rattle.map_nums.specs.Grids.{Size, Cells, Grid, constant}
 pub use Rattle.map_nums.specs.Options.{all_some}
 use Rattle.map_defs.specs.Ops.{Name, Term, layer_term, number_term, terms_of}
 use Rattle.map_defs.specs.Operate.{operate}
-use Rattle.map_edits.specs.Entries.{Entry, Making, given_grid, by_op, LayerDef, layers, find_making}
+use Rattle.map_edits.specs.Entries.{Entry}
+use Rattle.map_edits.specs.LayerDefs.{Making, given_grid, by_op, LayerDef, layers, find_making}
 
 pub record EngineState : Type 0 where
   pub size : Size

@@ -7,7 +7,7 @@ use Rattle.map_defs.specs.Sight.{viewer_count, most_viewers}
 use Rattle.map_defs.specs.Ops.{Name, sight_op}
 use Rattle.map_defs.specs.Nodes.{Node}
 use Rattle.map_defs.specs.Depths.{by_depth}
-use Rattle.map_edits.specs.Entries.{Making, by_op, layers, find_making, nodes_of}
+use Rattle.map_edits.specs.LayerDefs.{Making, by_op, layers, find_making, nodes_of}
 use Rattle.map_edits.specs.EngineStates.{EngineState, value_of, term_cells}
 
 pub data Fault : Type 0 where

@@ -3,7 +3,8 @@ use Rattle.std.specs.Prelude.{◌≡◌, List, [], ◌∷◌, None, Ok, ⊤}
 use Rattle.map_defs.specs.Ops.{Name}
 use Rattle.map_defs.specs.FlatNames.{Each, IsInside, AreFlats}
 use Rattle.map_defs.specs.MadeProcedures.{IsUndotted, written_names, IsBody, AreMade}
-use Rattle.map_edits.specs.Entries.{Def, source, statement, Entry, nodes_of}
+use Rattle.map_edits.specs.Entries.{Def, source, statement, Entry}
+use Rattle.map_edits.specs.LayerDefs.{nodes_of}
 use Rattle.map_edits.specs.Faults.{fault_of}
 use Rattle.map_edits.specs.EditForms.{Edit, load, new_layer, paint, define, drop_name}
 use Rattle.map_edits.specs.Laws.{HasNoCycle, IsApart}

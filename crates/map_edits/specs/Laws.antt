@@ -4,7 +4,8 @@ use Rattle.std.specs.List.{list_any}
 use Rattle.map_defs.specs.Ops.{Name, Op}
 use Rattle.map_defs.specs.Nodes.{Node}
 use Rattle.map_defs.specs.Depths.{is_looped}
-use Rattle.map_edits.specs.Entries.{Def, source, statement, Entry, find_def, nodes_of}
+use Rattle.map_edits.specs.Entries.{Def, source, statement, Entry, find_def}
+use Rattle.map_edits.specs.LayerDefs.{nodes_of}
 use Rattle.map_edits.specs.Edits.{Edit, load, new_layer, paint, define, drop_name}
 
 -- the name is one of these

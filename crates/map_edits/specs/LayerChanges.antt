@@ -5,7 +5,7 @@ use Rattle.map_defs.specs.Ops.{Name, Op, terms_of}
 use Rattle.map_defs.specs.Differences.{changed_tiles}
 use Rattle.map_defs.specs.Damage.{op_damage}
 use Rattle.map_defs.specs.Work.{op_work}
-use Rattle.map_edits.specs.Entries.{Making, given_grid, by_op, LayerDef}
+use Rattle.map_edits.specs.LayerDefs.{Making, given_grid, by_op, LayerDef}
 use Rattle.map_edits.specs.EngineStates.{EngineState, value_of, term_cells}
 use Rattle.map_edits.specs.WholeStates.{cells_of}
 use Rattle.map_edits.specs.Touches.{Touch, is_whole, source_damage}

@@ -1,4 +1,5 @@
 pub mod Entries
+pub mod LayerDefs
 pub mod EngineStates
 pub mod Faults
 pub mod EditForms

@@ -1,6 +1,6 @@
 -- Every accepted edit keeps the limits.
 use Rattle.std.specs.Prelude.{◌≡◌, ◌≤◌, count_by, length, Ok}
-use Rattle.map_edits.specs.Entries.{layers}
+use Rattle.map_edits.specs.LayerDefs.{layers}
 use Rattle.map_edits.specs.Limits.{most_sources, most_flats, most_zonals, is_source, is_flat, is_zonal}
 use Rattle.map_edits.specs.WholeStates.{WholeState}
 use Rattle.map_edits.specs.WholeEdits.{WholeEdit}

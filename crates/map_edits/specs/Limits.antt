@@ -1,7 +1,8 @@
 -- How many names there may be, by kind.
 use Rattle.std.specs.Prelude.{ℕ, Bool, true, false}
 use Rattle.map_defs.specs.Ops.{zonal_op}
-use Rattle.map_edits.specs.Entries.{Def, source, statement, Entry, Making, given_grid, by_op, LayerDef}
+use Rattle.map_edits.specs.Entries.{Def, source, statement, Entry}
+use Rattle.map_edits.specs.LayerDefs.{Making, given_grid, by_op, LayerDef}
 
 abbrev pub most_sources : ℕ
 most_sources = 32

@@ -1,6 +1,6 @@
 -- What holds of every state that edits reach.
 use Rattle.std.specs.Prelude.{◌≡◌, ◌≤◌, count_by, None}
-use Rattle.map_edits.specs.Entries.{layers, nodes_of}
+use Rattle.map_edits.specs.LayerDefs.{layers, nodes_of}
 use Rattle.map_edits.specs.EngineStates.{EngineState}
 use Rattle.map_edits.specs.Faults.{fault_of}
 use Rattle.map_edits.specs.Limits.{most_sources, most_flats, is_source, is_flat}

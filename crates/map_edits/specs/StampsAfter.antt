@@ -3,7 +3,7 @@ use Rattle.std.specs.Prelude.{ℕ, ◌==◌, List, [], map, slice_index_or, unwr
 use Rattle.std.specs.List.{list_any}
 use Rattle.map_nums.specs.Tiles.{tiles}
 use Rattle.map_defs.specs.Ops.{Name}
-use Rattle.map_edits.specs.Entries.{LayerDef}
+use Rattle.map_edits.specs.LayerDefs.{LayerDef}
 use Rattle.map_edits.specs.WholeStates.{WholeState, stamps_of}
 use Rattle.map_edits.specs.LayerChanges.{changed_of}
 use Rattle.map_edits.specs.EditCounts.{defined_layers}

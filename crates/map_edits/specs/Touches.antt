@@ -5,7 +5,8 @@ use Rattle.map_nums.specs.Grids.{Size}
 use Rattle.map_nums.specs.Tiles.{tiles}
 use Rattle.map_defs.specs.Ops.{Name}
 use Rattle.map_defs.specs.Differences.{tile_has}
-use Rattle.map_edits.specs.Entries.{Entry, LayerDef, layers_of}
+use Rattle.map_edits.specs.Entries.{Entry}
+use Rattle.map_edits.specs.LayerDefs.{LayerDef, layers_of}
 use Rattle.map_edits.specs.EditForms.{Rectangle, Edit, load, new_layer, paint, define, drop_name}
 use Rattle.map_edits.specs.Painting.{holds}
 use Rattle.map_edits.specs.WholeEdits.{WholeEdit, of_names, define_procedure, label, symbol}

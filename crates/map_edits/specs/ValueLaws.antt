@@ -5,7 +5,7 @@ use Rattle.map_defs.specs.Ops.{Name}
 use Rattle.map_defs.specs.Nodes.{lacks}
 use Rattle.map_defs.specs.Depths.{reaches}
 use Rattle.map_defs.specs.FlatNames.{IsInside}
-use Rattle.map_edits.specs.Entries.{layers, find_making, nodes_of}
+use Rattle.map_edits.specs.LayerDefs.{layers, find_making, nodes_of}
 use Rattle.map_edits.specs.EngineStates.{EngineState, made, value_of}
 use Rattle.map_edits.specs.EditForms.{Edit}
 use Rattle.map_edits.specs.Laws.{HasNoCycle, edited}

@@ -17,7 +17,7 @@ use Rattle.map_edits.specs.EngineStates.{value_of}
 use Rattle.map_edits.specs.Faults.{fault_of}
 use Rattle.map_edits.specs.Edits.{accept}
 use Rattle.map_machine.specs.Limits.{longest_file}
-use Rattle.map_machine.specs.Play.{goes_on, turned_back, not_held}
+use Rattle.map_machine.specs.Openings.{goes_on, turned_back, not_held}
 use Rattle.map_machine.specs.States.{MapState}
 use Rattle.map_machine.specs.Steps.{step_of, is_quit, long_reply}
 use Rattle.map_machine.specs.Text.{replies_to}

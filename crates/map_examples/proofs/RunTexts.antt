@@ -22,7 +22,8 @@ use Rattle.map_edits.specs.Faults.{fault_of}
 use Rattle.map_edits.specs.Edits.{accept}
 use Rattle.map_machine.specs.Limits.{longest_file, too_many_bytes}
 use Rattle.map_machine.specs.Loads.{first_load, next_load, long_file_reply}
-use Rattle.map_machine.specs.Play.{Files, Opening, goes_on, turned_back, run_text, run_opening}
+use Rattle.map_machine.specs.Play.{Files, run_text}
+use Rattle.map_machine.specs.Openings.{Opening, goes_on, turned_back, run_opening}
 use Rattle.map_machine.specs.Steps.{step_of, is_quit, long_reply}
 
 -- a shelf that holds one file, under the name a, or two

@@ -6,7 +6,8 @@ use Rattle.map_defs.specs.Nodes.{missing}
 use Rattle.statement_parser.specs.Lines.{Request, ask_value, ask_grid, ask_list}
 use Rattle.statement_parser.specs.Canonical.{cell_text, written_text}
 use Rattle.grid_text.specs.Printed.{grid_text}
-use Rattle.map_edits.specs.Entries.{Def, source, statement, Entry, nodes_of}
+use Rattle.map_edits.specs.Entries.{Def, source, statement, Entry}
+use Rattle.map_edits.specs.LayerDefs.{nodes_of}
 use Rattle.map_edits.specs.EngineStates.{EngineState, value_of}
 use Rattle.map_machine.specs.States.{MapState}
 use Rattle.map_machine.specs.Replies.{undefined_reply, value_reply}

@@ -9,6 +9,7 @@ pub mod Loads
 pub mod Text
 pub mod Words
 pub mod Play
+pub mod Openings
 pub mod CountedReplies
 pub mod Signs
 pub mod Displays

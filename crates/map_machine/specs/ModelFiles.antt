@@ -8,7 +8,7 @@ use Rattle.map_machine.specs.Causes.{counted}
 use Rattle.map_machine.specs.Lines.{lines_of}
 use Rattle.map_machine.specs.Steps.{is_quit}
 use Rattle.map_machine.specs.Text.{reply_to, state_to, kind_to}
-use Rattle.map_machine.specs.Play.{Opening, goes_on, turned_back, not_held}
+use Rattle.map_machine.specs.Openings.{Opening, goes_on, turned_back, not_held}
 
 abbrev pub is_refused : Kind → Bool
 is_refused Refused = true

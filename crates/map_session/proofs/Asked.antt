@@ -7,7 +7,7 @@ use Rattle.std.proofs.lemmas.Bool.Decides.{nat_tests}
 use Rattle.map_nums.specs.Grids.{Size, Grid, cells_in}
 use Rattle.map_defs.specs.Ops.{Name}
 use Rattle.map_defs.specs.Nodes.{missing}
-use Rattle.map_edits.specs.Entries.{nodes_of}
+use Rattle.map_edits.specs.LayerDefs.{nodes_of}
 use Rattle.map_edits.specs.EngineStates.{EngineState, value_of}
 use Rattle.map_machine.specs.Replies.{undefined_reply}
 use Rattle.map_machine.specs.Answers.{of_layer, is_on}

@@ -4,7 +4,7 @@ use Rattle.std.proofs.lemmas.Result.{err_from_is_err_and}
 use Rattle.map_defs.specs.Depths.{by_depth}
 use Rattle.statement_graph.specs.Groups.{nodes_in}
 use Rattle.statement_graph.specs.Puts.{flat_node}
-use Rattle.map_edits.specs.Entries.{nodes_of, layers, find_making}
+use Rattle.map_edits.specs.LayerDefs.{nodes_of, layers, find_making}
 use Rattle.map_edits.specs.EngineStates.{made}
 use Rattle.live_engine.specs.Scenes.{after_scene, state_of}
 use Rattle.live_engine.specs.Values.{at_hand, IsValued}

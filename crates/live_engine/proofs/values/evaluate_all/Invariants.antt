@@ -1,6 +1,6 @@
 use Rattle.std.proofs.Common.{length, take, ◌-◌}
 use Rattle.map_defs.specs.Depths.{by_depth}
-use Rattle.map_edits.specs.Entries.{nodes_of}
+use Rattle.map_edits.specs.LayerDefs.{nodes_of}
 use Rattle.layer_tiles.specs.Tallies.{KeepsParts}
 use Rattle.live_engine.specs.Scenes.{after_scene, state_of}
 use Rattle.live_engine.proofs.Kept.{IsUpTo}

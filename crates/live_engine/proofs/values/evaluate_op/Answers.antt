@@ -5,7 +5,7 @@ use Rattle.layer_tiles.specs.Operands.{cells_after}
 use Rattle.layer_tiles.specs.declared.kernels.KernelRefusal.{KernelRefusal}
 use Rattle.layer_tiles.specs.declared.kernels.KernelRefusal.TheVariants.{Overflow}
 use Rattle.op_jobs.specs.Evaluated.{IsEvaluated}
-use Rattle.map_edits.specs.Entries.{find_making, layers}
+use Rattle.map_edits.specs.LayerDefs.{find_making, layers}
 use Rattle.live_engine.specs.Scenes.{after_scene, state_of}
 use Rattle.live_engine.specs.Values.{at_hand}
 use Rattle.live_engine.proofs.Valuing.{valued_layer, valued_halt}

@@ -1,5 +1,6 @@
 use Rattle.std.proofs.Common.{List, sym, subst, Option, None, Err}
-use Rattle.map_machine.specs.Play.{pairs_text, pairs_opening}
+use Rattle.map_machine.specs.Play.{pairs_text}
+use Rattle.map_machine.specs.Openings.{pairs_opening}
 use Rattle.std.specs.Prelude.{IsTrue}
 use Rattle.map_words.specs.Names.{is_plain}
 use Rattle.map_outside.specs.Contents.{Files}
