@@ -54,19 +54,40 @@ fn refusal(alloc: Global, line: &[u8]) -> Option<LineRefusal> {
 fn refused_lines_of_all_rows(rt: HostRuntime) {
     let lines: [(&[u8], LineRefusal); 18] = [
         (b"C = FocalSum of A at 33", LineRefusal::Number(22)),
-        (b"C = FocalMean of A radiating on B", LineRefusal::Syntax(20)),
+        (
+            b"C = FocalMean of A radiating on B",
+            LineRefusal::Syntax(20),
+        ),
         (b"C = FocalProduct of A", LineRefusal::Operation(5)),
         (b"C = FocalSum(A)", LineRefusal::Syntax(13)),
-        (b"C = FocalSum of A radiating on B within 65", LineRefusal::Number(41)),
-        (b"C = FocalSum of A radiating on B to 1 from 1", LineRefusal::Syntax(39)),
-        (b"C = FocalProximity of A within -1", LineRefusal::Number(32)),
-        (b"C = FocalProximity of A within 5 spreading in B", LineRefusal::Syntax(34)),
+        (
+            b"C = FocalSum of A radiating on B within 65",
+            LineRefusal::Number(41),
+        ),
+        (
+            b"C = FocalSum of A radiating on B to 1 from 1",
+            LineRefusal::Syntax(39),
+        ),
+        (
+            b"C = FocalProximity of A within -1",
+            LineRefusal::Number(32),
+        ),
+        (
+            b"C = FocalProximity of A within 5 spreading in B",
+            LineRefusal::Syntax(34),
+        ),
         (b"C = FocalInsularity of A at 1", LineRefusal::Syntax(26)),
         (b"C = ZonalVariety of A and B", LineRefusal::Syntax(23)),
-        (b"C = IncrementalDrainage of A carrying", LineRefusal::Syntax(38)),
+        (
+            b"C = IncrementalDrainage of A carrying",
+            LineRefusal::Syntax(38),
+        ),
         (b"C = Twice", LineRefusal::Operation(5)),
         (b"C = Twice()", LineRefusal::Syntax(11)),
-        (b"C = Twice(1, 2, 3, 4, 5, 6, 7, 8, 9)", LineRefusal::Syntax(33)),
+        (
+            b"C = Twice(1, 2, 3, 4, 5, 6, 7, 8, 9)",
+            LineRefusal::Syntax(33),
+        ),
         (b"C = paint(A)", LineRefusal::Syntax(5)),
         (b"show", LineRefusal::Syntax(5)),
         (b"table A", LineRefusal::Syntax(8)),
@@ -106,7 +127,10 @@ fn defaults_are_left_out(rt: HostRuntime) -> Result<(), Fail> {
             b"C = IncrementalDrainage of A carrying 1",
             b"C = IncrementalDrainage of A carrying 1",
         ),
-        (b"C = ZonalVariety of A within 3", b"C = ZonalVariety of A within 3"),
+        (
+            b"C = ZonalVariety of A within 3",
+            b"C = ZonalVariety of A within 3",
+        ),
         (b"C=Twice ( A,-0 , 007 )", b"C = Twice(A, 0, 7)"),
     ];
     for (line, want) in texts {
