@@ -6,7 +6,7 @@ ghost use Rattle.map_nums.specs.Grids.{cells_in};
 use crate::makers::{NULL, cell, layer_of};
 use layer_tiles::{Change, Extent, Layer, NoMemory, Patch, Tile, Value};
 use map_outside::Counts;
-use sight_lines::{Sight, SightRefusal, Viewers, sight_tile};
+use sight_lines::{Sight, SightRefusal, Viewers, sees, sight_tile};
 use std::alloc::Global;
 use std::process::Abort;
 use std::test::Fail;
@@ -68,7 +68,11 @@ fn sums(
 
 #[test]
 fn a_ridge_hides_what_is_behind(rt: HostRuntime) -> Result<(), Fail> {
-    sums(&rt, &[0, 1, 2, 0, 0], &[Some(1), Some(1), Some(1), None, None])?;
+    sums(
+        &rt,
+        &[0, 1, 2, 0, 0],
+        &[Some(1), Some(1), Some(1), None, None],
+    )?;
     sums(&rt, &[0, 2, 2, 0, 0], &[Some(1), Some(1), None, None, None])
 }
 
@@ -124,5 +128,43 @@ fn viewers_after_a_repaint(rt: HostRuntime) -> Result<(), Fail> {
     let list = [viewers.get(0), viewers.get(1), viewers.get(2)];
     assert_eq!(rt; list, [Some((0, 5)), Some((32, 3)), None]);
     assert_eq!(rt; (tally.looks(), tally.picks()), (1, 0));
+    Ok(())
+}
+
+/// Whether a cell of a row of five sees another, raised by these heights; none for any other layer and past its end.
+fn sees_in_row(heights: &Layer, viewer: u32, target: u32, from: Value, to: Value) -> Option<bool> {
+    let extent = heights.extent();
+    if extent.columns() != 5 || extent.cells() != 5 || viewer >= 5 || target >= 5 {
+        return None;
+    }
+    let tile = extent.tile_of(viewer);
+    if tile >= extent.tiles() {
+        return None;
+    }
+    let window = heights.window(tile, 64, &mut Counts::new());
+    Some(sees(&window, extent, viewer, target, from, to))
+}
+
+#[test]
+fn lines_over_a_ridge(rt: HostRuntime) -> Result<(), Fail> {
+    let extent = Extent::new(1, 5).ok_or("limits")?;
+    let heights = layer_of(rt.alloc(), extent, &[0, 1, 2, 0, 0])?;
+    let seen = [
+        sees_in_row(&heights, 0, 2, 0, 0),
+        sees_in_row(&heights, 0, 3, 0, 0),
+        sees_in_row(&heights, 0, 3, 0, 6),
+        sees_in_row(&heights, 0, 3, 5, 0),
+        sees_in_row(&heights, 0, 3, 6, 0),
+        sees_in_row(&heights, 3, 0, 0, 6),
+    ];
+    let wanted = [
+        Some(true),
+        Some(false),
+        Some(true),
+        Some(false),
+        Some(true),
+        Some(true),
+    ];
+    assert_eq!(rt; seen, wanted);
     Ok(())
 }
