@@ -1,7 +1,7 @@
 //! Lines of the map language: what they are, how they are read, and their one canonical text.
 //!
-//! [`parse_line`] gives the [`Line`] that a line of bytes is, or the first fault. The grammar is that of the whole language;
-//! [`Rows`] tells which of its operations and commands are there, and a line of any other is refused.
+//! [`parse_line`] gives the [`Line`] that a line of bytes is, or the first fault. The grammar is that of the whole language but for
+//! labels, signs and procedures; [`Rows`] tells which of its operations and commands are there, and a line of any other is refused.
 #![tactic(auto)]
 
 mod bodies;
