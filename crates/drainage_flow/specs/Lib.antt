@@ -5,6 +5,8 @@ pub mod Mending
 pub mod Steepest
 pub mod Around
 pub mod Pouring
+pub mod Showing
+pub mod Whole
 pub mod First
 pub mod Sides
 pub mod Settling
