@@ -20,3 +20,6 @@ pub mod Rising
 pub mod Listing
 pub mod Starting
 pub mod Overflows
+pub mod Ends
+pub mod Damages
+pub mod Repaired

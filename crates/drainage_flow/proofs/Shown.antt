@@ -69,9 +69,9 @@ module _ (s : Size) (old cells : Cells) (at : ℕ) (cell : Option ℤ) (within :
 
   changes_again : cell_at old at ≢ cell_at cells at → changes s old (set cells at cell) ≡ changes s old cells
   changes_again n = sym (filter_same (differs old cells) (differs old (set cells at cell)) 0 (cells_in s) (λ i l. elim (same_or_not i at) as (λ _. differs old cells i ≡ differs old (set cells at cell) i) [
-        | inl r ↦ rw (r) (differs_so old cells at n ∙ sym set_differs)
-        | inr r ↦ set_others i r
-      ]))
+    | inl r ↦ rw (r) (differs_so old cells at n ∙ sym set_differs)
+    | inr r ↦ set_others i r
+  ]))
 
 -- ---- one place is written
 
@@ -177,9 +177,9 @@ forward_flow s surface old puts shown_puts w p flow same placed h =
 
 pub flows_more : (s : Size) (surface old : Cells) (puts more : List (ℕ × ℤ)) (cells new : Cells) (p : ℕ × ℤ) → ((c : ℕ) → c < cells_in s → cell_at cells c ≡ shown_at surface (now_at (number_at old) puts) c) → length cells ≡ cells_in s → p.0 < cells_in s → new ≡ set cells p.0 (shown (cell_at surface p.0) p.1) → more ≡ puts ++ p ∷ [] → (c : ℕ) → c < cells_in s → cell_at new c ≡ shown_at surface (now_at (number_at old) more) c
 flows_more s surface old puts more cells new (at, z) same count within q m c l = rw (q, m) (elim (same_or_not c at) as (λ _. cell_at (set cells at (shown (cell_at surface at) z)) c ≡ shown_at surface (now_at (number_at old) (puts ++ (at, z) ∷ [])) c) [
-      | inl r ↦ rw (r) (get_or-set_same cells at (shown (cell_at surface at) z) None (omega (arith, count, within)) ∙ ap (shown (cell_at surface at)) (sym (put_here (number_at old) puts at z)))
-      | inr r ↦ get_or-set_other cells at c (shown (cell_at surface at) z) None r ∙ same c l ∙ ap (shown (cell_at surface c)) (sym (put_other (number_at old) puts at z c (λ e. r (sym e))))
-    ])
+  | inl r ↦ rw (r) (get_or-set_same cells at (shown (cell_at surface at) z) None (omega (arith, count, within)) ∙ ap (shown (cell_at surface at)) (sym (put_here (number_at old) puts at z)))
+  | inr r ↦ get_or-set_other cells at c (shown (cell_at surface at) z) None r ∙ same c l ∙ ap (shown (cell_at surface c)) (sym (put_other (number_at old) puts at z c (λ e. r (sym e))))
+])
 
 pub forward_put : (s : Size) (surface old : Cells) (puts : List (ℕ × ℤ)) (k : ℕ) (d : ℕ × ℤ) (z : ℤ) (w : WorkState) (flow : ℕ → ℤ) → z ≡ (get_or puts k d).1 → ((c : ℕ) → c < cells_in s → cell_at w.cells c ≡ shown_at surface (now_at (number_at old) (take k puts)) c) → ArePlaced s old puts flow → k < length puts → IsForward surface old flow w (get_or puts k d).0 z
 forward_put s surface old puts k d z w flow is same placed l = subst (λ (y : ℤ). IsForward surface old flow w (get_or puts k d).0 y) (sym is) (forward_flow s surface old puts (take k puts) w (get_or puts k d) flow same placed (Contains-get_or puts k d l))

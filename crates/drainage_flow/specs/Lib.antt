@@ -13,3 +13,4 @@ pub mod Settling
 pub mod Seeding
 pub mod Listing
 pub mod Overflows
+pub mod Repairs

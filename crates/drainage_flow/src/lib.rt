@@ -26,4 +26,4 @@ pub use laws::flow_law;
 pub use ranges::overflow;
 pub use repair::mend;
 pub use showing::{show_flows, show_grounds};
-pub use whole::{first_wide, whole_patch};
+pub use whole::{count_some, first_wide, whole_patch};

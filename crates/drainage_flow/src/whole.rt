@@ -1,7 +1,8 @@
 //! The tiles of a flow that is known everywhere.
-ghost use Rattle.std.specs.Prelude.{◌≡◌, ◌<◌, length, None, Some, IfOk, IfSome, IfNone};
+ghost use Rattle.std.specs.Prelude.{◌≡◌, ◌<◌, length, filter, is_some, if◌then◌else◌, None, Some, IfOk, IfSome, IfNone};
+ghost use Rattle.std.specs.List.{range_with_len};
 ghost use Rattle.map_nums.specs.Exact.{IsExact};
-ghost use Rattle.map_nums.specs.Grids.{cells_in, grid_by};
+ghost use Rattle.map_nums.specs.Grids.{cells_in, cell_at, grid_by};
 ghost use Rattle.layer_tiles.specs.Tiles.{tiles_in, tile_block};
 ghost use Rattle.tile_work.specs.Working.{IsPatchTo};
 ghost use Rattle.drainage_flow.specs.Pouring.{flow_in};
@@ -149,5 +150,27 @@ fn kept(amount: i64) -> Result<Option<Value>, Wide>
     match in_range(amount as i128) {
         Some(value) => Ok(Some(value)),
         None => Err(Wide),
+    }
+}
+
+/// How many cells are not null.
+pub fn count_some(cells: &[Cell]) -> u64
+    requires { length cells.now < 4294967296 }
+    ensures { result ≡ length (filter (λ i. is_some (cell_at cells.now i)) (range_with_len 0 (length cells.now))) }
+{
+    let mut count = 0;
+    for k in 0..cells.len() {
+        count += one_if(cells[k]);
+    }
+    count
+}
+
+/// 1 for a number, 0 for null.
+fn one_if(cell: Cell) -> u64
+    ensures { result ≡ (if is_some cell then 1 else 0) }
+{
+    match cell.get() {
+        Some(_) => 1,
+        None => 0,
     }
 }

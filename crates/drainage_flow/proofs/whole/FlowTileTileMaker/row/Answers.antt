@@ -21,5 +21,5 @@ returns c =
     let f = shown_at c.args.self.now.surface.now (flow_in c.args.self.now.flows.now) in
     row_as _ _ c.args.extent c.args.tile c.args.r c.args.made.now c.make_row.new.made c.make_row.result
     (λ k l. ap f (start_is c.args.extent c.args.tile c.args.r k c.place-place.result c.columns.result c.place-place.ensures.place c.columns.ensures.columns
-        ∙ ap (λ (s : Size). cell_in s c.args.tile c.args.r k) m.0 ∙ ap (λ t. cell_in c.args.self.now.extent t c.args.r k) m.1))
+    ∙ ap (λ (s : Size). cell_in s c.args.tile c.args.r k) m.0 ∙ ap (λ t. cell_in c.args.self.now.extent t c.args.r k) m.1))
     c.make_row.ensures
