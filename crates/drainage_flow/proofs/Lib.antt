@@ -10,6 +10,8 @@ pub mod Steepest
 pub mod Around
 pub mod Looks
 pub mod Pours
+pub mod Shown
+pub mod Wholes
 pub mod Firsts
 pub mod Settling
 pub mod Seeding
@@ -18,3 +20,6 @@ pub mod Rising
 pub mod Listing
 pub mod Starting
 pub mod Overflows
+pub mod Ends
+pub mod Damages
+pub mod Repaired

@@ -5,9 +5,12 @@ pub mod Mending
 pub mod Steepest
 pub mod Around
 pub mod Pouring
+pub mod Showing
+pub mod Whole
 pub mod First
 pub mod Sides
 pub mod Settling
 pub mod Seeding
 pub mod Listing
 pub mod Overflows
+pub mod Repairs

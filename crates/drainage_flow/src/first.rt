@@ -16,7 +16,7 @@ use map_nums::NoMemory;
 use std::alloc::Global;
 
 /// All cells of an operand after the edit, row by row. One pick each.
-pub(crate) fn cells_of<M: Tally>(
+pub fn cells_of<M: Tally>(
     alloc: Global,
     of: &Change<'_>,
     tally: &mut M,
