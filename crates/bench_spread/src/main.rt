@@ -194,15 +194,16 @@ fn repaints(
     alloc: Global,
     sources: &Layer,
     friction: &mut Layer,
+    others: &Layer,
     work: Work,
     count: u32,
 ) -> Result<i64, NoMemory>
-    requires { friction.old.size ≡ sources.now.size }
+    requires size { friction.old.size ≡ sources.now.size }
+    requires others { others.now.size ≡ sources.now.size }
 {
-    let others = frictions(alloc, friction.extent(), 700_001)?;
     let mut costs = first(alloc, sources, friction)?;
     for round in 0..count {
-        let patch = painted(alloc, friction, &others, work, round)?;
+        let patch = painted(alloc, friction, others, work, round)?;
         repaint(alloc, &mut costs, sources, friction, patch)?;
     }
     Ok(total(&costs))
@@ -216,7 +217,8 @@ fn rounds(alloc: Global, work: Work, count: u32) -> Result<i64, NoMemory> {
     let mut friction = frictions(alloc, extent, 0)?;
     let sources = sources(alloc, extent)?;
     if work != Work::First {
-        return repaints(alloc, &sources, &mut friction, work, count);
+        let others = frictions(alloc, extent, 700_001)?;
+        return repaints(alloc, &sources, &mut friction, &others, work, count);
     }
     let mut sum: i64 = 0;
     for _ in 0..count {
