@@ -52,6 +52,15 @@ impl Flood {
         self.marks.has(at)
     }
 
+    /// Whether the place of a row and a column was reached.
+    fn has_at(&self, row: u32, column: u32) -> bool
+        requires row { row < self.now.size.rows }
+        requires column { column < self.now.size.columns }
+        ensures { result ≡ is_marked self.now.marks (row * self.now.size.columns + column) }
+    {
+        self.marks.has_at(row, column)
+    }
+
     /// One more place of the region in hand.
     fn add(&mut self, at: u32) -> Result<(), NoMemory>
         requires within { at < cells_in self.old.size }
@@ -89,24 +98,30 @@ impl Flood {
     }
 }
 
-/// Reaches a place where it was not reached and has the cell. At most one pick.
+/// Reaches the place of a row and a column where it was not reached and has the cell. At most one pick.
 fn reach<M: Tally>(
     of: &Change<'_>,
     value: Cell,
-    at: u32,
+    columns: u32,
+    row: u32,
+    column: u32,
     flood: &mut Flood,
     tally: &mut M,
 ) -> Result<(), NoMemory>
-    requires within { at < cells_in of.now.size }
+    requires columns { columns ≡ of.now.size.columns }
+    requires row { row < of.now.size.rows }
+    requires column { column < columns }
     requires extent { flood.old.size ≡ of.now.size }
     requires marks { length flood.old.marks ≡ cells_in of.now.size }
-    ensures ok { OnOk result (flood.new ≡ reached of.now.cells value at flood.old) }
+    ensures ok { OnOk result (flood.new ≡ reached of.now.cells value (row * columns + column) flood.old) }
     ensures err { OnErr result (flood.new ≡ flood.old) }
     ensures pick { RisesBy 0 1 (M.counts tally.old) (M.counts tally.new) }
 {
-    if flood.has(at) {
+    let _size = of.extent();
+    if flood.has_at(row, column) {
         return Ok(());
     }
+    let at = row * columns + column;
     if !of.cell(at, tally).same(&value) {
         return Ok(());
     }
@@ -136,7 +151,7 @@ fn reach_row<M: Tally>(
     let low = column.saturating_sub(1);
     let high = (column + 2).min(columns);
     for c in low..high {
-        reach(of, value, row * columns + c, flood, tally)?;
+        reach(of, value, columns, row, c, flood, tally)?;
     }
     Ok(())
 }
