@@ -3,11 +3,15 @@ use Rattle.map_defs.specs.Local.{local_grid}
 use Rattle.layer_tiles.specs.Tiles.{tiles_in}
 use Rattle.local_ops.specs.Operations.{op_of}
 use Rattle.layer_tiles.specs.Operands.{cells_after}
-use Rattle.op_jobs.proofs.Operating.{size_first, answer_at, wide_at}
+use Rattle.op_jobs.proofs.Operating.{size_first, size_each, answer_at, wide_at}
 use Rattle.op_jobs.proofs.Narrow.{least_first}
 use Rattle.op_jobs.proofs.Rising.{rises_tile, rises_rest}
 use Rattle.op_jobs.proofs.Tiled.{tiled_more, tiled_above, tiled_size}
 use Rattle.op_jobs.proofs.tiling.make_tiles.Goals as goal
+
+pub local_tile-requires-clause-one_size : goal.local_tile-requires-clause-one_size
+local_tile-requires-clause-one_size g c =
+    size_each c.args.operands.now c.args.extent (size_first c.args.operands.now c.args.extent (op_of c.args.op.now) c.requires.takes c.requires.one_size) c.requires.one_size
 
 pub local_tile-requires-clause-within : goal.local_tile-requires-clause-within
 local_tile-requires-clause-within g c =
