@@ -6,6 +6,9 @@ use map_outside::Counts;
 use std::alloc::Global;
 use std::test::Fail;
 
+/// A number that no cell holds: where it is given for a cell's value, the cell is null.
+pub const NULL: Value = -2_000_000_001;
+
 /// A cell of a value; null where it fits none.
 pub fn cell(value: Value) -> Cell {
     match Cell::of(value) {
