@@ -13,7 +13,7 @@ use Rattle.map_defs.proofs.Squares.{reach_nought}
 use Rattle.layer_tiles.specs.Changes.{ChangeState, cells_before}
 use Rattle.layer_tiles.specs.ChangeFacts.{IsChange, HoldsNoUnchanged}
 use Rattle.layer_tiles.specs.Tallies.{TallyState, RisesBy}
-use Rattle.layer_tiles.proofs.Rising.{rises_then, rises_within}
+use Rattle.layer_tiles.proofs.Rising.{rises_none, rises_then, rises_within}
 use Rattle.changed_cells.specs.Unions.{AreAllPlaces, both_changed}
 use Rattle.changed_cells.proofs.Joining.{differs_so, fewer, same_length}
 use Rattle.changed_cells.proofs.Touching.{touched_few, changed_has}
@@ -88,3 +88,25 @@ module _ (t u : Term) (surface weights : ChangeState) (old : Cells) where
       (omega (arith, surface_few sc sb sh, weights_few same wc wb wh, changed_few))
       (omega (arith, work_is, flow_changes_few, count, same_length surface.size (both_changed surface weights) changed places_are))
       (rises_then _ _ _ _ a c d (rises_then _ _ _ _ a b c x y) z)
+
+  -- wherever memory is wanted or a flow is out of range on the way
+  module _ (same : weights.size ≡ surface.size) (sc : IsChange surface) (wc : IsChange weights) (sb : IsSome surface.before) (wb : IsSome weights.before) (sh : HoldsNoUnchanged surface) (wh : HoldsNoUnchanged weights) (a b : TallyState)
+      (x : RisesBy (2 * length surface.touched + 2 * length weights.touched) (2 * length (filter (both_changed surface weights) (places surface.size))) a b) where
+    pub find_rises : RisesBy (32 * length (flow_damage t u surface weights (Some old))) (1000 * flow_work t u surface weights (Some old)) a b
+    find_rises =
+        rises_within (2 * length surface.touched + 2 * length weights.touched) (2 * length (filter (both_changed surface weights) (places surface.size))) (32 * length (flow_damage t u surface weights (Some old))) (1000 * flow_work t u surface weights (Some old)) a b
+        (omega (arith, surface_few sc sb sh, weights_few same wc wb wh)) (omega (arith, work_is)) x
+
+    module _ (found read : List ℕ) (all : AreAllPlaces surface.size (both_changed surface weights) found) (reads : read ≡ found) (c : TallyState) (y : RisesBy 0 (234 * length read + 11 * flow_changes surface.size surface.cells weights.cells old) b c) where
+      mended : RisesBy 0 (234 * length found + 11 * flow_changes surface.size surface.cells weights.cells old) b c
+      mended = subst (λ (xs : List ℕ). RisesBy 0 (234 * length xs + 11 * flow_changes surface.size surface.cells weights.cells old) b c) reads y
+
+      pub mended_rises : RisesBy (32 * length (flow_damage t u surface weights (Some old))) (1000 * flow_work t u surface weights (Some old)) a c
+      mended_rises =
+          repair_rises found (flow_changes surface.size surface.cells weights.cells old) a b c c all refl same sc wc sb wb sh wh x mended
+          (rises_within 0 0 (3 * changed_count surface.size surface.cells old (flow_number surface.size surface.cells weights.cells)) (4 * length found + 3 * flow_changes surface.size surface.cells weights.cells old) c c (omega arith) (omega arith) (rises_none c))
+
+      pub written_rises : (also : List ℕ) (n : ℕ) (d : TallyState) → also ≡ found → n ≡ flow_changes surface.size surface.cells weights.cells old → RisesBy (3 * changed_count surface.size surface.cells old (flow_number surface.size surface.cells weights.cells)) (4 * length also + 3 * n) c d → RisesBy (32 * length (flow_damage t u surface weights (Some old))) (1000 * flow_work t u surface weights (Some old)) a d
+      written_rises also n d e count z =
+          repair_rises found n a b c d all count same sc wc sb wb sh wh x mended
+          (subst (λ (xs : List ℕ). RisesBy (3 * changed_count surface.size surface.cells old (flow_number surface.size surface.cells weights.cells)) (4 * length xs + 3 * n) c d) e z)

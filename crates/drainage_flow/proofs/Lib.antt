@@ -23,3 +23,5 @@ pub mod Overflows
 pub mod Ends
 pub mod Damages
 pub mod Repaired
+pub mod Written
+pub mod Begun

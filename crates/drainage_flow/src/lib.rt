@@ -1,8 +1,7 @@
 //! Drainage. `direction` tells which neighbour of a cell the steepest way down leads to, and `direction_tile` makes a tile of
 //! such directions. The flow of a cell is the sum of the weights of all cells whose course down passes it: `flow_law` says
-//! that it is the one function that gives each cell its own weight and the flow of what drains to it. `all_flows` evaluates
-//! it everywhere, and `whole_patch` makes its tiles. `mend` gives the places whose flow an edit changes, and `show_grounds`
-//! and `show_flows` write them over the flow before.
+//! that it is the one function that gives each cell its own weight and the flow of what drains to it. `flow_repair` gives the
+//! flow after an edit as a patch of the flow before, or all of it where there was none.
 #![tactic(auto)]
 
 mod courses;
@@ -14,6 +13,7 @@ mod pouring;
 mod queue;
 mod ranges;
 mod repair;
+mod repairs;
 mod seed;
 mod settle;
 mod showing;
@@ -21,9 +21,5 @@ mod whole;
 mod winners;
 
 pub use directions::{direction, direction_tile};
-pub use first::{all_flows, cells_of};
 pub use laws::flow_law;
-pub use ranges::overflow;
-pub use repair::mend;
-pub use showing::{show_flows, show_grounds};
-pub use whole::{count_some, first_wide, whole_patch};
+pub use repairs::{Repair, flow_repair};
