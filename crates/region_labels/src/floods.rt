@@ -1,6 +1,6 @@
 //! A region that is reached place by place.
 ghost use Rattle.std.specs.Prelude.{◌≡◌, ◌<◌, ◌≤◌, ◌+◌, ◌-◌, ◌*◌, ◌++◌, ◌∷◌, [], length, replicate, false, true, slice_set, slice_index_or, IfOk, OnOk, OnErr, IsSome, Some, ℤ};
-ghost use Rattle.map_nums.specs.Grids.{IsSize, cells_in, cell_at, row_of, gap};
+ghost use Rattle.map_nums.specs.Grids.{IsSize, cells_in, cell_at, row_of, column_of, gap};
 ghost use Rattle.layer_tiles.specs.Tallies.{RisesBy};
 ghost use Rattle.region_labels.specs.Flood.{is_marked, marks_in, reached, IsGrown, IsRowMarked, IsAllMarked, IsFlooded, IsJoined};
 ghost use Rattle.region_labels.specs.Touched.{IsMarkedFor};
@@ -128,18 +128,20 @@ fn reach<M: Tally>(
     flood.add(at)
 }
 
-/// Reaches the places of a row next to a place. At most three picks.
+/// Reaches the places of a row next to a place, whose column is told. At most three picks.
 fn reach_row<M: Tally>(
     of: &Change<'_>,
     value: Cell,
     from: u32,
     row: u32,
+    column: u32,
     flood: &mut Flood,
     tally: &mut M,
 ) -> Result<(), NoMemory>
     requires within { from < cells_in of.now.size }
     requires row { row < of.now.size.rows }
     requires close { gap (row_of of.now.size from) row ≤ 1 }
+    requires column { column ≡ column_of of.now.size from }
     requires extent { flood.old.size ≡ of.now.size }
     requires marks { length flood.old.marks ≡ cells_in of.now.size }
     ensures grown { IsGrown of.now.size of.now.cells value from flood.old flood.new }
@@ -147,7 +149,6 @@ fn reach_row<M: Tally>(
     ensures picks { RisesBy 0 3 (M.counts tally.old) (M.counts tally.new) }
 {
     let columns = of.extent().columns();
-    let column = from % columns;
     let low = column.saturating_sub(1);
     let high = (column + 2).min(columns);
     for c in low..high {
@@ -173,10 +174,11 @@ fn reach_all<M: Tally>(
 {
     let extent = of.extent();
     let row = from / extent.columns();
+    let column = from % extent.columns();
     let low = row.saturating_sub(1);
     let high = (row + 2).min(extent.rows());
     for r in low..high {
-        reach_row(of, value, from, r, flood, tally)?;
+        reach_row(of, value, from, r, column, flood, tally)?;
     }
     Ok(())
 }
