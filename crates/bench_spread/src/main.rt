@@ -106,12 +106,7 @@ fn tile_at(extent: Extent, round: u32) -> u32
 }
 
 // A tile with one new friction.
-fn with_one(
-    alloc: Global,
-    friction: &Layer,
-    number: u32,
-    round: u32,
-) -> Result<Tile, NoMemory>
+fn with_one(alloc: Global, friction: &Layer, number: u32, round: u32) -> Result<Tile, NoMemory>
     requires { number < tiles_in friction.now.size }
     ensures { IfOk result (λ tile. IsBlockOf friction.now.size number tile) }
 {
@@ -183,7 +178,14 @@ fn repaint(
     let mut tally = Counts::new();
     let still = Change::same(sources);
     let ground = Change::patched(friction, &patch);
-    let repair = spread_repair(alloc, Some(costs), &still, &ground, 2_000_000_000, &mut tally)?;
+    let repair = spread_repair(
+        alloc,
+        Some(costs),
+        &still,
+        &ground,
+        2_000_000_000,
+        &mut tally,
+    )?;
     costs.commit(repair.patch, 1);
     friction.commit(patch, 1);
     Ok(())

@@ -1,6 +1,7 @@
 pub mod Grounds
 pub mod Least
 pub mod Rounds
+pub mod Seen
 pub mod Taking
 pub mod Settling
 pub mod Shown

@@ -6,13 +6,14 @@ ghost use Rattle.friction_spread.specs.Costs.{values, net_of};
 ghost use Rattle.friction_spread.specs.Spots.{IsSpot};
 ghost use Rattle.least_costs.specs.Queue.{IsQueued, IsKept};
 ghost use Rattle.friction_spread.specs.Rows.{RowQueued, RoundQueued};
+ghost use Rattle.friction_spread.specs.Near.{AreSeen};
 
 use crate::costs::cost_at;
 use crate::equations::equation;
 use crate::ground::{Ground, Spot};
 use layer_tiles::{NoMemory, Tally};
 use least_costs::Queue;
-use tile_work::Working;
+use tile_work::{PlaceSet, Working};
 
 /// A place that disagrees comes into the queue. At most 21 picks.
 pub fn look<M: Tally>(
@@ -38,11 +39,38 @@ pub fn look<M: Tally>(
     Ok(())
 }
 
+/// The same where the place was not seen before. At most 21 picks.
+fn look_once<M: Tally>(
+    ground: &Ground<'_>,
+    labels: &Working<'_>,
+    queue: &mut Queue,
+    seen: &mut PlaceSet,
+    at: Spot,
+    tally: &mut M,
+) -> Result<(), NoMemory>
+    requires size { labels.now.size ≡ ground.now.size }
+    requires spot { IsSpot ground.now.size at }
+    requires seen { AreSeen ground.now (values ground.now.limit labels.now.cells) queue.old seen.old }
+    ensures kept { OnOk result (IsKept queue.old queue.new) }
+    ensures queued { OnOk result (IsQueued (net_of ground.now) (values ground.now.limit labels.now.cells) queue.new at.at) }
+    ensures seen { OnOk result (AreSeen ground.now (values ground.now.limit labels.now.cells) queue.new seen.new) }
+    ensures len { OnOk result (length queue.new ≤ length queue.old + 1) }
+    ensures picks { RisesBy 0 21 (M.counts tally.old) (M.counts tally.new) }
+{
+    if seen.has(at.at) {
+        return Ok(());
+    }
+    look(ground, labels, queue, at, tally)?;
+    seen.add(at.at)?;
+    Ok(())
+}
+
 /// Those of a row next to a place. At most 63 picks.
 fn look_row<M: Tally>(
     ground: &Ground<'_>,
     labels: &Working<'_>,
     queue: &mut Queue,
+    seen: &mut PlaceSet,
     from: Spot,
     row: u32,
     tally: &mut M,
@@ -50,8 +78,10 @@ fn look_row<M: Tally>(
     requires size { labels.now.size ≡ ground.now.size }
     requires spot { IsSpot ground.now.size from }
     requires row { row < ground.now.size.rows }
+    requires seen { AreSeen ground.now (values ground.now.limit labels.now.cells) queue.old seen.old }
     ensures kept { OnOk result (IsKept queue.old queue.new) }
     ensures queued { OnOk result (RowQueued (net_of ground.now) ground.now.size (values ground.now.limit labels.now.cells) queue.new from.at row) }
+    ensures seen { OnOk result (AreSeen ground.now (values ground.now.limit labels.now.cells) queue.new seen.new) }
     ensures len { OnOk result (length queue.new ≤ length queue.old + 3) }
     ensures picks { RisesBy 0 63 (M.counts tally.old) (M.counts tally.new) }
 {
@@ -59,7 +89,7 @@ fn look_row<M: Tally>(
     let low = from.column.saturating_sub(1);
     let high = (from.column + 2).min(columns);
     for c in low..high {
-        look(ground, labels, queue, ground.spot_at(row, c), tally)?;
+        look_once(ground, labels, queue, seen, ground.spot_at(row, c), tally)?;
     }
     Ok(())
 }
@@ -69,13 +99,16 @@ pub fn look_round<M: Tally>(
     ground: &Ground<'_>,
     labels: &Working<'_>,
     queue: &mut Queue,
+    seen: &mut PlaceSet,
     from: Spot,
     tally: &mut M,
 ) -> Result<(), NoMemory>
     requires size { labels.now.size ≡ ground.now.size }
     requires spot { IsSpot ground.now.size from }
+    requires seen { AreSeen ground.now (values ground.now.limit labels.now.cells) queue.old seen.old }
     ensures kept { OnOk result (IsKept queue.old queue.new) }
     ensures queued { OnOk result (RoundQueued (net_of ground.now) ground.now.size (values ground.now.limit labels.now.cells) queue.new from.at) }
+    ensures seen { OnOk result (AreSeen ground.now (values ground.now.limit labels.now.cells) queue.new seen.new) }
     ensures len { OnOk result (length queue.new ≤ length queue.old + 9) }
     ensures picks { RisesBy 0 189 (M.counts tally.old) (M.counts tally.new) }
 {
@@ -83,7 +116,7 @@ pub fn look_round<M: Tally>(
     let low = from.row.saturating_sub(1);
     let high = (from.row + 2).min(rows);
     for r in low..high {
-        look_row(ground, labels, queue, from, r, tally)?;
+        look_row(ground, labels, queue, seen, from, r, tally)?;
     }
     Ok(())
 }

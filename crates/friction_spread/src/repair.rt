@@ -26,10 +26,11 @@ use changed_cells::changed_places_of_both;
 use layer_tiles::{Change, Layer, NoMemory, Tally, Value};
 use least_costs::Queue;
 use std::alloc::Global;
-use tile_work::Working;
+use tile_work::{PlaceSet, Working};
 
 /// The places round each of some places come into the queue where they disagree.
 fn look_at_all<M: Tally>(
+    alloc: Global,
     ground: &Ground<'_>,
     labels: &Working<'_>,
     changed: &[u32],
@@ -42,8 +43,9 @@ fn look_at_all<M: Tally>(
     ensures len { OnOk result (length queue.new ≤ length queue.old + 9 * length changed.now) }
     ensures picks { RisesBy 0 (189 * length changed.now) (M.counts tally.old) (M.counts tally.new) }
 {
+    let mut seen = PlaceSet::new(alloc, ground.extent())?;
     for at in changed {
-        look_round(ground, labels, queue, ground.spot(*at), tally)?;
+        look_round(ground, labels, queue, &mut seen, ground.spot(*at), tally)?;
     }
     Ok(())
 }
@@ -71,7 +73,7 @@ fn repaired_costs<M: Tally>(
     let _base = base.extent();
     let mut labels = Working::new(alloc, extent, Some(base))?;
     let mut queue = Queue::new(alloc);
-    look_at_all(ground, &labels, changed, &mut queue, tally)?;
+    look_at_all(alloc, ground, &labels, changed, &mut queue, tally)?;
     let moved = settle(ground, &mut labels, &mut queue, tally)?;
     let worked = changed.len() as u64 + moved;
     let patch = labels.into_patch(tally)?;

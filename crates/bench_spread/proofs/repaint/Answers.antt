@@ -1,5 +1,4 @@
-use Rattle.std.proofs.Common.{◌≡◌, refl, sym, subst, ap, ◌∙◌}
-use Rattle.map_nums.specs.Grids.{Size, Cells}
+use Rattle.std.proofs.Common.{◌≡◌, refl, sym, subst}
 use Rattle.map_defs.specs.Spread.{IsSpread}
 use Rattle.layer_tiles.specs.Patches.{PatchState}
 use Rattle.layer_tiles.specs.Layers.{LayerState}

@@ -7,10 +7,11 @@ use Rattle.friction_spread.proofs.looks.look_row.Goals as goal
 pub loop-c-preserved : goal.loop-c-preserved
 loop-c-preserved g c =
     let gr = c.args.ground.now in
-    let ok = c.in_ok-look.ensures in
+    let ok = c.in_ok-look_once.ensures in
     record {
-      kept = kept_then c.args.queue.now c.loop-c.queue c.look.new.queue c.loop-c.invariant.kept ok.kept;
-      queued = row_queued_next (net_of gr) gr.size (values gr.limit c.args.labels.now.cells) c.loop-c.queue c.look.new.queue c.args.from.at ok.kept c.args.row c.loop-c.c c.spot_at.result c.spot_at.ensures.spot c.spot_at.ensures.row c.spot_at.ensures.column ok.queued c.loop-c.invariant.queued;
+      kept = kept_then c.args.queue.now c.loop-c.queue c.look_once.new.queue c.loop-c.invariant.kept ok.kept;
+      queued = row_queued_next (net_of gr) gr.size (values gr.limit c.args.labels.now.cells) c.loop-c.queue c.look_once.new.queue c.args.from.at ok.kept c.args.row c.loop-c.c c.spot_at.result c.spot_at.ensures.spot c.spot_at.ensures.row c.spot_at.ensures.column ok.queued c.loop-c.invariant.queued;
+      seen = ok.seen;
       len = omega (arith, ok.len, c.loop-c.invariant.len, c.loop-c.auto.c);
-      picks = rises_within (0 + 0) (21 * (c.loop-c.c - c.saturating_sub-low.result) + 21) 0 (21 * (c.loop-c.c + 1 - c.saturating_sub-low.result)) _ _ (omega arith) (omega (arith, c.loop-c.auto.c)) (rises_then 0 (21 * (c.loop-c.c - c.saturating_sub-low.result)) 0 21 _ _ _ c.loop-c.invariant.picks c.look.ensures.picks);
+      picks = rises_within (0 + 0) (21 * (c.loop-c.c - c.saturating_sub-low.result) + 21) 0 (21 * (c.loop-c.c + 1 - c.saturating_sub-low.result)) _ _ (omega arith) (omega (arith, c.loop-c.auto.c)) (rises_then 0 (21 * (c.loop-c.c - c.saturating_sub-low.result)) 0 21 _ _ _ c.loop-c.invariant.picks c.look_once.ensures.picks);
     }
