@@ -85,7 +85,7 @@ impl<'a> Working<'a> {
         ensures cells { IfOk result (λ w. w.cells ≡ begun_cells extent (before_of (option_copied base.entry))) }
         ensures copied { IfOk result (λ w. copies w.copied ≡ 0) }
     {
-        let mut slots = Vec::new(alloc);
+        let mut slots = Vec::with_capacity(alloc, extent.tiles() as usize)?;
         for _tile in 0..extent.tiles() {
             slots.push(None)?;
         }
