@@ -1,6 +1,6 @@
 -- The cells round one, as rows have them, and its direction.
-use Rattle.std.proofs.Common.{◌≡◌, ℕ, zero, suc, ◌+◌, ◌*◌, ◌/◌, ◌%◌, ◌<◌, ◌≤◌, get_or, set, length, List, [], ◌∷◌, Option, Some, None, refl, sym, ◌∙◌, ap, arith, ℤ, pos, negsuc, ◌+ℤ◌, true, false, subst, inl, inr}
-use Rattle.std.specs.Prelude.{◌-ℤ◌, option_map, not, IfSome, Result}
+use Rattle.std.proofs.Common.{◌≡◌, ℕ, zero, suc, ◌+◌, ◌<◌, ◌≤◌, get_or, set, length, [], ◌∷◌, Option, Some, None, refl, sym, ◌∙◌, ap, arith, ℤ, pos, ◌+ℤ◌, true, false, subst, inl, inr}
+use Rattle.std.specs.Prelude.{option_map, not, IfSome, Result}
 use Rattle.std.proofs.lemmas.List.FromFn.{get_or-map-range_with_len}
 use Rattle.std.proofs.lemmas.Int.{ints}
 use Rattle.std.proofs.lemmas.List.{get_or_default, get_or-set_same, get_or-set_other}

@@ -33,8 +33,8 @@ module _ (surface weights : ChangeState) (extent : Size) (at_surface : extent �
   begun_all read drawn counted flows scanned shown patch all count er ed ec es eh len a narrow size makes n c =
       let N : all ≡ cells_in surface.size = n ∙ ap cells_in at_surface in
       let P : IsPatchTo surface.size None (grid_by surface.size (shown_at cells (flow_in flows))).cells patch.tiles = subst (λ (s : Size). IsPatchTo s None (grid_by s (shown_at cells (flow_in flows))).cells patch.tiles) at_surface
-        (subst (λ (xs : Cells). IsPatchTo extent None (grid_by extent (shown_at xs (flow_in flows))).cells patch.tiles) ed
-        (subst (λ (fs : List ℤ). IsPatchTo extent None (grid_by extent (shown_at drawn (flow_in fs))).cells patch.tiles) eh makes)) in
+      (subst (λ (xs : Cells). IsPatchTo extent None (grid_by extent (shown_at xs (flow_in flows))).cells patch.tiles) ed
+      (subst (λ (fs : List ℤ). IsPatchTo extent None (grid_by extent (shown_at drawn (flow_in fs))).cells patch.tiles) eh makes)) in
       let C : count ≡ length (filter (λ i. is_some (cell_at cells i)) (range_with_len 0 (length cells))) = c ∙ ap (λ (xs : Cells). length (filter (λ i. is_some (cell_at xs i)) (range_with_len 0 (length xs)))) ec in
       subst (λ (k : ℕ). IsFlowRepair surface weights None patch (k + count)) (sym N)
       (flow_begun surface weights cells flows patch count same (flows_here read flows er a) (subst AreInRange es narrow) (size ∙ at_surface) P (ap length same ∙ len) C)

@@ -1,9 +1,9 @@
 -- What a repair may read, by its damage and its work.
-use Rattle.std.proofs.Common.{◌≡◌, ◌≢◌, ℕ, ◌+◌, ◌*◌, ◌<◌, ◌≤◌, Bool, true, false, cond, List, [], ◌∷◌, length, Some, refl, sym, ◌∙◌, ap, subst, arith, inl, inr, ℤ}
+use Rattle.std.proofs.Common.{◌≡◌, ℕ, ◌+◌, ◌*◌, ◌≤◌, Bool, true, false, cond, List, [], ◌∷◌, length, Some, refl, sym, ◌∙◌, ap, subst, arith}
 use Rattle.std.specs.Prelude.{◌||◌, filter, IsSome}
-use Rattle.std.specs.List.{list_any, Contains, range_with_len}
+use Rattle.std.specs.List.{list_any}
 use Rattle.std.proofs.lemmas.Bool.{or_left, or_right}
-use Rattle.map_nums.specs.Grids.{Size, IsSize, Cells, cell_at, cells_in, places, grid_by}
+use Rattle.map_nums.specs.Grids.{Size, Cells, cells_in, places, grid_by}
 use Rattle.map_nums.specs.Tiles.{tiles}
 use Rattle.map_defs.specs.Ops.{Term, flow_op}
 use Rattle.map_defs.specs.Damage.{op_damage, is_damaged}

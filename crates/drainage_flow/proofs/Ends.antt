@@ -1,32 +1,30 @@
 -- What a flow shows, how many of its cells changed, and what that says of damage and work.
-use Rattle.std.proofs.Common.{◌≡◌, ◌≢◌, ℕ, zero, suc, ◌+◌, ◌*◌, ◌<◌, ◌≤◌, Bool, true, false, cond, List, [], ◌∷◌, length, get_or, map, Option, Some, None, refl, sym, ◌∙◌, ap, subst, arith, inl, inr, ℤ, pos}
-use Rattle.std.specs.Prelude.{◌⊎◌, ◌||◌, not, filter, is_some, option_map, IsSome}
+use Rattle.std.proofs.Common.{◌≡◌, ◌≢◌, ℕ, zero, suc, ◌+◌, ◌<◌, ◌≤◌, Bool, true, false, cond, List, [], ◌∷◌, length, map, Option, Some, None, refl, sym, ◌∙◌, ap, subst, arith, inl, inr, ℤ}
+use Rattle.std.specs.Prelude.{◌⊎◌, ◌||◌, not, filter, is_some, option_map}
 use Rattle.std.specs.List.{range_with_len, Contains, All}
 use Rattle.std.specs.Ordering.{int_eq}
-use Rattle.std.proofs.lemmas.Bool.{cases_lt, cases_Bool}
+use Rattle.std.proofs.lemmas.Bool.{cases_Bool}
 use Rattle.std.proofs.lemmas.List.{get_or_default}
 use Rattle.std.proofs.lemmas.List.FromFn.{get_or-map-range_with_len, length-map-range_with_len, fill_by_all}
-use Rattle.map_nums.specs.Grids.{Size, IsSize, Cells, cell_at, cells_in, places, grid_by}
+use Rattle.map_nums.specs.Grids.{Size, Cells, cell_at, cells_in, places, grid_by}
 use Rattle.map_nums.specs.Numbers.{is_value}
 use Rattle.map_nums.specs.Answers.{is_wide}
-use Rattle.map_nums.specs.Stats.{total_of}
 use Rattle.map_defs.specs.Flow.{flow_at, flow_grid}
-use Rattle.map_defs.specs.Ops.{Term, flow_op}
-use Rattle.map_defs.specs.Work.{op_work, first_work}
-use Rattle.map_defs.specs.Differences.{differs, has_changed}
+use Rattle.map_defs.specs.Ops.{Term}
+use Rattle.map_defs.specs.Work.{op_work}
+use Rattle.map_defs.specs.Differences.{differs}
 use Rattle.layer_tiles.specs.Changes.{ChangeState, cells_before}
 use Rattle.changed_cells.specs.Unions.{AreAllPlaces, both_changed}
-use Rattle.changed_cells.proofs.Joining.{differs_so, differs_not, same_length}
+use Rattle.changed_cells.proofs.Joining.{differs_not, same_length}
 use Rattle.drainage_flow.specs.FlowNets.{number_of, flow_number}
 use Rattle.drainage_flow.specs.Settling.{number_at}
 use Rattle.drainage_flow.specs.Mending.{differing}
 use Rattle.drainage_flow.specs.Listing.{IsSame, AreListed}
-use Rattle.drainage_flow.specs.Overflows.{IsOverflow, IsLeastWideFlow}
-use Rattle.drainage_flow.specs.Pouring.{flow_in}
+use Rattle.drainage_flow.specs.Overflows.{IsOverflow}
 use Rattle.drainage_flow.specs.Showing.{shown, shown_at, changes}
 use Rattle.drainage_flow.specs.Whole.{AreInRange, IsFirstWide}
 use Rattle.drainage_flow.specs.First.{AreFlows}
-use Rattle.drainage_flow.specs.Repairs.{were, are, flow_now, flow_work, IsFlowBefore}
+use Rattle.drainage_flow.specs.Repairs.{flow_now, flow_work}
 use Rattle.map_nums.proofs.Ascending.{equals_itself}
 use Rattle.drainage_flow.proofs.Overflows.{wide_is}
 

@@ -1,12 +1,11 @@
 -- The tables of a first flow, one place after another.
-use Rattle.std.proofs.Common.{◌≡◌, ℕ, ◌+◌, ◌<◌, ◌≤◌, List, [], ◌∷◌, ◌++◌, length, get_or, Option, Some, None, refl, sym, ◌∙◌, ap, subst, arith, inl, inr, ℤ, pos, ◌+ℤ◌}
+use Rattle.std.proofs.Common.{◌≡◌, ℕ, ◌+◌, ◌<◌, List, [], ◌∷◌, ◌++◌, length, get_or, Option, Some, None, sym, ◌∙◌, ap, subst, arith, inl, inr, ℤ, pos, ◌+ℤ◌}
 use Rattle.std.specs.Prelude.{◌≤ℤ◌}
-use Rattle.std.proofs.lemmas.Int.{ints}
 use Rattle.std.proofs.lemmas.Bool.{cases_lt}
 use Rattle.std.proofs.lemmas.List.{get_or_append_left, get_or_push, length-append}
 use Rattle.map_nums.specs.Grids.{Size, IsSize, Cells, cell_at, cells_in}
 use Rattle.map_defs.specs.Flow.{downstream_of}
-use Rattle.drainage_flow.specs.FlowNets.{number_of, brought, weight_at, net_of, flow_number}
+use Rattle.drainage_flow.specs.FlowNets.{number_of, brought, weight_at, net_of}
 use Rattle.drainage_flow.specs.Pouring.{down_in, flow_in, ArePools, AreWaits}
 use Rattle.drainage_flow.specs.First.{AreDowns, AreBrought, AreFlows}
 use Rattle.drainage_flow.proofs.Pours.{pools_first, pools_agree}

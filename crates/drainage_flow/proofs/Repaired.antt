@@ -1,11 +1,10 @@
 -- The flow that was mended and written is the flow after the edit.
-use Rattle.std.proofs.Common.{◌≡◌, ℕ, ◌+◌, ◌<◌, List, length, get_or, Some, None, refl, sym, ◌∙◌, ap, subst, arith, ℤ, true, false}
+use Rattle.std.proofs.Common.{◌≡◌, ℕ, ◌+◌, ◌<◌, List, length, get_or, Some, None, ◌∙◌, ap, subst, ℤ, true}
 use Rattle.std.specs.Prelude.{filter, is_some}
 use Rattle.std.specs.List.{All, range_with_len}
 use Rattle.std.proofs.lemmas.List.Elements.{Contains-get_or}
 use Rattle.map_nums.specs.Grids.{Size, Cells, cell_at, cells_in, grid_by, places}
 use Rattle.map_nums.specs.Numbers.{is_value}
-use Rattle.map_defs.specs.Ops.{Term}
 use Rattle.layer_tiles.specs.Changes.{ChangeState}
 use Rattle.layer_tiles.specs.Patches.{PatchState}
 use Rattle.tile_work.specs.Working.{IsPatchTo}

@@ -1,5 +1,5 @@
 -- A flow is written into a working layer place by place.
-use Rattle.std.proofs.Common.{◌≡◌, ◌≢◌, ℕ, zero, suc, ◌+◌, ◌-◌, ◌<◌, ◌≤◌, Bool, true, false, cond, eqb, List, [], ◌∷◌, ◌++◌, length, get_or, set, take, Option, Some, None, refl, sym, ◌∙◌, ap, subst, arith, inl, inr, ℤ, pos, negsuc, FitsSigned, w64}
+use Rattle.std.proofs.Common.{◌≡◌, ◌≢◌, ℕ, zero, suc, ◌+◌, ◌-◌, ◌<◌, ◌≤◌, Bool, true, false, cond, List, [], ◌∷◌, ◌++◌, length, get_or, set, take, Option, Some, None, refl, sym, ◌∙◌, ap, subst, arith, inl, inr, ℤ, pos, negsuc, FitsSigned, w64}
 use Rattle.std.specs.Prelude.{◌⊎◌, filter, not}
 use Rattle.std.specs.List.{range_with_len, Contains}
 use Rattle.std.proofs.lemmas.Bool.{cases_lt, cases_Bool}
@@ -14,7 +14,7 @@ use Rattle.map_nums.proofs.Ranges.{magnitude_in_range}
 use Rattle.map_defs.specs.Cells.{same_cell}
 use Rattle.map_defs.specs.Differences.{differs}
 use Rattle.layer_tiles.specs.Tiles.{tile_of}
-use Rattle.tile_work.specs.Working.{WorkState, is_copied, written, IsSameWork}
+use Rattle.tile_work.specs.Working.{WorkState, written, IsSameWork}
 use Rattle.tile_work.proofs.Slots.{copied_for}
 use Rattle.changed_cells.proofs.Joining.{differs_so, differs_is, differs_not, filter_most}
 use Rattle.drainage_flow.specs.FlowNets.{number_of}

@@ -8,7 +8,7 @@ use Rattle.std.proofs.lemmas.Bool.Decides.{nat_tests}
 use Rattle.std.proofs.lemmas.List.Sums.{position_or_len_is, list_all-from_AllPass, AllPass-from_list_all}
 use Rattle.std.proofs.lemmas.List.{get_or_default}
 use Rattle.std.proofs.lemmas.Option.{slice_get-get_or}
-use Rattle.map_nums.specs.Grids.{Size, Cells, Offset, cell_at, moved, near, compass}
+use Rattle.map_nums.specs.Grids.{Size, Cells, Offset, cell_at, moved, compass}
 use Rattle.map_defs.specs.Drainage.{drop_to, drop_at, is_steepest, winner_at}
 use Rattle.map_defs.specs.Flow.{downstream_of}
 use Rattle.drainage_flow.specs.declared.winners.Way.{Way}

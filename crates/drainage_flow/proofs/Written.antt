@@ -12,7 +12,7 @@ use Rattle.layer_tiles.specs.Tiles.{Block, tiles_in, tile_of}
 use Rattle.layer_tiles.specs.Tallies.{TallyState, RisesBy}
 use Rattle.layer_tiles.proofs.Rising.{rises_then, rises_within}
 use Rattle.layer_tiles.proofs.Rounds.{back}
-use Rattle.tile_work.specs.Working.{WorkState, IsPatchTo, base_of, begun_cells, copies, is_copied}
+use Rattle.tile_work.specs.Working.{WorkState, IsPatchTo, base_of, begun_cells, copies}
 use Rattle.tile_work.proofs.Copies.{copies_few}
 use Rattle.changed_cells.proofs.Joining.{differs_so, differs_is}
 use Rattle.changed_cells.proofs.Touching.{has_so}

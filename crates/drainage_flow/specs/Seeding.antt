@@ -1,11 +1,11 @@
 -- Each place is renewed once: it takes its new weight and drains where it does after the edit.
-use Rattle.std.specs.Prelude.{◌≡◌, ◌⊎◌, ℕ, ◌<◌, ◌==◌, ℤ, ◌+ℤ◌, ◌-ℤ◌, nat_lt, Bool, true, false, List, slice_index_or, Option, Some, if◌then◌else◌}
+use Rattle.std.specs.Prelude.{◌≡◌, ◌⊎◌, ℕ, ◌<◌, ◌==◌, ℤ, ◌+ℤ◌, ◌-ℤ◌, Bool, true, false, List, slice_index_or, Option, Some, if◌then◌else◌}
 use Rattle.std.specs.List.{Contains}
-use Rattle.map_nums.specs.Grids.{Size, Cells, cells_in, moved}
+use Rattle.map_nums.specs.Grids.{Size, Cells, moved}
 use Rattle.layer_tiles.specs.Changes.{ChangeState, cells_before}
 use Rattle.drainage_flow.specs.Nets.{Net, part, is_to, gathered}
 use Rattle.drainage_flow.specs.Queues.{pending}
-use Rattle.drainage_flow.specs.FlowNets.{net_of, weight_at}
+use Rattle.drainage_flow.specs.FlowNets.{net_of}
 use Rattle.drainage_flow.specs.Mending.{AreKeyed}
 use Rattle.drainage_flow.specs.Settling.{number_at}
 use Rattle.drainage_flow.specs.Steepest.{offset_at}
@@ -58,8 +58,3 @@ MarkedAround s marks at = (is_marked marks at ≡ true) × ((k j : ℕ) → k < 
 -- what was marked is marked still
 abbrev pub StaysMarked : List Bool → List Bool → Type 0
 StaysMarked old new = (c : ℕ) → is_marked old c ≡ true → is_marked new c ≡ true
-
--- each place below n was sent what it brings
-pub record ArePoured (s : Size) (surface weights : Cells) (n : ℕ) (entries : List Entry) : Type 0 where
-  pub keyed : AreKeyed (cells_in s) (number_at surface) entries
-  pub sent : (c : ℕ) → pending entries c ≡ part (nat_lt c n) (weight_at surface weights c)

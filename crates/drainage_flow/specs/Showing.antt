@@ -1,5 +1,5 @@
 -- A flow that is written into a working layer over the flow before.
-use Rattle.std.specs.Prelude.{◌≡◌, ◌≢◌, ◌⊎◌, ℕ, ◌<◌, ℤ, Bool, true, List, length, filter, slice_index_or, Option, Some, None}
+use Rattle.std.specs.Prelude.{◌≡◌, ◌≢◌, ◌⊎◌, ℕ, ◌<◌, ℤ, true, List, length, filter, slice_index_or, Option, Some, None}
 use Rattle.std.specs.List.{Contains}
 use Rattle.map_nums.specs.Grids.{Size, Cells, cell_at, cells_in, places, grid_by}
 use Rattle.map_nums.specs.Tiles.{tiles}

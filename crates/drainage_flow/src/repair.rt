@@ -1,5 +1,5 @@
 //! The flow after an edit, from the flow before it and the places where an operand changed.
-ghost use Rattle.std.specs.Prelude.{◌≡◌, ◌<◌, ◌+◌, ◌*◌, ℕ, false, length, replicate, OnOk, IfOk, IsSome};
+ghost use Rattle.std.specs.Prelude.{◌≡◌, ◌<◌, ◌+◌, ◌*◌, ℕ, length, OnOk, IfOk, IsSome};
 ghost use Rattle.std.specs.List.{All, Contains};
 ghost use Rattle.map_nums.specs.Grids.{cells_in};
 ghost use Rattle.map_defs.specs.Flow.{flow_grid};
@@ -15,6 +15,7 @@ use crate::settle::settle;
 use layer_tiles::{Change, Layer, Tally};
 use map_nums::NoMemory;
 use std::alloc::Global;
+use tile_work::PlaceSet;
 
 /// Renews the places round each changed one. At most 234 picks for each.
 fn renew_all<M: Tally>(
@@ -22,7 +23,7 @@ fn renew_all<M: Tally>(
     surface: &Change<'_>,
     weights: &Change<'_>,
     changed: &[u32],
-    marks: &mut [bool],
+    marks: &mut PlaceSet,
     queue: &mut Queue,
     tally: &mut M,
 ) -> Result<(), NoMemory>
@@ -31,23 +32,16 @@ fn renew_all<M: Tally>(
     requires old_size { old.now.size ≡ surface.now.size }
     requires weights_size { weights.now.size ≡ surface.now.size }
     requires within { All (λ c. c < cells_in surface.now.size) changed.now }
-    requires marks { length marks.old ≡ cells_in surface.now.size }
-    requires seeded { IsSeededOf surface.now weights.now old.now.cells queue.old marks.old }
-    ensures seeded { OnOk result (IsSeededOf surface.now weights.now old.now.cells queue.new marks.new) }
-    ensures marked { OnOk result ((c : ℕ) → Contains changed.now c → MarkedAround surface.now.size marks.new c) }
+    requires marks { marks.old.size ≡ surface.now.size }
+    requires seeded { IsSeededOf surface.now weights.now old.now.cells queue.old marks.old.marks }
+    ensures seeded { OnOk result (IsSeededOf surface.now weights.now old.now.cells queue.new marks.new.marks) }
+    ensures marked { OnOk result ((c : ℕ) → Contains changed.now c → MarkedAround surface.now.size marks.new.marks c) }
     ensures picks { RisesBy 0 (234 * length changed.now) (M.counts tally.old) (M.counts tally.new) }
 {
     for at in changed {
         renew_around(old, surface, weights, *at, marks, queue, tally)?;
     }
     Ok(())
-}
-
-/// No place marked.
-fn no_marks(alloc: Global, count: usize) -> Result<Vec<bool>, NoMemory>
-    ensures { IfOk result (λ marks. marks.items ≡ replicate count false) }
-{
-    Ok(vec![in alloc; false; count]?)
 }
 
 /// The places whose flow an edit changes, each with its new flow, from the flow before and the places where an operand changed.
@@ -71,7 +65,7 @@ pub fn mend<M: Tally>(
     ensures picks { RisesBy 0 (234 * length changed.now + 11 * flow_changes surface.now.size surface.now.cells weights.now.cells old.now.cells) (M.counts tally.old) (M.counts tally.new) }
 {
     let before = Change::same(old);
-    let mut marks = no_marks(alloc, surface.extent().cells() as usize)?;
+    let mut marks = PlaceSet::new(alloc, surface.extent())?;
     let mut queue = Queue::new(alloc);
     renew_all(
         &before, surface, weights, changed, &mut marks, &mut queue, tally,

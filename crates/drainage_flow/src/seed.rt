@@ -1,5 +1,5 @@
 //! What an edit changes at once: each place near a changed cell takes its new weight and its new way down.
-ghost use Rattle.std.specs.Prelude.{◌≡◌, ◌<◌, ◌≤◌, ◌*◌, ℕ, ℤ, true, length, OnOk, IfSome, IsSome, Some};
+ghost use Rattle.std.specs.Prelude.{◌≡◌, ◌<◌, ◌≤◌, ◌*◌, ℕ, ℤ, true, OnOk, IfSome, IsSome, Some};
 ghost use Rattle.map_nums.specs.Grids.{cells_in, moved};
 ghost use Rattle.layer_tiles.specs.Tallies.{RisesBy};
 ghost use Rattle.layer_tiles.specs.Changes.{cells_before};
@@ -15,6 +15,7 @@ use crate::neighbours::neighbour;
 use crate::queue::{Entry, Queue};
 use layer_tiles::{Change, Tally};
 use map_nums::NoMemory;
+use tile_work::PlaceSet;
 
 /// What a cell brings, on one side of an edit. Two picks.
 #[tactic(auto, unfolding(crate::specs::FlowNets::weight_at))]
@@ -124,7 +125,7 @@ fn renew_once<M: Tally>(
     surface: &Change<'_>,
     weights: &Change<'_>,
     at: u32,
-    marks: &mut [bool],
+    marks: &mut PlaceSet,
     queue: &mut Queue,
     tally: &mut M,
 ) -> Result<(), NoMemory>
@@ -133,18 +134,20 @@ fn renew_once<M: Tally>(
     requires old_size { old.now.size ≡ surface.now.size }
     requires weights_size { weights.now.size ≡ surface.now.size }
     requires within { at < cells_in surface.now.size }
-    requires marks { length marks.old ≡ cells_in surface.now.size }
-    requires seeded { IsSeededOf surface.now weights.now old.now.cells queue.old marks.old }
-    ensures seeded { OnOk result (IsSeededOf surface.now weights.now old.now.cells queue.new marks.new) }
-    ensures marked { OnOk result (is_marked marks.new at ≡ true) }
-    ensures stays { OnOk result (StaysMarked marks.old marks.new) }
+    requires marks { marks.old.size ≡ surface.now.size }
+    requires seeded { IsSeededOf surface.now weights.now old.now.cells queue.old marks.old.marks }
+    ensures size { OnOk result (marks.new.size ≡ marks.old.size) }
+    ensures seeded { OnOk result (IsSeededOf surface.now weights.now old.now.cells queue.new marks.new.marks) }
+    ensures marked { OnOk result (is_marked marks.new.marks at ≡ true) }
+    ensures stays { OnOk result (StaysMarked marks.old.marks marks.new.marks) }
     ensures picks { RisesBy 0 26 (M.counts tally.old) (M.counts tally.new) }
 {
-    if marks[at as usize] {
+    let _marks = marks.extent();
+    if marks.has(at) {
         return Ok(());
     }
     renew(old, surface, weights, at, queue, tally)?;
-    marks[at as usize] = true;
+    marks.add(at)?;
     Ok(())
 }
 
@@ -155,7 +158,7 @@ fn renew_neighbour<M: Tally>(
     weights: &Change<'_>,
     at: u32,
     k: u8,
-    marks: &mut [bool],
+    marks: &mut PlaceSet,
     queue: &mut Queue,
     tally: &mut M,
 ) -> Result<(), NoMemory>
@@ -165,11 +168,12 @@ fn renew_neighbour<M: Tally>(
     requires weights_size { weights.now.size ≡ surface.now.size }
     requires within { at < cells_in surface.now.size }
     requires few { k < 8 }
-    requires marks { length marks.old ≡ cells_in surface.now.size }
-    requires seeded { IsSeededOf surface.now weights.now old.now.cells queue.old marks.old }
-    ensures seeded { OnOk result (IsSeededOf surface.now weights.now old.now.cells queue.new marks.new) }
-    ensures marked { OnOk result ((j : ℕ) → moved surface.now.size at (offset_at k) ≡ Some j → is_marked marks.new j ≡ true) }
-    ensures stays { OnOk result (StaysMarked marks.old marks.new) }
+    requires marks { marks.old.size ≡ surface.now.size }
+    requires seeded { IsSeededOf surface.now weights.now old.now.cells queue.old marks.old.marks }
+    ensures size { OnOk result (marks.new.size ≡ marks.old.size) }
+    ensures seeded { OnOk result (IsSeededOf surface.now weights.now old.now.cells queue.new marks.new.marks) }
+    ensures marked { OnOk result ((j : ℕ) → moved surface.now.size at (offset_at k) ≡ Some j → is_marked marks.new.marks j ≡ true) }
+    ensures stays { OnOk result (StaysMarked marks.old.marks marks.new.marks) }
     ensures picks { RisesBy 0 26 (M.counts tally.old) (M.counts tally.new) }
 {
     let Some(next) = neighbour(surface.extent(), at, k) else {
@@ -185,7 +189,7 @@ pub(crate) fn renew_around<M: Tally>(
     surface: &Change<'_>,
     weights: &Change<'_>,
     at: u32,
-    marks: &mut [bool],
+    marks: &mut PlaceSet,
     queue: &mut Queue,
     tally: &mut M,
 ) -> Result<(), NoMemory>
@@ -194,11 +198,12 @@ pub(crate) fn renew_around<M: Tally>(
     requires old_size { old.now.size ≡ surface.now.size }
     requires weights_size { weights.now.size ≡ surface.now.size }
     requires within { at < cells_in surface.now.size }
-    requires marks { length marks.old ≡ cells_in surface.now.size }
-    requires seeded { IsSeededOf surface.now weights.now old.now.cells queue.old marks.old }
-    ensures seeded { OnOk result (IsSeededOf surface.now weights.now old.now.cells queue.new marks.new) }
-    ensures marked { OnOk result (MarkedAround surface.now.size marks.new at) }
-    ensures stays { OnOk result (StaysMarked marks.old marks.new) }
+    requires marks { marks.old.size ≡ surface.now.size }
+    requires seeded { IsSeededOf surface.now weights.now old.now.cells queue.old marks.old.marks }
+    ensures size { OnOk result (marks.new.size ≡ marks.old.size) }
+    ensures seeded { OnOk result (IsSeededOf surface.now weights.now old.now.cells queue.new marks.new.marks) }
+    ensures marked { OnOk result (MarkedAround surface.now.size marks.new.marks at) }
+    ensures stays { OnOk result (StaysMarked marks.old.marks marks.new.marks) }
     ensures picks { RisesBy 0 234 (M.counts tally.old) (M.counts tally.new) }
 {
     renew_once(old, surface, weights, at, marks, queue, tally)?;

@@ -158,6 +158,7 @@ fn out_of_range(
 
 /// A valley that opens to the north, and the same with its middle filled.
 const VALLEY: [Value; 9] = [9, 4, 9, 9, 5, 4, 9, 9, 9];
+
 const FILLED: [Value; 9] = [9, 4, 9, 9, 9, 4, 9, 9, 9];
 
 #[test]

@@ -1,4 +1,4 @@
-use Rattle.std.proofs.Common.{◌∙◌, ap, sym, pos, arith}
+use Rattle.std.proofs.Common.{◌∙◌, ap, sym, pos}
 use Rattle.std.proofs.lemmas.List.Elements.{Contains-get_or}
 use Rattle.map_nums.specs.Grids.{Size, moved, compass}
 use Rattle.drainage_flow.specs.Steepest.{offset_at}

@@ -1,4 +1,4 @@
-use Rattle.std.proofs.Common.{◌≡◌, ◌∙◌, ap, subst, Result, Ok, Err}
+use Rattle.std.proofs.Common.{◌∙◌, ap, subst, Result, Err}
 use Rattle.map_defs.specs.Drainage.{direction_grid}
 use Rattle.layer_tiles.specs.Tiles.{Block}
 use Rattle.layer_tiles.specs.Answers.{IsTileAnswer}

@@ -1,4 +1,4 @@
-use Rattle.std.proofs.Common.{◌≡◌, ℕ, None, length}
+use Rattle.std.proofs.Common.{◌≡◌, None, length}
 use Rattle.drainage_flow.specs.Nets.{Net}
 use Rattle.drainage_flow.specs.Pouring.{ArePools}
 use Rattle.drainage_flow.proofs.pouring.run_all.Given as goal

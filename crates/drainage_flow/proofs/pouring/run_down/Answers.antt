@@ -1,4 +1,4 @@
-use Rattle.std.proofs.Common.{◌<◌, Some, None, refl, arith}
+use Rattle.std.proofs.Common.{Some, None, refl, arith}
 use Rattle.drainage_flow.proofs.Pours.{if_some, fits_on, passes_on, fewer_passed}
 use Rattle.drainage_flow.proofs.pouring.run_down.Goals as goal
 

@@ -1,4 +1,4 @@
-use Rattle.std.proofs.Common.{◌+◌, ◌<◌, arith}
+use Rattle.std.proofs.Common.{◌+◌, arith}
 use Rattle.drainage_flow.proofs.Pours.{pools_begin}
 use Rattle.drainage_flow.proofs.pouring.run_from.Goals as goal
 

@@ -1,7 +1,6 @@
-use Rattle.std.proofs.Common.{ℕ, ◌*◌, length, Option, Some, None, sym, ap, subst}
+use Rattle.std.proofs.Common.{◌*◌, length, Option, sym, ap, subst}
 use Rattle.std.specs.Prelude.{IfOk}
 use Rattle.std.specs.Option.{option_copied}
-use Rattle.map_defs.specs.Ops.{Term}
 use Rattle.layer_tiles.specs.Layers.{LayerState}
 use Rattle.layer_tiles.specs.Tallies.{RisesBy}
 use Rattle.tile_work.specs.Working.{before_of}

@@ -1,4 +1,4 @@
-use Rattle.std.proofs.Common.{◌≡◌, ◌+◌, length, Some, sym, ◌∙◌, ap, arith, ℤ}
+use Rattle.std.proofs.Common.{◌+◌, length, sym, ◌∙◌, ap, arith}
 use Rattle.map_nums.specs.Grids.{Cells, cells_in}
 use Rattle.layer_tiles.proofs.Rising.{rises_none, rises_within}
 use Rattle.drainage_flow.specs.Mending.{now_at}

@@ -1,4 +1,4 @@
-use Rattle.std.proofs.Common.{◌≡◌, ◌∙◌, None, ap, arith, ℕ, ℤ, Option, cond}
+use Rattle.std.proofs.Common.{◌≡◌, ◌∙◌, ap, arith, ℕ, ℤ, Option, cond}
 use Rattle.std.specs.Prelude.{is_some}
 use Rattle.map_nums.specs.Grids.{cell_at}
 use Rattle.drainage_flow.proofs.Around.{read}

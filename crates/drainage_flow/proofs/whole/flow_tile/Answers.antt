@@ -1,4 +1,4 @@
-use Rattle.std.proofs.Common.{◌≡◌, ◌∙◌, ap, subst, Result, Ok, Err}
+use Rattle.std.proofs.Common.{◌∙◌, ap, subst, Result, Err}
 use Rattle.map_nums.specs.Grids.{grid_by}
 use Rattle.layer_tiles.specs.Tiles.{Block}
 use Rattle.layer_tiles.specs.Answers.{IsTileAnswer}

@@ -1,4 +1,4 @@
-use Rattle.std.proofs.Common.{◌≡◌, ◌<◌, ℕ, None, Some, ap, sym, subst, ◌∙◌, arith}
+use Rattle.std.proofs.Common.{◌≡◌, ℕ, None, Some, ap, sym, subst, ◌∙◌, arith}
 use Rattle.std.proofs.lemmas.List.FromFn.{length-map-range_with_len}
 use Rattle.map_nums.specs.Grids.{Size, cells_in, grid_by}
 use Rattle.layer_tiles.specs.Tiles.{Block, tiles_in, IsBlockOf}

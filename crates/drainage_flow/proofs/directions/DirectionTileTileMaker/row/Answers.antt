@@ -1,4 +1,4 @@
-use Rattle.std.proofs.Common.{ℕ, ◌<◌, sym, subst, ap}
+use Rattle.std.proofs.Common.{ℕ, ◌<◌, sym, subst}
 use Rattle.map_nums.specs.Grids.{Size}
 use Rattle.layer_tiles.specs.Tiles.{tiles_in, tile_height, tile_width}
 use Rattle.near_cells.specs.Near.{IsNear}

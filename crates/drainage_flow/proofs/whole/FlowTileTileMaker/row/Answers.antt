@@ -1,5 +1,5 @@
-use Rattle.std.proofs.Common.{◌≡◌, ◌<◌, ◌+◌, sym, ◌∙◌, ap, subst, arith, length}
-use Rattle.map_nums.specs.Grids.{Size, cells_in}
+use Rattle.std.proofs.Common.{sym, ◌∙◌, ap, arith}
+use Rattle.map_nums.specs.Grids.{Size}
 use Rattle.layer_tiles.specs.PlaceByPlace.{cell_in}
 use Rattle.layer_tiles.proofs.Rounds.{here}
 use Rattle.tile_frame.proofs.Framing.{row_as}
