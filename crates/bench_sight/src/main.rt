@@ -47,7 +47,9 @@ fn height(at: u32, columns: u32) -> u32
 {
     let down = (at / columns).wrapping_sub(64);
     let right = (at % columns).wrapping_sub(64);
-    let bowl = down.wrapping_mul(down).wrapping_add(right.wrapping_mul(right));
+    let bowl = down
+        .wrapping_mul(down)
+        .wrapping_add(right.wrapping_mul(right));
     bowl.wrapping_add(at.wrapping_mul(7919) % 16)
 }
 
