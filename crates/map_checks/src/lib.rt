@@ -1,24 +1,12 @@
-//! Tests of what the libraries' public calls do, with values from other programs.
+//! Tests of what the public calls of grids' texts, graphs, sessions and the outside do, with values from other programs.
 //!
-//! Each module has one subject, from the arithmetic of a cell up to whole sessions.
+//! Those of lines stand in `line_checks`, of the engine in `engine_checks`, of layers and kernels in `kernel_checks`.
 #![tactic(auto)]
 
-#[cfg(test)]
-mod all_rows;
-#[cfg(test)]
-mod engines;
-#[cfg(test)]
-mod evaluations;
 #[cfg(test)]
 mod graphs;
 #[cfg(test)]
 mod grids;
-#[cfg(test)]
-mod lines;
-#[cfg(test)]
-mod makers;
-#[cfg(test)]
-mod names;
 #[cfg(test)]
 mod sessions;
 #[cfg(test)]

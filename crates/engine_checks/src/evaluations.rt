@@ -57,19 +57,46 @@ fn makes(
     Ok(())
 }
 
-#[test]
-fn ties_and_floors(rt: HostRuntime) -> Result<(), Fail> {
+/// A statistic of the layer -3 -4 5 and a number makes these cells.
+fn statistic_makes(
+    rt: &(impl AllocGlobal + Abort),
+    stat: Stat,
+    number: Value,
+    want: [Option<Value>; 3],
+) -> Result<(), Fail> {
     let layer = layer_of(rt.alloc(), Extent::new(1, 3).ok_or("limits")?, &[-3, -4, 5])?;
-    let mean = statistic(rt.alloc(), Stat::Mean)?;
-    makes(&rt, &mean, &layer, -4, [Some(-4), Some(-4), Some(0)])?;
-    let median = statistic(rt.alloc(), Stat::Median)?;
-    makes(&rt, &median, &layer, 0, [Some(-3), Some(-4), Some(0)])?;
+    let op = statistic(rt.alloc(), stat)?;
+    makes(rt, &op, &layer, number, want)
+}
+
+#[test]
+fn means_are_floors(rt: HostRuntime) -> Result<(), Fail> {
+    statistic_makes(&rt, Stat::Mean, -4, [Some(-4), Some(-4), Some(0)])
+}
+
+#[test]
+fn medians_are_the_lower(rt: HostRuntime) -> Result<(), Fail> {
+    statistic_makes(&rt, Stat::Median, 0, [Some(-3), Some(-4), Some(0)])
+}
+
+/// The ratio of the layer -3 -4 5 and a number makes these cells.
+fn ratio_makes(
+    rt: &(impl AllocGlobal + Abort),
+    number: Value,
+    want: [Option<Value>; 3],
+) -> Result<(), Fail> {
+    let layer = layer_of(rt.alloc(), Extent::new(1, 3).ok_or("limits")?, &[-3, -4, 5])?;
     let ratio = Op::Ratio {
         left: Term::Number(0),
         right: Term::Number(0),
     };
-    makes(&rt, &ratio, &layer, 2, [Some(-2), Some(-2), Some(2)])?;
-    makes(&rt, &ratio, &layer, 0, [None, None, None])
+    makes(rt, &ratio, &layer, number, want)
+}
+
+#[test]
+fn ratios_are_floors_and_null_over_nought(rt: HostRuntime) -> Result<(), Fail> {
+    ratio_makes(&rt, 2, [Some(-2), Some(-2), Some(2)])?;
+    ratio_makes(&rt, 0, [None, None, None])
 }
 
 /// The layer has these values at these cells.

@@ -111,24 +111,40 @@ fn rates_end_at_thirty_two(rt: HostRuntime) -> Result<(), Fail> {
 /// The form of a line, with its numbers where they are these.
 fn form(alloc: Global, line: &[u8]) -> &'static str {
     match parse_line(alloc, line) {
-        Ok(Line::Blank) => "blank",
-        Ok(Line::Quit) => "quit",
-        Ok(Line::Ask(Request::List)) => "list",
-        Ok(Line::Ask(Request::Value { r: 1, c: 2, .. })) => "value at 1 2",
-        Ok(Line::Edit(LineEdit::Drop { .. })) => "drop",
-        Ok(
-            Line::Edit(
-                LineEdit::Paint {
-                    r1: 1,
-                    c1: 2,
-                    r2: 3,
-                    c2: 4,
-                    ..
-                },
-            ),
-        ) => "paint from 1 2 to 3 4",
+        Ok(line) => form_of(&line),
+        Err(_) => "another",
+    }
+}
+
+fn form_of(line: &Line) -> &'static str {
+    match line {
+        Line::Blank => "blank",
+        Line::Quit => "quit",
+        Line::Ask(request) => form_of_request(request),
+        Line::Edit(edit) => form_of_edit(edit),
+    }
+}
+
+fn form_of_request(request: &Request) -> &'static str {
+    match request {
+        Request::List => "list",
+        Request::Value { r, c, .. } if *r == 1 && *c == 2 => "value at 1 2",
         _ => "another",
     }
+}
+
+fn form_of_edit(edit: &LineEdit) -> &'static str {
+    match edit {
+        LineEdit::Drop { .. } => "drop",
+        LineEdit::Paint { r1, c1, r2, c2, .. } if is_one_to_four(*r1, *c1, *r2, *c2) => {
+            "paint from 1 2 to 3 4"
+        }
+        _ => "another",
+    }
+}
+
+fn is_one_to_four(r1: u32, c1: u32, r2: u32, c2: u32) -> bool {
+    r1 == 1 && c1 == 2 && r2 == 3 && c2 == 4
 }
 
 /// A line has this form.

@@ -1,0 +1,9 @@
+//! Tests of what the public calls do that read names and lines, with values from other programs.
+#![tactic(auto)]
+
+#[cfg(test)]
+mod all_rows;
+#[cfg(test)]
+mod lines;
+#[cfg(test)]
+mod names;
