@@ -24,6 +24,7 @@ enum Said {
     Size(u64, u64),
     Limit(Which),
     Cycle,
+    Viewers(u64),
     Overflow(u64, u64),
     NoMemory,
 }
@@ -37,6 +38,7 @@ fn told(answer: Result<Accepted, Refusal>) -> Said {
         Err(Refusal::Size(rows, columns)) => Said::Size(rows, columns),
         Err(Refusal::Limit(which)) => Said::Limit(which),
         Err(Refusal::Cycle(_)) => Said::Cycle,
+        Err(Refusal::Viewers(_, count)) => Said::Viewers(count),
         Err(Refusal::Overflow(_, row, column)) => Said::Overflow(row, column),
         Err(Refusal::NoMemory) => Said::NoMemory,
     }
@@ -285,8 +287,52 @@ fn limits(rt: HostRuntime) -> Result<(), Fail> {
     Ok(())
 }
 
-/// A paint of a layer A of 33 by 33 ones, as the second edit, has so many looks, and A then has these stamps, and these
-/// values at places 1053, 1054 and 1088.
+#[test]
+fn zonal_limit(rt: HostRuntime) -> Result<(), Fail> {
+    let extent = Extent::new(1, 1).ok_or("limits")?;
+    let mut engine = Engine::new(rt.alloc(), extent);
+    takes_all(&rt, &mut engine, b"Z", b" = ZonalSum of Q within Q", 24, 0)?;
+    says(
+        &rt,
+        &mut engine,
+        b"Z24 = ZonalMean of Q within 1",
+        Said::Limit(Which::Zonals),
+    );
+    says(
+        &rt,
+        &mut engine,
+        b"Z00 = ZonalMean of Q within 1",
+        Said::Number(25),
+    );
+    says(
+        &rt,
+        &mut engine,
+        b"Z00 = LocalSum of Q and 1",
+        Said::Number(26),
+    );
+    says(
+        &rt,
+        &mut engine,
+        b"Z24 = ZonalMean of Q within 1",
+        Said::Number(27),
+    );
+    Ok(())
+}
+
+#[test]
+fn too_many_viewers(rt: HostRuntime) -> Result<(), Fail> {
+    let mut engine = with_source(&rt, 5, 13, 1)?;
+    let text = b"B = FocalSum of A radiating on 0";
+    says(&rt, &mut engine, text, Said::Viewers(65));
+    says(&rt, &mut engine, b"paint A 1 1 1 1 null", Said::Number(2));
+    says(&rt, &mut engine, text, Said::Number(3));
+    assert_eq!(rt; value(&engine, rt.alloc(), b"B", 0), Some(64));
+    says(&rt, &mut engine, b"paint A 1 1 1 1 1", Said::Viewers(65));
+    Ok(())
+}
+
+/// A paint of a layer A of 33 by 33 ones, as the second edit, has so many looks (at each tile that it meets one, and two to tell
+/// whether it differs), and A then has these stamps, and these values at places 1053, 1054 and 1088.
 fn paints(
     rt: &(impl AllocGlobal + Abort),
     text: &[u8],
@@ -314,8 +360,8 @@ fn paints(
 fn rectangles_across_tiles(rt: HostRuntime) -> Result<(), Fail> {
     // the corner of four tiles
     let corner = [Some(1), Some(9), Some(9)];
-    paints(&rt, b"paint A 32 32 33 33 9", 4, &[2, 2, 2, 2], corner)?;
+    paints(&rt, b"paint A 32 32 33 33 9", 12, &[2, 2, 2, 2], corner)?;
     // all of the last column but its last row
     let column = [Some(1), Some(1), Some(1)];
-    paints(&rt, b"paint A 1 33 32 33 null", 1, &[1, 2, 1, 1], column)
+    paints(&rt, b"paint A 1 33 32 33 null", 3, &[1, 2, 1, 1], column)
 }

@@ -5,9 +5,10 @@ ghost use Rattle.map_defs.specs.Ops.{terms_of};
 ghost use Rattle.statement_parser.specs.Views.{op_view};
 
 use crate::makers::{cell, layer_of, stamps_of, value_at, values_of};
-use layer_tiles::{Change, Extent, KernelRefusal, Layer, NoMemory, Operands, Value};
+use layer_tiles::{Change, Extent, Layer, NoMemory, Operands, Value};
 use map_nums::{Rate, Stat};
 use map_outside::Counts;
+use map_waves::Unmade;
 use op_jobs::evaluate;
 use statement_parser::{Op, Term};
 use std::alloc::Global;
@@ -31,7 +32,7 @@ fn made_with(
     layer: &Layer,
     number: Value,
     tally: &mut Counts,
-) -> Result<Layer, KernelRefusal>
+) -> Result<Layer, Unmade>
     requires formed { IsOp (op_view op.now) }
     requires two { length (terms_of (op_view op.now)) ≡ 2 }
 {
@@ -120,7 +121,7 @@ fn overflow_found_late(rt: HostRuntime) -> Result<(), Fail> {
     let layer = layer_of(rt.alloc(), extent, &values)?;
     let mut tally = Counts::new();
     let refused = made_with(rt.alloc(), &product, &layer, 1000, &mut tally);
-    assert_eq!(rt; refused.err(), Some(KernelRefusal::Overflow(31)));
+    assert_eq!(rt; refused.err(), Some(Unmade::Overflow(31)));
     values[31] = 2_000_000;
     values[32] = 2_000_000;
     let layer = layer_of(rt.alloc(), extent, &values)?;
@@ -148,7 +149,7 @@ fn least_cell_in_a_later_tile(rt: HostRuntime) -> Result<(), Fail> {
     let layer = two_peaks(rt.alloc())?;
     let mut tally = Counts::new();
     let refused = made_with(rt.alloc(), &sum, &layer, 1, &mut tally);
-    assert_eq!(rt; refused.err(), Some(KernelRefusal::Overflow(32)));
+    assert_eq!(rt; refused.err(), Some(Unmade::Overflow(32)));
     assert_eq!(rt; (tally.looks(), tally.picks()), (8, 0));
     Ok(())
 }

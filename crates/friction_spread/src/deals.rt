@@ -1,5 +1,5 @@
 //! What is done with an entry of the queue.
-ghost use Rattle.std.specs.Prelude.{◌≡◌, ◌<◌, ◌≤◌, ◌+◌, ◌-◌, ◌*◌, ℕ, suc, IfOk, OnOk, OnErr, length};
+ghost use Rattle.std.specs.Prelude.{◌≡◌, ◌^◌, ◌<◌, ◌≤◌, ◌+◌, ◌-◌, ◌*◌, ℕ, suc, IfOk, OnOk, OnErr, length};
 ghost use Rattle.std.specs.List.{Contains};
 ghost use Rattle.std.specs.Int.{from_bool};
 ghost use Rattle.layer_tiles.specs.Tallies.{RisesBy};
@@ -26,6 +26,7 @@ pub struct Dealt {
 
 /// What a place without a cost can have comes into the queue.
 fn offer_cost(queue: &mut Queue, cost: u64, top: u64, at: u32) -> Result<(), NoMemory>
+    requires { top ≤ 2 ^ 31 }
     ensures kept { OnOk result (IsKept queue.old queue.new) }
     ensures there { OnOk result (cost < top → Contains queue.new (cost, at)) }
     ensures len { OnOk result (length queue.new ≤ length queue.old + 1) }

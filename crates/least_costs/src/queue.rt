@@ -1,6 +1,6 @@
 //! A queue that gives the least key first.
 
-ghost use Rattle.std.specs.Prelude.{◌≡◌, ℕ, ◌+◌, ◌≤◌, List, [], ◌∷◌, length, OnOk, IfSome, IfNone};
+ghost use Rattle.std.specs.Prelude.{◌≡◌, ◌^◌, ℕ, ◌+◌, ◌<◌, ◌≤◌, List, [], ◌∷◌, length, OnOk, IfSome, IfNone};
 ghost use Rattle.std.specs.List.{Contains, All};
 ghost use Rattle.std.specs.List.Sorted.{IsPermutation};
 
@@ -10,22 +10,22 @@ use std::cmp::Reverse;
 use std::collections::BinaryHeap;
 use std::marker::Model;
 
-/// Keys with places.
+/// Keys with places. An entry is one number, the key above the lower 32 bits, so that the heap compares one word.
 #[derive(Drop)]
 pub struct Queue {
-    heap: BinaryHeap<Reverse<(u64, u32)>, Global>,
+    heap: BinaryHeap<Reverse<u64>, Global>,
 }
 
 impl Model for Queue {
     ghost use Rattle.std.specs.Prelude.{ℕ, List, map};
     ghost use Rattle.std.specs.BinaryHeap.{IsHeap, heap_items};
-    ghost use Rattle.least_costs.specs.Entries.{pair_of, entry_cmp};
+    ghost use Rattle.least_costs.specs.Entries.{entry_of, number_cmp};
 
     ghost Value = { List (ℕ × ℕ) };
 
-    ghost view = { λ q. map pair_of (heap_items q.heap) };
+    ghost view = { λ q. map entry_of (heap_items q.heap) };
 
-    ghost invariant = { λ q. IsHeap entry_cmp (heap_items q.heap) };
+    ghost invariant = { λ q. IsHeap number_cmp (heap_items q.heap) };
 }
 
 impl Queue {
@@ -38,9 +38,11 @@ impl Queue {
     }
 
     pub fn push(&mut self, key: u64, at: u32) -> Result<(), NoMemory>
+        requires { key < 2 ^ 32 }
         ensures { OnOk result (IsPermutation ((key, at) ∷ self.old) self.new) }
     {
-        self.heap.push(Reverse((key, at)))?;
+        self.heap
+            .push(Reverse(key * 4_294_967_296 + u64::from(at)))?;
         Ok(())
     }
 
@@ -50,9 +52,9 @@ impl Queue {
         ensures least { IfSome result (λ x. All (λ y. x.0 ≤ y.0) self.old) }
         ensures none { IfNone result (self.old ≡ []) }
     {
-        let Some(Reverse(entry)) = self.heap.pop() else {
+        let Some(Reverse(number)) = self.heap.pop() else {
             return None;
         };
-        Some(entry)
+        Some((number / 4_294_967_296, (number % 4_294_967_296) as u32))
     }
 }

@@ -1,13 +1,16 @@
 //! Lines of the language where all of its rows are there.
 use map_nums::Stat;
 use statement_parser::{
-    Command, Form, Line, LineEdit, LineRefusal, Operation, Rows, parse_line, print_written,
+    Command, Form, Line, LineEdit, LineRefusal, Operation, Rows, parse_line, print_procedure,
+    print_written,
 };
 use std::alloc::Global;
+use std::process::Abort;
 use std::test::Fail;
 
 /// The operations beside `LocalSum` that the lines below name.
-const OPERATIONS: [Operation; 10] = [
+const OPERATIONS: [Operation; 11] = [
+    Operation::Local(Stat::Product),
     Operation::Local(Stat::Mean),
     Operation::Focal(Stat::Sum),
     Operation::Focal(Stat::Mean),
@@ -21,10 +24,13 @@ const OPERATIONS: [Operation; 10] = [
     Operation::Drainage,
 ];
 
-const COMMANDS: [Command; 11] = [
+const COMMANDS: [Command; 14] = [
+    Command::Procedure,
     Command::Paint,
     Command::New,
     Command::Drop,
+    Command::Label,
+    Command::Symbol,
     Command::Value,
     Command::Grid,
     Command::Show,
@@ -136,6 +142,227 @@ fn defaults_are_left_out(rt: HostRuntime) -> Result<(), Fail> {
     for (line, want) in texts {
         let text = reprinted(rt.alloc(), line).ok_or("not read")?;
         assert_eq!(rt; text.as_slice(), want);
+    }
+    Ok(())
+}
+
+/// The refused lines of worked sessions that the grammar alone decides.
+#[test]
+fn refused_lines_of_sessions(rt: HostRuntime) {
+    let lines: [(&[u8], LineRefusal); 9] = [
+        (b"foo", LineRefusal::Syntax(4)),
+        (b"C = LocalSun of A and 1", LineRefusal::Operation(5)),
+        (b"C = LocalSum of A and", LineRefusal::Syntax(22)),
+        (b"new of 1", LineRefusal::Syntax(5)),
+        (b"new C 2000000001", LineRefusal::Number(7)),
+        (b"paint A 0 1 1 1 1", LineRefusal::Number(9)),
+        (b"symbol A 1 ab", LineRefusal::Syntax(13)),
+        (b"ab\x80", LineRefusal::Syntax(3)),
+        (
+            b"C = LocalSum of A and B ignoring nulls",
+            LineRefusal::Syntax(25),
+        ),
+    ];
+    for (line, want) in lines {
+        assert_eq!(rt; refusal(rt.alloc(), line), Some(want));
+    }
+}
+
+/// A line of so many copies of a byte.
+fn copies(alloc: Global, byte: u8, count: u32) -> Result<Vec<u8>, Fail> {
+    let mut line = Vec::new(alloc);
+    for _ in 0..count {
+        line.push(byte)?;
+    }
+    Ok(line)
+}
+
+#[test]
+fn refused_long_lines_of_sessions(rt: HostRuntime) -> Result<(), Fail> {
+    let brackets = copies(rt.alloc(), b'(', 2000)?;
+    assert_eq!(rt;
+        refusal(rt.alloc(), &brackets),
+        Some(LineRefusal::Syntax(1))
+    );
+    let letters = copies(rt.alloc(), b'x', 4097)?;
+    assert_eq!(rt;
+        refusal(rt.alloc(), &letters),
+        Some(LineRefusal::Long(4097))
+    );
+    Ok(())
+}
+
+#[test]
+fn refused_labels_and_symbols(rt: HostRuntime) {
+    let lines: [(&[u8], LineRefusal); 9] = [
+        (b"label A 5x", LineRefusal::Syntax(9)),
+        (b"label A 2000000001 x", LineRefusal::Number(9)),
+        (b"label A.b 5 x", LineRefusal::Syntax(7)),
+        (b"label A 5", LineRefusal::Syntax(10)),
+        (b"label A 5  ", LineRefusal::Syntax(12)),
+        (b"label = x", LineRefusal::Syntax(7)),
+        (b"symbol A 1 a b", LineRefusal::Syntax(14)),
+        (b"symbol A 1\t", LineRefusal::Syntax(12)),
+        (b"symbol A x y", LineRefusal::Syntax(10)),
+    ];
+    for (line, want) in lines {
+        assert_eq!(rt; refusal(rt.alloc(), line), Some(want));
+    }
+}
+
+#[test]
+fn a_text_ends_at_sixty_four(rt: HostRuntime) -> Result<(), Fail> {
+    let mut line = Vec::from_slice(rt.alloc(), b"label A 5 ")?;
+    line.extend_from_slice(&copies(rt.alloc(), b'7', 64)?)?;
+    line.push(b' ')?;
+    assert_eq!(rt; refusal(rt.alloc(), &line), None);
+    line.push(b'x')?;
+    assert_eq!(rt; refusal(rt.alloc(), &line), Some(LineRefusal::Syntax(75)));
+    Ok(())
+}
+
+#[test]
+fn refused_procedures(rt: HostRuntime) {
+    let lines: [(&[u8], LineRefusal); 13] = [
+        (
+            b"procedure Q(P): x = LocalMean of P and 1",
+            LineRefusal::Syntax(41),
+        ),
+        (
+            b"procedure Q(P): x = LocalMean of P and 1; ",
+            LineRefusal::Syntax(43),
+        ),
+        (
+            b"procedure Q(P): x = LocalMean of P and y; y = LocalMean of x and 1",
+            LineRefusal::Syntax(40),
+        ),
+        (
+            b"procedure Q(P): x = LocalMean of x and 1; result = Q(x)",
+            LineRefusal::Syntax(34),
+        ),
+        (
+            b"procedure Q(P): result = LocalMean of P and 1; y = Q(P)",
+            LineRefusal::Syntax(46),
+        ),
+        (b"procedure Q(P, P): result = Q(P)", LineRefusal::Syntax(16)),
+        (
+            b"procedure Q(P): P = Q(P); result = Q(P)",
+            LineRefusal::Syntax(17),
+        ),
+        (b"procedure Q(): result = Q(1)", LineRefusal::Syntax(13)),
+        (b"procedure Q(1): result = Q(1)", LineRefusal::Syntax(13)),
+        (
+            b"procedure Q(a, b, c, d, e, f, g, h, i): result = Q(a)",
+            LineRefusal::Syntax(35),
+        ),
+        (b"procedure Q(P) result = Q(P)", LineRefusal::Syntax(16)),
+        (
+            b"procedure Q(P): result = Twice",
+            LineRefusal::Operation(26),
+        ),
+        (
+            b"procedure Q(P): result = Q(2000000001)",
+            LineRefusal::Number(28),
+        ),
+    ];
+    for (line, want) in lines {
+        assert_eq!(rt; refusal(rt.alloc(), line), Some(want));
+    }
+}
+
+/// A procedure with so many statements before the last.
+fn procedure_of(alloc: Global, count: u8, last: &[u8]) -> Result<Vec<u8>, Fail> {
+    let mut line = Vec::from_slice(alloc, b"procedure Q(P): ")?;
+    for place in 0..count {
+        line.push(b'a'.wrapping_add(place))?;
+        line.extend_from_slice(b" = Q(P); ")?;
+    }
+    line.extend_from_slice(last)?;
+    Ok(line)
+}
+
+#[test]
+fn the_sixteenth_statement_is_the_result(rt: HostRuntime) -> Result<(), Fail> {
+    let whole = procedure_of(rt.alloc(), 15, b"result = Q(o)")?;
+    assert_eq!(rt; refusal(rt.alloc(), &whole), None);
+    let other = procedure_of(rt.alloc(), 15, b"p = Q(o)")?;
+    assert_eq!(rt; refusal(rt.alloc(), &other), Some(LineRefusal::Syntax(167)));
+    Ok(())
+}
+
+/// Whether a line gives a value of the layer A this text or sign.
+fn is_mark(line: &Line, value: i32, want: &[u8]) -> bool {
+    match line {
+        Line::Edit(
+            LineEdit::Label {
+                name,
+                value: found,
+                text,
+            },
+        ) => name.bytes() == b"A".as_slice() && *found == value && text.bytes() == want,
+        Line::Edit(
+            LineEdit::Symbol {
+                name,
+                value: found,
+                sign,
+            },
+        ) => { name.bytes() == b"A".as_slice() && *found == value && want == [*sign].as_slice() }
+        _ => false,
+    }
+}
+
+/// A line gives a value of a layer this text or sign.
+fn marks(
+    rt: &(impl AllocGlobal + Abort),
+    line: &[u8],
+    value: i32,
+    text: &[u8],
+) -> Result<(), Fail> {
+    let found = read(rt.alloc(), line).ok().ok_or("not read")?;
+    assert!(rt; is_mark(&found, value, text), "{line:?}");
+    Ok(())
+}
+
+#[test]
+fn labels_and_symbols_are_read(rt: HostRuntime) -> Result<(), Fail> {
+    marks(&rt, b"label A 1 dry land", 1, b"dry land")?;
+    marks(&rt, b" label\tA -0 \t x  (y) \t", 0, b"x  (y)")?;
+    marks(&rt, b"label A 5=x", 5, b"=x")?;
+    marks(&rt, b"label A +05 5", 5, b"5")?;
+    marks(&rt, b"symbol A 2 ~", 2, b"~")?;
+    marks(&rt, b"symbol A 5;", 5, b";")?;
+    marks(&rt, b"symbol A 5 7 ", 5, b"7")
+}
+
+/// The canonical text of a procedure.
+fn procedure_text(alloc: Global, line: &[u8]) -> Option<Vec<u8>> {
+    match &read(alloc, line).ok()? {
+        Line::Edit(LineEdit::Procedure(procedure)) => print_procedure(alloc, procedure).ok(),
+        _ => None,
+    }
+}
+
+#[test]
+fn procedures_are_printed(rt: HostRuntime) -> Result<(), Fail> {
+    let texts: [(&[u8], &[u8]); 3] = [
+        (
+            b"procedure Twice(P, K): x = LocalSum of P and K; result = LocalProduct of x and 2",
+            b"procedure Twice(P, K): x = LocalSum of P and K; result = LocalProduct of x and 2",
+        ),
+        (
+            b"procedure\tQ ( Q ):result=FocalProximity of Q spreading in +01",
+            b"procedure Q(Q): result = FocalProximity of Q",
+        ),
+        (
+            b"procedure P(a,b) : x=Q(a , 007) ;y =ZonalVariety of x within b;result=P(y)",
+            b"procedure P(a, b): x = Q(a, 7); y = ZonalVariety of x within b; result = P(y)",
+        ),
+    ];
+    for (line, want) in texts {
+        let text = procedure_text(rt.alloc(), line).ok_or("not read")?;
+        assert_eq!(rt; text.as_slice(), want);
+        let again = procedure_text(rt.alloc(), &text).ok_or("not read")?;
+        assert_eq!(rt; again.as_slice(), want);
     }
     Ok(())
 }

@@ -7,3 +7,5 @@ mod all_rows;
 mod lines;
 #[cfg(test)]
 mod names;
+#[cfg(test)]
+mod procedures;

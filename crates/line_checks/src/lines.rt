@@ -50,7 +50,12 @@ fn refused_operations(rt: HostRuntime) {
     refused(&rt, b"C = end", LineRefusal::Operation(5));
     refused(&rt, b"C = paint(A)", LineRefusal::Syntax(5));
     refused(&rt, b"C = Twice(A, 3)", LineRefusal::Syntax(5));
-    refused(&rt, b"C = FocalSum of A at 2", LineRefusal::Operation(5));
+    refused(
+        &rt,
+        b"C = FocalProduct of A at 2",
+        LineRefusal::Operation(5),
+    );
+    refused(&rt, b"C = FocalSum of A at 33", LineRefusal::Number(22));
     refused(&rt, b"C = LocalSum(A)", LineRefusal::Syntax(13));
     refused(&rt, b"C = LocalSun of\x1FA", LineRefusal::Syntax(16));
 }

@@ -9,7 +9,7 @@ use Rattle.map_defs.specs.Ops.{Name}
 use Rattle.statement_graph.specs.Groups.{Group}
 use Rattle.map_edits.specs.Entries.{Entry}
 use Rattle.map_edits.specs.EngineStates.{EngineState, value_of}
-use Rattle.map_edits.specs.Faults.{Fault, overflow, fault_of}
+use Rattle.map_edits.specs.Faults.{Fault, too_many_viewers, overflow, fault_of}
 use Rattle.map_edits.specs.Edits.{Edit, Refusal, fault, entries_after, with_entries, may_fault, without_fault, settled, accept_entries, accept}
 use Rattle.live_engine.specs.Held.{entries_of}
 use Rattle.live_engine.specs.Groups.{groups_of}
@@ -65,6 +65,7 @@ module _ (s : EngineState) (edit : Edit) (es : List Entry) (after : entries_afte
 
   -- an evaluation that halts refuses the edit
   pub halted : (new : EngineState) (halt : Halt) → may_fault edit ≡ true → IsEvaluation (state_with s.size es) (Err halt) → new ≡ s → Refuses s new edit (refusal_of halt)
+  halted new (halts.Viewers n c) may some same = (accept_fault (too_many_viewers n c) may some, same)
   halted new (halts.Overflow n r c) may some same = (accept_fault (overflow n r c) may some, same)
   halted new halts.NoMemory may none same = same
 

@@ -1,22 +1,16 @@
 -- How many sources and flat statements there are after an edit.
 use Rattle.std.proofs.Common.{◌≡◌, ℕ, suc, ◌+◌, ◌≤◌, Bool, true, false, cond, not, List, [], ◌∷◌, ◌++◌, map, find, length, ◌-◌, count_by, Option, Some, None, is_some, option_map, bytes_eq, refl, sym, ap, subst, ◌∙◌, arith}
-use Rattle.std.specs.List.{All, AllByRecursion}
-use Rattle.std.proofs.lemmas.List.Elements.{recursion_from_All}
-use Rattle.map_nums.specs.Grids.{Size}
-use Rattle.live_engine.specs.Engines.{IsItem, IsHeld}
 use Rattle.std.proofs.lemmas.List.Sums.{sum_by-cons, sum_by-append}
 use Rattle.map_defs.specs.Ops.{Name, Op}
 use Rattle.map_defs.specs.Statements.{Flat, Written, plain, call}
 use Rattle.statement_parser.specs.Views.{op_view, written_view}
-use Rattle.statement_parser.specs.declared.op.Op as seen
 use Rattle.statement_parser.specs.declared.line.Written as writtens
 use Rattle.statement_parser.specs.declared.line.Written.TheVariants as a_written
-use Rattle.map_lines.specs.Formed.{IsOp, IsWritten}
-use Rattle.map_lines.proofs.Viewed.{by_view}
+use Rattle.map_lines.specs.Formed.{IsWritten}
 use Rattle.map_defs.specs.Expansion.{expansion_of}
 use Rattle.map_edits.specs.Entries.{Def, source, statement, Entry, find_def, put_entry, drop_entry}
-use Rattle.map_edits.specs.LayerDefs.{LayerDef, given_grid, by_op, flat_layer, layers, layers_of}
-use Rattle.map_edits.specs.Edits.{is_source, is_flat, is_zonal}
+use Rattle.map_edits.specs.LayerDefs.{LayerDef, given_grid, flat_layer, layers, layers_of}
+use Rattle.map_edits.specs.Edits.{is_source, is_flat}
 use Rattle.map_edits.specs.Laws.{IsOwnDef, IsOwn}
 use Rattle.map_edits.proofs.Puts.{own_put}
 use Rattle.live_engine.specs.Held.{flats_of, def_of, entry_of, entries_of}
@@ -150,31 +144,10 @@ flats_drop (e ∷ es) n = go (bytes_eq e.name n) (flats_drop es n)
     go true rest = (at_most _ _ _ _ (count_by is_flat (layers_of e)) less whole rest).0
     go false rest = (at_most _ _ _ _ (count_by is_flat (layers_of e)) less whole rest).1
 
--- ---- no operation that is there is Zonal
-
-not_zonal : (o : seen.Op) → IsOp (op_view o) → is_zonal (record { name = []; making = by_op (op_view o) }) ≡ false
-not_zonal o there = by_view (λ op. is_zonal (record { name = []; making = by_op op }) ≡ false) (λ stat ts. refl) (λ l r. refl) (λ l r. refl) (λ t rs. refl) (op_view o) there
-
 -- a statement that is one operation is one flat statement
 pub flats_is : (n : Name) (op : Op) → flats_of n (plain op) ≡ record { name = n; op = op } ∷ []
 unfolding expansion_of
 flats_is n op = refl
-
-zonals_first : (size : Size) (n : Name) (item : Item) → IsItem size item → count_by is_zonal (layers_of (record { name = n; def = def_of n item })) ≡ 0
-zonals_first size n (Source layer) there = refl
-zonals_first size n (Statement (a_written.Call p ts)) there = absurd there
-zonals_first size n (Statement (a_written.Plain o)) there = rw (flats_is n (op_view o)) (count_first is_zonal (record { name = n; making = by_op (op_view o) }) [] ∙ ap (λ b. cond b 1 0 + 0) (not_zonal o there))
-
-none_zonal : (size : Size) (items : List (List ℕ × Item)) → AllByRecursion (IsHeld size) items → count_by is_zonal (layers (entries_of items)) ≡ 0
-none_zonal size [] held = refl
-none_zonal size (e ∷ es) held =
-    let both = sum_by-append (λ l. cond (is_zonal l) 1 0) (layers_of (entry_of e)) (layers (entries_of es)) in
-    let first = zonals_first size e.0 e.1 held.0.1 in
-    let rest = none_zonal size es held.1 in
-    omega (arith, both, first, rest)
-
-pub no_zonals : (size : Size) (items : List (List ℕ × Item)) → All (IsHeld size) items → count_by is_zonal (layers (entries_of items)) ≡ 0
-no_zonals size items held = none_zonal size items (recursion_from_All (IsHeld size) items held)
 
 -- ---- a statement is put
 

@@ -14,13 +14,12 @@ use Rattle.map_defs.specs.Expansion.{expansion_of}
 use Rattle.statement_parser.specs.Views.{op_view, written_view}
 use Rattle.statement_parser.specs.declared.line.Written as writtens
 use Rattle.statement_parser.specs.declared.line.Written.TheVariants as a_written
-use Rattle.indexmap.specs.IndexMap.{insert_entry}
 use Rattle.statement_graph.specs.Groups.{Group, nodes_in, has_group, put_group, drop_group}
 use Rattle.statement_graph.specs.Puts.{source_node}
 use Rattle.map_edits.specs.Entries.{Def, source, statement, Entry, find_def, put_entry, drop_entry}
 use Rattle.map_edits.specs.LayerDefs.{layers, nodes_of}
 use Rattle.map_edits.specs.EngineStates.{EngineState}
-use Rattle.map_edits.specs.Faults.{overflow, fault_of}
+use Rattle.map_edits.specs.Faults.{too_many_viewers, overflow, fault_of}
 use Rattle.map_edits.specs.Edits.{Edit, load, new_layer, paint, define, drop_name, Rectangle, unknown, is_derived, exists_already, wrong_size, beyond, cycle, sources, statements, zonals, is_source, is_flat, is_zonal, is_within, painted, same_size, add_source, paint_source, bounded, put_statement, define_entry, entries_after, accept}
 use Rattle.map_edits.specs.Laws.{IsOwnDef, IsWellMade}
 use Rattle.map_edits.proofs.Dropped.{drop_has_no_fault}
@@ -32,22 +31,25 @@ use Rattle.live_engine.specs.Engines.{IsHeld, AreLawful}
 use Rattle.live_engine.specs.Scenes.{state_with}
 use Rattle.live_engine.specs.Standing.{standing_of, OtherThanSource}
 use Rattle.live_engine.specs.Values.{AreValues, IsEvaluation, IsOfStamp}
-use Rattle.live_engine.specs.Accepts.{Refuses, Accepts}
+use Rattle.live_engine.specs.Accepts.{Refuses, Accepts, which_of}
+use Rattle.live_engine.specs.Zonals.{IsBeyond}
+use Rattle.live_engine.specs.declared.edits.Which.{Which}
+use Rattle.live_engine.specs.declared.edits.Which.TheVariants as which
 use Rattle.live_engine.specs.Holdings.{entries_in, seen_in, IsKeptIn, IsPlaced}
 use Rattle.live_engine.specs.declared.edits.Accepted.{Accepted}
 use Rattle.live_engine.specs.declared.held.Item.{Item}
 use Rattle.live_engine.specs.declared.held.Held.{Held}
-use Rattle.live_engine.specs.declared.held.Item.TheVariants.{Source, Statement}
+use Rattle.live_engine.specs.declared.held.Item.TheVariants.{Source}
 use Rattle.live_engine.specs.declared.limits.Kind.{Kind}
 use Rattle.live_engine.specs.declared.limits.Kind.TheVariants as kinds
 use Rattle.live_engine.specs.declared.values.Valued.{Valued}
 use Rattle.live_engine.specs.declared.values.Halt.{Halt}
 use Rattle.live_engine.specs.declared.values.Halt.TheVariants as halts
-use Rattle.live_engine.proofs.Counts.{flats_is, no_zonals, statement_nodes_is}
+use Rattle.live_engine.proofs.Counts.{flats_is, statement_nodes_is}
 use Rattle.live_engine.proofs.Groupings.{nodes_in_groups, has_group_is, groups_put, groups_add, groups_drop}
 use Rattle.map_words.specs.Names.{is_plain}
 use Rattle.map_lines.specs.Formed.{IsWritten}
-use Rattle.live_engine.proofs.Items.{find_item, entries_insert, entries_set, held_insert, held_set}
+use Rattle.live_engine.proofs.Items.{find_item, entries_set, held_set}
 use Rattle.live_engine.proofs.Lawful.{nodes_few, nodes_put_few, lawful_define}
 use Rattle.live_engine.proofs.Accepting.{accept_err, placed_accepts, placed_kept}
 
@@ -167,12 +169,12 @@ module _ (s : EngineState) (n : Name) (w : Written) where
       go (Some (source grid)) other = absurd other
       go (Some (statement v flats)) other = refl
 
-bounded_by : (n : Name) (es : List Entry) (many looped : Bool) → nat_lt 64 (count_by is_flat (layers es)) ≡ many → count_by is_zonal (layers es) ≡ 0 → is_looped (nodes_of es) n ≡ looped
-    → bounded n es ≡ cond many (Err (beyond statements)) (cond looped (Err (cycle n)) (Ok es))
-bounded_by n es many looped p q r =
+bounded_by : (n : Name) (es : List Entry) (many zonal looped : Bool) → nat_lt 64 (count_by is_flat (layers es)) ≡ many → nat_lt 24 (count_by is_zonal (layers es)) ≡ zonal → is_looped (nodes_of es) n ≡ looped
+    → bounded n es ≡ cond many (Err (beyond statements)) (cond zonal (Err (beyond zonals)) (cond looped (Err (cycle n)) (Ok es)))
+bounded_by n es many zonal looped p q r =
     ap (λ b. cond b (Err (beyond statements)) (cond (nat_lt 24 (count_by is_zonal (layers es))) (Err (beyond zonals)) (cond (is_looped (nodes_of es) n) (Err (cycle n)) (Ok es)))) p
-    ∙ ap (λ z. cond many (Err (beyond statements)) (cond (nat_lt 24 z) (Err (beyond zonals)) (cond (is_looped (nodes_of es) n) (Err (cycle n)) (Ok es)))) q
-    ∙ ap (λ l. cond many (Err (beyond statements)) (cond l (Err (cycle n)) (Ok es))) r
+    ∙ ap (λ z. cond many (Err (beyond statements)) (cond z (Err (beyond zonals)) (cond (is_looped (nodes_of es) n) (Err (cycle n)) (Ok es)))) q
+    ∙ ap (λ l. cond many (Err (beyond statements)) (cond zonal (Err (beyond zonals)) (cond l (Err (cycle n)) (Ok es)))) r
 
 pub own_defined : (n : Name) (written : writtens.Written) → IsWritten (written_view written) → IsOwnDef n (defined n (written_view written))
 own_defined n (a_written.Call p ts) formed = absurd formed
@@ -192,21 +194,29 @@ module _ (held : Held) (n : Name) (written : writtens.Written) (named : IsTrue (
   abbrev pub with_it : List Entry
   with_it = put_entry (entries_in held) n (defined n (written_view written))
 
-  no_zonals_with : count_by is_zonal (layers with_it) ≡ 0
-  no_zonals_with = ap (λ es. count_by is_zonal (layers es)) (sym (entries_insert held.names.entries n (Statement written))) ∙ no_zonals held.extent (insert_entry bytes_eq held.names.entries n (Statement written)) (held_insert held.extent held.names.entries n kept.held (Statement written) named formed)
+  define_by : (flats zonal : ℕ) (many more looped : Bool) → flats ≡ count_by is_flat (layers with_it) → nat_lt 64 flats ≡ many → zonal ≡ count_by is_zonal (layers with_it) → nat_lt 24 zonal ≡ more → is_looped (nodes_of with_it) n ≡ looped
+      → entries_after (seen_in held) (define n (written_view written)) ≡ cond many (Err (beyond statements)) (cond more (Err (beyond zonals)) (cond looped (Err (cycle n)) (Ok with_it)))
+  define_by flats zonal many more looped is p zs q r =
+      define_puts (seen_in held) n (written_view written) (expansion_is n written formed) other
+      ∙ bounded_by n with_it many more looped (ap (nat_lt 64) (sym is) ∙ p) (ap (nat_lt 24) (sym zs) ∙ q) r
 
-  define_by : (count : ℕ) (many looped : Bool) → count ≡ count_by is_flat (layers with_it) → nat_lt 64 count ≡ many → is_looped (nodes_of with_it) n ≡ looped
-      → entries_after (seen_in held) (define n (written_view written)) ≡ cond many (Err (beyond statements)) (cond looped (Err (cycle n)) (Ok with_it))
-  define_by count many looped is p r = define_puts (seen_in held) n (written_view written) (expansion_is n written formed) other ∙ bounded_by n with_it many looped (ap (nat_lt 64) (sym is) ∙ p) no_zonals_with r
+  pub define_many : (flats : ℕ) → flats ≡ count_by is_flat (layers with_it) → 64 < flats → entries_after (seen_in held) (define n (written_view written)) ≡ Err (beyond statements)
+  define_many flats is many = define_by flats (count_by is_zonal (layers with_it)) true (nat_lt 24 (count_by is_zonal (layers with_it))) (is_looped (nodes_of with_it) n) is (lt-ltb 64 flats many) refl refl refl
 
-  pub define_many : (count : ℕ) → count ≡ count_by is_flat (layers with_it) → 64 < count → entries_after (seen_in held) (define n (written_view written)) ≡ Err (beyond statements)
-  define_many count is many = define_by count true (is_looped (nodes_of with_it) n) is (lt-ltb 64 count many) refl
+  module _ (flats : ℕ) (flats_is : flats ≡ count_by is_flat (layers with_it)) (few : flats ≤ 64) (zonal : ℕ) (zonal_is : zonal ≡ count_by is_zonal (layers with_it)) where
+    pub define_zonals : 24 < zonal → entries_after (seen_in held) (define n (written_view written)) ≡ Err (beyond zonals)
+    define_zonals many = define_by flats zonal false true (is_looped (nodes_of with_it) n) flats_is (le-ltb 64 flats few) zonal_is (lt-ltb 24 zonal many) refl
 
-  pub define_cycle : (count : ℕ) → count ≡ count_by is_flat (layers with_it) → count ≤ 64 → is_looped (nodes_of with_it) n ≡ true → entries_after (seen_in held) (define n (written_view written)) ≡ Err (cycle n)
-  define_cycle count is few looped = define_by count false true is (le-ltb 64 count few) looped
+    pub define_cycle : zonal ≤ 24 → is_looped (nodes_of with_it) n ≡ true → entries_after (seen_in held) (define n (written_view written)) ≡ Err (cycle n)
+    define_cycle less looped = define_by flats zonal false false true flats_is (le-ltb 64 flats few) zonal_is (le-ltb 24 zonal less) looped
 
-  pub define_puts_it : (count : ℕ) → count ≡ count_by is_flat (layers with_it) → count ≤ 64 → is_looped (nodes_of with_it) n ≡ false → entries_after (seen_in held) (define n (written_view written)) ≡ Ok with_it
-  define_puts_it count is few alone = define_by count false false is (le-ltb 64 count few) alone
+    pub define_puts_it : zonal ≤ 24 → is_looped (nodes_of with_it) n ≡ false → entries_after (seen_in held) (define n (written_view written)) ≡ Ok with_it
+    define_puts_it less alone = define_by flats zonal false false false flats_is (le-ltb 64 flats few) zonal_is (le-ltb 24 zonal less) alone
+
+  pub define_beyond : (w : Which) → IsBeyond with_it (Some w) → entries_after (seen_in held) (define n (written_view written)) ≡ Err (beyond (which_of w))
+  define_beyond which.Sources many = absurd many
+  define_beyond which.Statements many = define_many (count_by is_flat (layers with_it)) refl many
+  define_beyond which.Zonals many = define_zonals (count_by is_flat (layers with_it)) refl many.0 (count_by is_zonal (layers with_it)) refl many.1
 
   -- the graph's groups with the statement
   pub groups_with : put_group held.graph n (written_node n (written_view written) ∷ []) ≡ groups_of with_it
@@ -245,6 +255,10 @@ size_is a b e =
 -- ---- a drop that halts
 
 pub drop_halted : (s : EngineState) (n : Name) (halt : Halt) → is_some (find_def s.entries n) ≡ true → IsWellMade s.entries → fault_of s ≡ None → IsEvaluation (state_with s.size (drop_entry s.entries n)) (Err halt) → Refuses s s (drop_name n) (refusal_of halt)
+drop_halted s n (halts.Viewers m c) there well none some =
+    let no_fault : fault_of (state_with s.size (drop_entry s.entries n)) ≡ None = drop_has_no_fault s (state_with s.size (drop_entry s.entries n)) n refl refl well none in
+    let both : None ≡ Some (too_many_viewers m c) = sym no_fault ∙ some in
+    absurd cc
 drop_halted s n (halts.Overflow m r c) there well none some =
     let no_fault : fault_of (state_with s.size (drop_entry s.entries n)) ≡ None = drop_has_no_fault s (state_with s.size (drop_entry s.entries n)) n refl refl well none in
     let both : None ≡ Some (overflow m r c) = sym no_fault ∙ some in

@@ -1,10 +1,10 @@
 -- Operands, where the grids that they need are at hand.
-use Rattle.std.proofs.Common.{◌≡◌, ℕ, zero, suc, ◌+◌, ◌<◌, ◌≤◌, Bool, true, false, cond, List, [], ◌∷◌, ◌++◌, map, find, take, length, slice_get, Option, Some, None, option_map, is_some, bytes_eq, refl, sym, ap, subst, ◌∙◌, arith, ◌⊎◌, inl, inr, Bor, get_or, pos}
+use Rattle.std.proofs.Common.{◌≡◌, ℕ, zero, suc, ◌+◌, ◌≤◌, Bool, true, false, cond, List, [], ◌∷◌, ◌++◌, map, find, take, length, slice_get, Option, Some, None, option_map, is_some, bytes_eq, refl, sym, ap, subst, ◌∙◌, arith}
 use Rattle.std.specs.List.{All}
-use Rattle.std.proofs.lemmas.Bool.{false≢true, cases_lt}
+use Rattle.std.proofs.lemmas.Bool.{false≢true}
 use Rattle.std.proofs.lemmas.List.{take_all, take_more, map_push, length_push}
 use Rattle.std.proofs.lemmas.List.Elements.{All-head, All-tail, All-push}
-use Rattle.std.proofs.lemmas.Option.{none-some, same_Some, slice_get_within, get_or_from_slice_get, slice_get-get_or}
+use Rattle.std.proofs.lemmas.Option.{none-some, same_Some, slice_get_within, get_or_from_slice_get}
 use Rattle.map_nums.specs.Grids.{Size, Cells, Grid}
 use Rattle.map_defs.specs.Ops.{Name, Term, Op, terms_of}
 use Rattle.map_defs.specs.Operate.{operate}
@@ -14,6 +14,7 @@ use Rattle.statement_parser.specs.declared.op.Term.TheVariants as a_term
 use Rattle.layer_tiles.specs.Changes.{ChangeState}
 use Rattle.layer_tiles.specs.Layers.{LayerState}
 use Rattle.layer_tiles.specs.Operands.{cells_after}
+use Rattle.map_waves.specs.Operands.{IsOperand}
 use Rattle.map_edits.specs.Entries.{Entry}
 use Rattle.map_edits.specs.LayerDefs.{Making, given_grid, by_op, layers, find_making}
 use Rattle.map_edits.specs.EngineStates.{EngineState, all_some, made, term_cells}
@@ -73,7 +74,7 @@ operand_there size f o k t there e = some_at (term_cells size f) (terms_of o) k 
 pub record AreOperands (size : Size) (f : Name → Option Grid) (ts : List Term) (k : ℕ) (changes : List ChangeState) : Type 0 where
   pub within : k ≤ length ts
   pub count : length changes ≡ k
-  pub sizes : All (λ (c : ChangeState). c.size ≡ size) changes
+  pub operands : All (IsOperand size) changes
   pub cells : map (term_cells size f) (take k ts) ≡ map (λ c. Some c) (cells_after changes)
 
 all_some-map : (xs : List Cells) → all_some (map (λ c. Some c) xs) ≡ Some xs
@@ -85,14 +86,14 @@ some_push [] c = refl
 some_push (x ∷ xs) c = ap (λ os. Some x.cells ∷ os) (some_push xs c)
 
 pub operands_more : (size : Size) (f : Name → Option Grid) (ts : List Term) (k : ℕ) (changes after : List ChangeState) (t : Term) (c : ChangeState) → AreOperands size f ts k changes
-    → slice_get ts k ≡ Some t → term_cells size f t ≡ Some c.cells → c.size ≡ size → after ≡ changes ++ c ∷ [] → AreOperands size f ts (k + 1) after
-operands_more size f ts k changes after t c so_far e cells sized is =
+    → slice_get ts k ≡ Some t → term_cells size f t ≡ Some c.cells → IsOperand size c → after ≡ changes ++ c ∷ [] → AreOperands size f ts (k + 1) after
+operands_more size f ts k changes after t c so_far e cells one is =
     let within = slice_get_within ts k t e in
     let here = get_or_from_slice_get ts k t t e in
     record {
       within = omega arith;
       count = ap length is ∙ length_push changes c ∙ ap (λ n. n + 1) so_far.count;
-      sizes = subst (All (λ (x : ChangeState). x.size ≡ size)) (sym is) (All-push (λ (x : ChangeState). x.size ≡ size) changes c so_far.sizes sized);
+      operands = subst (All (IsOperand size)) (sym is) (All-push (IsOperand size) changes c so_far.operands one);
       cells =
           ap (map (term_cells size f)) (take_more ts k t within)
           ∙ map_push (term_cells size f) (take k ts) _

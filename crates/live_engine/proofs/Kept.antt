@@ -10,11 +10,7 @@ use Rattle.map_nums.specs.Grids.{Size, Grid}
 use Rattle.map_defs.specs.Ops.{Name}
 use Rattle.map_defs.specs.Nodes.{Node}
 use Rattle.map_defs.specs.Sight.{most_viewers}
-use Rattle.statement_parser.specs.Views.{op_view}
-use Rattle.statement_parser.specs.declared.op.Op.{Op}
-use Rattle.map_lines.specs.Formed.{IsOp}
-use Rattle.map_lines.proofs.Viewed.{by_view}
-use Rattle.map_edits.specs.LayerDefs.{by_op, layers, find_making}
+use Rattle.map_edits.specs.LayerDefs.{layers, find_making}
 use Rattle.map_edits.specs.EngineStates.{EngineState, value_of}
 use Rattle.map_edits.specs.Faults.{Fault, too_many_viewers, viewers_of, wide_place, overflow_at, fault_of_layer}
 use Rattle.map_nums.specs.Options.{first_some}
@@ -83,10 +79,6 @@ pub record IsUpTo (s : EngineState) (stamp : ℕ) (before : List Node) (values :
 
 -- ---- a statement's fault
 
--- the viewers of a line's operation are none
-no_viewers : (s : EngineState) (o : Op) → IsOp (op_view o) → viewers_of s (Some (by_op (op_view o))) ≡ 0
-no_viewers s o there = by_view (λ op. viewers_of s (Some (by_op op)) ≡ 0) (λ stat ts. refl) (λ l r. refl) (λ l r. refl) (λ t rs. refl) (op_view o) there
-
 abbrev faulty : ℕ → Size → Name → Option Grid → Option Fault
 faulty v size n o = if nat_lt most_viewers v && is_some o then Some (too_many_viewers n v) else overflow_at size n (wide_place o)
 
@@ -99,9 +91,6 @@ undefined_faultless s n e = ap (faulty v s.size n) e ∙ go (nat_lt most_viewers
     go : (b : Bool) → ◌≡◌ {A = Option Fault} (if b && false then Some (too_many_viewers n v) else None) None
     go true = refl
     go false = refl
-
-pub line_fault : (s : EngineState) (n : Name) (o : Op) → IsOp (op_view o) → find_making (layers s.entries) n ≡ Some (by_op (op_view o)) → fault_of_layer s n ≡ overflow_at s.size n (wide_place (value_of s n))
-line_fault s n o there e = ap (λ v. faulty v s.size n (value_of s n)) (ap (viewers_of s) e ∙ no_viewers s o there)
 
 -- ---- one statement more
 

@@ -17,3 +17,6 @@ mod Accepting
 mod Editing
 mod Reading
 pub mod Sounds
+pub mod Exact
+pub mod Faulty
+pub mod Zonal

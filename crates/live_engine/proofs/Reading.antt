@@ -5,7 +5,7 @@ use Rattle.map_nums.specs.Grids.{Size, Cells, Grid}
 use Rattle.map_defs.specs.Ops.{Name, Op, terms_of}
 use Rattle.map_defs.specs.Operate.{operate}
 use Rattle.map_defs.specs.Nodes.{Node, find_node, lacks, missing}
-use Rattle.map_defs.specs.Statements.{Written, plain}
+use Rattle.map_defs.specs.Statements.{plain}
 use Rattle.statement_parser.specs.Views.{op_view, written_view}
 use Rattle.map_lines.specs.Formed.{IsOp, IsWritten}
 use Rattle.statement_parser.specs.declared.op.Op as seen
@@ -38,7 +38,7 @@ grid_size : (size : Size) (op : seen.Op) (o : Option (List Cells)) (grid : Grid)
 grid_size size op None grid formed e = absurd cc
 grid_size size op (Some cells) grid formed e =
     let same : operate size (op_view op) cells ≡ grid = cc in
-    ap (λ (g : Grid). g.size) (sym same) ∙ operate_size size op cells formed
+    ap (λ (g : Grid). g.size) (sym same) ∙ operate_size size (op_view op) cells
 
 module _ (held : Held) (n : Name) (keeps : IsKeptIn held) where
   nothing_found : lookup (bytes_eq n) held.names.entries ≡ None → find_def (entries_in held) n ≡ None

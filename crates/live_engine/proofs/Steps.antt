@@ -13,7 +13,7 @@ use Rattle.map_defs.specs.Depths.{by_depth}
 use Rattle.map_edits.specs.Entries.{Entry}
 use Rattle.map_edits.specs.LayerDefs.{Making, given_grid, by_op, layers, find_making, nodes_of}
 use Rattle.map_edits.specs.EngineStates.{EngineState, made, value_of}
-use Rattle.map_edits.specs.Faults.{overflow, wide_place, overflow_at, fault_of_layer, fault_of}
+use Rattle.map_edits.specs.Faults.{too_many_viewers, overflow, fault_of_layer, fault_of}
 use Rattle.map_nums.specs.Options.{first_some}
 use Rattle.map_edits.specs.Laws.{is_among, is_named_in, HasNoCycle, IsApart}
 use Rattle.map_edits.proofs.Looks.{making_needs, needs_in-layers, made_node, find_node-making}
@@ -23,16 +23,17 @@ use Rattle.map_edits.proofs.Order.{all_flats_listed, needs_come_before}
 use Rattle.map_edits.proofs.Listed.{IsListed, listed_at}
 use Rattle.statement_graph.specs.declared.node.Node.{Node as Given}
 use Rattle.statement_graph.specs.Puts.{flat_node}
-use Rattle.live_engine.specs.Values.{IsOfStamp, kept, at_hand, AreValues, IsValued, IsEvaluation, defined_names}
+use Rattle.live_engine.specs.Values.{IsOfStamp, kept, at_hand, AreValues, IsValued, IsEvaluation, defined_names, viewers_by, fault_by}
 use Rattle.live_engine.specs.Scenes.{after_scene, IsScene}
 use Rattle.live_engine.specs.declared.scene.Scene.{Scene}
 use Rattle.live_engine.specs.declared.values.Halt.{Halt}
-use Rattle.live_engine.specs.declared.values.Halt.TheVariants.{Overflow, NoMemory}
+use Rattle.live_engine.specs.declared.values.Halt.TheVariants.{Viewers, Overflow, NoMemory}
 use Rattle.live_engine.specs.declared.values.Valued.{Valued}
 use Rattle.live_engine.proofs.Hand.{hand_none, hand_source, hand_kept}
 use Rattle.live_engine.proofs.Depths.{cut_at, taken_to, few_by_depth}
-use Rattle.live_engine.proofs.Making.{AreLined, lined_scene, own_lined, apart_scene, line_op}
-use Rattle.live_engine.proofs.Kept.{IsUpTo, faults_in, defined_in, names_of, names_kept, first_then, line_fault, skipped, pushed}
+use Rattle.live_engine.proofs.Making.{AreLined, lined_scene, own_lined, apart_scene}
+use Rattle.live_engine.proofs.Kept.{IsUpTo, faults_in, defined_in, names_of, names_kept, first_then, skipped, pushed}
+use Rattle.live_engine.proofs.Faulty.{fault_is, fault_agrees, viewers_agree}
 
 -- ---- the scene's statements
 
@@ -138,21 +139,30 @@ module _ (s : EngineState) (stamp : ℕ) (settled : IsSettled s.entries) (k : �
         subst (λ ns. IsUpTo s stamp ns values) (sym (taken_to (by_depth nodes) k node here))
         (skipped s stamp so_far values up node (none_at (value_of s node.name) (value_by_missing ∙ ap not lacking)))
 
-    fault_here : fault_of_layer s node.name ≡ overflow_at s.size node.name (wide_place (made s.size (at_hand s values) (find_making (layers s.entries) node.name)))
-    fault_here =
-        let op = line_op s.entries node.name statement_at.0 settled.lined statement_at.1 in
-        line_fault s node.name op.0 op.2 (statement_at.1 ∙ ap (λ q. Some (by_op q)) op.1)
-        ∙ ap (λ o. overflow_at s.size node.name (wide_place o)) (sym made_is_value)
+    viewers_at_hand : viewers_by s.size (at_hand s values) (find_making (layers s.entries) node.name) ≡ viewers_by s.size (value_of s) (find_making (layers s.entries) node.name)
+    viewers_at_hand = viewers_agree s.size (at_hand s values) (value_of s) (find_making (layers s.entries) node.name) (λ m among. hand_is_value m (needs_so_far m among))
 
-    pub step_pushed : (v : Valued) (after : List Valued) → IsValued s.size node.name (made s.size (at_hand s values) (find_making (layers s.entries) node.name)) (Ok v) → IsOfStamp s.size stamp v → after ≡ values ++ v ∷ []
+    fault_here : fault_of_layer s node.name ≡ fault_by s.size (at_hand s values) (find_making (layers s.entries) node.name) node.name
+    fault_here =
+        let m = find_making (layers s.entries) node.name in
+        let unfolds = value_unfolds s settled.none_looped node.name in
+        fault_is s node.name unfolds
+        ∙ sym (fault_agrees s.size (at_hand s values) (value_of s) m node.name (made_is_value ∙ unfolds) viewers_at_hand)
+
+    pub step_pushed : (v : Valued) (after : List Valued) → IsValued s.size (at_hand s values) (find_making (layers s.entries) node.name) node.name (Ok v) → IsOfStamp s.size stamp v → after ≡ values ++ v ∷ []
         → IsUpTo s stamp (take (k + 1) (by_depth nodes)) after
     step_pushed v after valued fresh is =
         rw is (subst (λ ns. IsUpTo s stamp ns (values ++ v ∷ [])) (sym (taken_to (by_depth nodes) k node here))
         (pushed s stamp so_far values up node v valued.0 (sym made_is_value ∙ valued.1) (fault_here ∙ valued.2) fresh))
 
-    pub step_halted : (halt : Halt) → IsValued s.size node.name (made s.size (at_hand s values) (find_making (layers s.entries) node.name)) (Err halt) → IsEvaluation s (Err halt)
+    pub step_halted : (halt : Halt) → IsValued s.size (at_hand s values) (find_making (layers s.entries) node.name) node.name (Err halt) → IsEvaluation s (Err halt)
     unfolding fault_of
     step_halted NoMemory valued = tt
+    step_halted (Viewers m c) valued =
+        ap (λ ns. first_some (faults_in s ns)) (cut_at (by_depth nodes) k node here)
+        ∙ ap first_some (map-append (λ (x : Node). fault_of_layer s x.name) so_far (node ∷ drop (suc k) (by_depth nodes)))
+        ∙ ap (λ o. first_some (faults_in s so_far ++ o ∷ faults_in s (drop (suc k) (by_depth nodes)))) (fault_here ∙ valued)
+        ∙ first_then (faults_in s so_far) (faults_in s (drop (suc k) (by_depth nodes))) (too_many_viewers m c) up.faultless
     step_halted (Overflow m r c) valued =
         ap (λ ns. first_some (faults_in s ns)) (cut_at (by_depth nodes) k node here)
         ∙ ap first_some (map-append (λ (x : Node). fault_of_layer s x.name) so_far (node ∷ drop (suc k) (by_depth nodes)))

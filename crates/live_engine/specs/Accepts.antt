@@ -14,7 +14,7 @@ use Rattle.live_engine.specs.declared.edits.Accepted.{Accepted}
 use Rattle.live_engine.specs.declared.edits.Which.{Which}
 use Rattle.live_engine.specs.declared.edits.Which.TheVariants as which
 use Rattle.live_engine.specs.declared.edits.Refusal.{Refusal}
-use Rattle.live_engine.specs.declared.edits.Refusal.TheVariants.{Unknown, Derived, Exists, Size, Limit, Cycle, Overflow, NoMemory}
+use Rattle.live_engine.specs.declared.edits.Refusal.TheVariants.{Unknown, Derived, Exists, Size, Limit, Cycle, Viewers, Overflow, NoMemory}
 
 abbrev pub edit_of : Edit → edits.Edit
 edit_of (Load n layer) = edits.load n (grid_of layer)
@@ -28,6 +28,7 @@ IsFormedEdit (Line e) = IsEdit (edit_view e)
 abbrev pub which_of : Which → edits.Which
 which_of which.Sources = edits.sources
 which_of which.Statements = edits.statements
+which_of which.Zonals = edits.zonals
 
 -- refused so, and the state is as before; want of memory is free
 abbrev pub Refuses : EngineState → EngineState → edits.Edit → Refusal → Type 0
@@ -37,6 +38,7 @@ Refuses old new edit (Exists n) = (edits.accept old edit ≡ Err (edits.exists_a
 Refuses old new edit (Size rows columns) = (edits.accept old edit ≡ Err (edits.wrong_size (record { rows = rows; columns = columns }))) × (new ≡ old)
 Refuses old new edit (Limit w) = (edits.accept old edit ≡ Err (edits.beyond (which_of w))) × (new ≡ old)
 Refuses old new edit (Cycle n) = (edits.accept old edit ≡ Err (edits.cycle n)) × (new ≡ old)
+Refuses old new edit (Viewers n c) = (edits.accept old edit ≡ Err (edits.fault (faults.too_many_viewers n c))) × (new ≡ old)
 Refuses old new edit (Overflow n r c) = (edits.accept old edit ≡ Err (edits.fault (faults.overflow n r c))) × (new ≡ old)
 Refuses old new edit NoMemory = new ≡ old
 

@@ -11,3 +11,4 @@ pub mod Refusals
 pub mod Accepts
 pub mod Asked
 pub mod Stamps
+pub mod Zonals

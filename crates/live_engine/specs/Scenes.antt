@@ -7,6 +7,8 @@ use Rattle.map_defs.specs.Ops.{Name}
 use Rattle.map_lines.specs.Formed.{IsWritten}
 use Rattle.statement_parser.specs.Views.{written_view}
 use Rattle.layer_tiles.specs.Patches.{patched}
+use Rattle.layer_tiles.specs.Changes.{patched_change}
+use Rattle.map_waves.specs.Operands.{IsOperand}
 use Rattle.map_edits.specs.Entries.{Def, source, statement, Entry, put_entry, drop_entry}
 use Rattle.map_edits.specs.EngineStates.{EngineState}
 use Rattle.live_engine.specs.Held.{grid_of, flats_of, entries_of}
@@ -34,10 +36,10 @@ after_scene scene = shifted (entries_of scene.names.now.entries) scene.shift
 abbrev pub state_of : Scene → EngineState
 state_of scene = state_with scene.extent (after_scene scene)
 
--- a layer or a patch of this size, or a statement with a plain name that is formed
+-- a layer of this size, or one with exactly its changed tiles, or a statement with a plain name that is formed
 abbrev pub IsShift : Size → Shift → Type 0
 IsShift size (Loaded n layer) = layer.now.size ≡ size
-IsShift size (Painted n layer patch) = (layer.now.size ≡ size) × (patch.now.size ≡ size)
+IsShift size (Painted n layer patch) = (layer.now.size ≡ size) × (patch.now.size ≡ size) × IsOperand size (patched_change layer.now patch.now)
 IsShift size (Defined n written) = IsTrue (is_plain n.now) × IsWritten (written_view written.now)
 IsShift size (Dropped n) = ⊤
 
@@ -50,7 +52,7 @@ abbrev pub found_def : Name → Found → Def
 found_def n (Source change) = source (record { size = change.size; cells = change.cells })
 found_def n (Statement written) = statement (written_view written.now) (flats_of n (written_view written.now))
 
--- a source of this size, or a statement that is formed
+-- a source with exactly its changed tiles, or a statement that is formed
 abbrev pub IsFound : Size → Found → Type 0
-IsFound size (Source change) = change.size ≡ size
+IsFound size (Source change) = IsOperand size change
 IsFound size (Statement written) = IsWritten (written_view written.now)

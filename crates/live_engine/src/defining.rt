@@ -10,13 +10,14 @@ ghost use Rattle.live_engine.specs.Accepts.{Accepts};
 ghost use Rattle.live_engine.specs.Holdings.{seen_in, IsKeptIn};
 ghost use Rattle.layer_tiles.specs.Tallies.{KeepsParts};
 
-use crate::edits::{Accepted, Refusal, Which};
+use crate::edits::{Accepted, Refusal};
 use crate::evaluating::{evaluated, refused};
 use crate::graphs::with_statement;
 use crate::held::{Held, Item};
-use crate::limits::{Kind, MOST_STATEMENTS, kind_of, statements_with};
+use crate::limits::{Kind, kind_of};
 use crate::placing::place;
 use crate::scene::Shift;
+use crate::zonals::beyond;
 use layer_tiles::Tally;
 use map_words::Name;
 use statement_graph::GraphRefusal;
@@ -42,8 +43,8 @@ pub(crate) fn define<M: Tally>(
     if let Kind::Source = kind_of(&held.names, &name) {
         return Err(Refusal::Exists(name));
     }
-    if statements_with(&held.names, &name) > MOST_STATEMENTS {
-        return Err(Refusal::Limit(Which::Statements));
+    if let Some(which) = beyond(&held.names, &name, &written) {
+        return Err(Refusal::Limit(which));
     }
     let graph = match with_statement(&held.graph, alloc, &name, &written) {
         Ok(graph) => graph,

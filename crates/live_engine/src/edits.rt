@@ -30,6 +30,8 @@ pub enum Which {
     Sources,
     /// 64 flat statements.
     Statements,
+    /// 24 of them Zonal.
+    Zonals,
 }
 
 /// Why an edit is refused. Rows and columns count from 1.
@@ -46,7 +48,9 @@ pub enum Refusal {
     Limit(Which),
     /// The name would be reached from its own operands.
     Cycle(Name),
-    /// The first statement with a value that no cell may hold, and the row and column of its first such cell.
+    /// The first statement with a fault, where that is how many viewers it has, more than 64.
+    Viewers(Name, u64),
+    /// The first statement with a fault, where that is a value that no cell may hold, and the row and column of its first such cell.
     Overflow(Name, u64, u64),
     NoMemory,
 }

@@ -79,6 +79,8 @@ fn apply_line<M: Tally>(
         }
         LineEdit::New { name, cell } => new_layer(held, alloc, name, cell, tally),
         LineEdit::Drop { name } => drop_name(held, alloc, name, tally),
+        // No line makes a procedure, a label or a symbol yet.
+        LineEdit::Procedure(_) | LineEdit::Label { .. } | LineEdit::Symbol { .. } => unreachable!(),
     }
 }
 

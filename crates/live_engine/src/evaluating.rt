@@ -48,6 +48,7 @@ pub(crate) fn refused(halt: Halt) -> Refusal
     ensures { result ≡ refusal_of halt }
 {
     match halt {
+        Halt::Viewers(name, count) => Refusal::Viewers(name, count),
         Halt::Overflow(name, row, column) => Refusal::Overflow(name, row, column),
         Halt::NoMemory => Refusal::NoMemory,
     }

@@ -19,6 +19,7 @@ mod reads;
 mod repainting;
 mod scene;
 mod values;
+mod zonals;
 
 pub use edits::{Accepted, Edit, Refusal, Which};
 pub use engine::Engine;

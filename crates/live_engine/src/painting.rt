@@ -3,7 +3,9 @@ ghost use Rattle.std.specs.Prelude.{◌≡◌, ◌↔◌, ◌^◌, ◌+◌, ◌*
 ghost use Rattle.map_edits.specs.Edits.{is_within, painted};
 ghost use Rattle.layer_tiles.specs.Tiles.{tile_height, tile_width, tiles_in, IsBlockOf};
 ghost use Rattle.layer_tiles.specs.Patches.{patch_get, patched};
-ghost use Rattle.layer_tiles.specs.Tallies.{RisesBy};
+ghost use Rattle.layer_tiles.specs.Tallies.{RisesBy, KeepsParts};
+ghost use Rattle.layer_tiles.specs.Changes.{patched_change};
+ghost use Rattle.map_waves.specs.Operands.{IsOperand};
 ghost use Rattle.live_engine.specs.Held.{grid_of};
 ghost use Rattle.live_engine.specs.Painting.{rectangle_of, MeetsRectangle, IsPainted, MeetsPlace};
 
@@ -43,6 +45,27 @@ pub(crate) fn painted_tiles<M: Tally>(
         let made = painted_tile(alloc, extent, tile, &old, rectangle, cell)?;
         patch.push(tile, made)?;
     }
+    Ok(patch)
+}
+
+/// The tiles of a layer that a paint changes. At most three looks for each that the rectangle meets.
+pub(crate) fn changed_by_paint<M: Tally>(
+    alloc: Global,
+    layer: &Layer,
+    rectangle: Rectangle,
+    cell: Cell,
+    tally: &mut M,
+) -> Result<Patch, NoMemory>
+    requires { IsTrue (is_within layer.now.size (rectangle_of rectangle)) }
+    ensures size { IfOk result (λ p. p.size ≡ layer.now.size) }
+    ensures cells { IfOk result (λ p. patched layer.now.size layer.now.cells p.tiles ≡ (painted layer.now.size (rectangle_of rectangle) cell (grid_of layer.now)).cells) }
+    ensures operand { IfOk result (λ p. IsOperand layer.now.size (patched_change layer.now p)) }
+    ensures parts { KeepsParts (M.counts tally.old) (M.counts tally.new) }
+{
+    let _extent = layer.extent();
+    let mut patch = painted_tiles(alloc, layer, rectangle, cell, tally)?;
+    let _patch = patch.extent();
+    patch.narrow(layer, tally);
     Ok(patch)
 }
 

@@ -10,7 +10,7 @@ ghost use Rattle.layer_tiles.specs.Tallies.{KeepsParts};
 use crate::edits::{Accepted, Refusal};
 use crate::evaluating::{evaluated, refused};
 use crate::held::{Held, Item};
-use crate::painting::{Rectangle, painted_tiles};
+use crate::painting::{Rectangle, changed_by_paint};
 use crate::placing::put_painted;
 use crate::scene::Shift;
 use layer_tiles::{Cell, Extent, Tally};
@@ -49,7 +49,7 @@ pub(crate) fn paint<M: Tally>(
             if !is_within(extent, rectangle) {
                 return Err(Refusal::Size(extent.rows() as u64, extent.columns() as u64));
             }
-            let patch = painted_tiles(alloc, layer, rectangle, cell, tally)?;
+            let patch = changed_by_paint(alloc, layer, rectangle, cell, tally)?;
             let shift = Shift::Painted(&name, layer, &patch);
             match evaluated(alloc, held, shift, &held.graph, tally) {
                 Ok(values) => Ok(put_painted(held, &name, patch, values)),

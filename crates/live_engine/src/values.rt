@@ -9,6 +9,7 @@ ghost use Rattle.map_lines.specs.Formed.{IsOp, IsTerm, IsWritten};
 ghost use Rattle.map_defs.specs.Statements.{plain};
 ghost use Rattle.statement_parser.specs.Views.{op_view, term_view, written_view};
 ghost use Rattle.layer_tiles.specs.Operands.{cells_after};
+ghost use Rattle.map_waves.specs.Operands.{IsOperand};
 ghost use Rattle.map_edits.specs.LayerDefs.{by_op, find_making, layers, nodes_of};
 ghost use Rattle.map_edits.specs.EngineStates.{all_some, made, term_cells};
 ghost use Rattle.map_edits.specs.Laws.{HasNoCycle};
@@ -18,7 +19,8 @@ ghost use Rattle.live_engine.specs.Scenes.{IsScene, after_scene, state_of};
 ghost use Rattle.live_engine.specs.Values.{IsEvaluation, IsOfStamp, IsValued, IsHalt, at_hand, defined_names, kept};
 
 use crate::scene::{Found, Scene};
-use layer_tiles::{Cell, Change, Extent, KernelRefusal, Layer, Operands, Tally};
+use layer_tiles::{Cell, Change, Extent, Layer, Operands, Tally};
+use map_waves::Unmade;
 use map_words::Name;
 use op_jobs::evaluate;
 use statement_graph::Graph;
@@ -35,7 +37,9 @@ pub(crate) struct Valued {
 /// Why not all statements are evaluated.
 #[derive(Debug, Drop)]
 pub(crate) enum Halt {
-    /// The first statement with a value that no cell may hold, and the row and column of its first such cell, from 1.
+    /// The first statement with a fault, where that is how many viewers it has.
+    Viewers(Name, u64),
+    /// The first statement with a fault, where that is a value that no cell may hold, and the row and column of its first such cell, from 1.
     Overflow(Name, u64, u64),
     NoMemory,
 }
@@ -94,7 +98,7 @@ fn evaluate_one<M: Tally>(
     requires stamped { All (IsOfStamp scene.now.extent stamp) values.now }
     requires statement { (op : ops.Op) × (find_making (layers (after_scene scene.now)) name.now ≡ Some (by_op op)) }
     requires there { IsSome (made scene.now.extent (at_hand (state_of scene.now) values.now) (find_making (layers (after_scene scene.now)) name.now)) }
-    ensures value { IsValued scene.now.extent name.now (made scene.now.extent (at_hand (state_of scene.now) values.now) (find_making (layers (after_scene scene.now)) name.now)) result }
+    ensures value { IsValued scene.now.extent (at_hand (state_of scene.now) values.now) (find_making (layers (after_scene scene.now)) name.now) name.now result }
     ensures stamped { IfOk result (IsOfStamp scene.now.extent stamp) }
     ensures parts { KeepsParts (M.counts tally.old) (M.counts tally.new) }
 {
@@ -134,7 +138,7 @@ fn evaluate_op<M: Tally>(
     requires statement { find_making (layers (after_scene scene.now)) name.now ≡ Some (by_op (op_view op.now)) }
     requires formed { IsOp (op_view op.now) }
     requires there { IsSome (all_some (map (term_cells scene.now.extent (at_hand (state_of scene.now) values.now)) (ops.terms_of (op_view op.now)))) }
-    ensures value { IsValued scene.now.extent name.now (made scene.now.extent (at_hand (state_of scene.now) values.now) (find_making (layers (after_scene scene.now)) name.now)) result }
+    ensures value { IsValued scene.now.extent (at_hand (state_of scene.now) values.now) (find_making (layers (after_scene scene.now)) name.now) name.now result }
     ensures stamped { IfOk result (IsOfStamp scene.now.extent stamp) }
     ensures parts { KeepsParts (M.counts tally.old) (M.counts tally.new) }
 {
@@ -144,22 +148,25 @@ fn evaluate_op<M: Tally>(
             Ok(name) => Ok(Valued { name, layer }),
             Err(_) => Err(Halt::NoMemory),
         },
-        Err(KernelRefusal::Overflow(at)) => Err(overflow(alloc, scene.extent, name, at)),
-        Err(KernelRefusal::NoMemory) => Err(Halt::NoMemory),
+        Err(refusal) => Err(halted(alloc, scene.extent, name, refusal)),
     }
 }
 
-/// A statement overflows at a place.
-fn overflow(alloc: Global, extent: Extent, name: &Name, at: u32) -> Halt
-    ensures { IsHalt extent name.now at result }
+/// Why a statement has no layer, with its name.
+fn halted(alloc: Global, extent: Extent, name: &Name, refusal: Unmade) -> Halt
+    ensures { IsHalt extent name.now refusal result }
 {
-    match name.copy(alloc) {
-        Ok(name) => {
+    let Ok(name) = name.copy(alloc) else {
+        return Halt::NoMemory;
+    };
+    match refusal {
+        Unmade::Viewers(count) => Halt::Viewers(name, count),
+        Unmade::Overflow(at) => {
             let row = u64::from(at / extent.columns()) + 1;
             let column = u64::from(at % extent.columns()) + 1;
             Halt::Overflow(name, row, column)
         }
-        Err(_) => Halt::NoMemory,
+        Unmade::NoMemory => Halt::NoMemory,
     }
 }
 
@@ -170,7 +177,7 @@ fn operands_of<'a>(scene: &Scene<'a>, values: &'a [Valued], stamp: u64, op: &Op)
     requires formed { IsOp (op_view op.now) }
     requires there { IsSome (all_some (map (term_cells scene.now.extent (at_hand (state_of scene.now) values.now)) (ops.terms_of (op_view op.now)))) }
     ensures count { length result ≡ length (ops.terms_of (op_view op.now)) }
-    ensures size { All (λ c. c.size ≡ scene.now.extent) result }
+    ensures operands { All (IsOperand scene.now.extent) result }
     ensures cells { all_some (map (term_cells scene.now.extent (at_hand (state_of scene.now) values.now)) (ops.terms_of (op_view op.now))) ≡ Some (cells_after result) }
 {
     let mut operands = Operands::new();
@@ -188,7 +195,7 @@ fn operand_of<'a>(scene: &Scene<'a>, values: &'a [Valued], stamp: u64, term: &Te
     requires stamped { All (IsOfStamp scene.now.extent stamp) values.now }
     requires formed { IsTerm (term_view term.now) }
     requires there { IsSome (term_cells scene.now.extent (at_hand (state_of scene.now) values.now) (term_view term.now)) }
-    ensures size { result.size ≡ scene.now.extent }
+    ensures operand { IsOperand scene.now.extent result }
     ensures cells { term_cells scene.now.extent (at_hand (state_of scene.now) values.now) (term_view term.now) ≡ Some result.cells }
 {
     match term {

@@ -102,7 +102,7 @@ depth_in_le_nodes nodes none n = depth_le_nodes nodes none (suc (length nodes)) 
 
 -- ---- value
 
-cells_agree : (size : Size) (f g : Name → Option Grid) (ts : List Term) → ((m : Name) → is_among m (flat_map term_names ts) ≡ true → f m ≡ g m) → map (term_cells size f) ts ≡ map (term_cells size g) ts
+pub cells_agree : (size : Size) (f g : Name → Option Grid) (ts : List Term) → ((m : Name) → is_among m (flat_map term_names ts) ≡ true → f m ≡ g m) → map (term_cells size f) ts ≡ map (term_cells size g) ts
 cells_agree size f g [] same = refl
 cells_agree size f g (layer_term n ∷ ts) same =
     let first : f n ≡ g n = same n (or_left (bytes_eq n n) (is_among n (flat_map term_names ts)) (bytes_eq-self n)) in

@@ -12,11 +12,11 @@ ghost use Rattle.map_lines.specs.Present.{present};
 ghost use Rattle.map_lines.specs.Formed.{IsFormed};
 
 use map_nums::Stat;
-use statement_parser::{Command, Line, LineRefusal, Operation, Rows};
+use statement_parser::{Command, Form, Line, LineRefusal, Operation, Rows};
 use std::alloc::Global;
 
 /// The operations that are there beside `LocalSum`.
-const OPERATIONS: [Operation; 11] = [
+const OPERATIONS: [Operation; 36] = [
     Operation::Local(Stat::Product),
     Operation::Local(Stat::Maximum),
     Operation::Local(Stat::Minimum),
@@ -28,6 +28,31 @@ const OPERATIONS: [Operation; 11] = [
     Operation::Difference,
     Operation::Ratio,
     Operation::Rating,
+    Operation::Focal(Stat::Sum),
+    Operation::Focal(Stat::Maximum),
+    Operation::Focal(Stat::Minimum),
+    Operation::Focal(Stat::Mean),
+    Operation::Focal(Stat::Median),
+    Operation::Focal(Stat::Majority),
+    Operation::Focal(Stat::Minority),
+    Operation::Focal(Stat::Variety),
+    Operation::Proximity,
+    Operation::Insularity,
+    Operation::Zonal(Stat::Sum),
+    Operation::Zonal(Stat::Maximum),
+    Operation::Zonal(Stat::Minimum),
+    Operation::Zonal(Stat::Mean),
+    Operation::Zonal(Stat::Median),
+    Operation::Zonal(Stat::Majority),
+    Operation::Zonal(Stat::Minority),
+    Operation::Zonal(Stat::Variety),
+    Operation::Incremental(Form::Linkage),
+    Operation::Incremental(Form::Length),
+    Operation::Incremental(Form::Partition),
+    Operation::Incremental(Form::Frontage),
+    Operation::Incremental(Form::Gradient),
+    Operation::Incremental(Form::Aspect),
+    Operation::Drainage,
 ];
 
 /// The commands that are there.
@@ -51,7 +76,7 @@ pub fn parse_line(alloc: Global, line: &[u8]) -> Result<Line, LineRefusal>
     let rows = Rows {
         operations: &OPERATIONS,
         commands: &COMMANDS,
-        sight: false,
+        sight: true,
         calls: false,
     };
     statement_parser::parse_line(alloc, &rows, line)

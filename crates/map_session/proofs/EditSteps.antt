@@ -69,6 +69,7 @@ turned old new e (an_edit.Exists n) text a t = record { cause = edits.exists_alr
 turned old new e (an_edit.Size rows columns) text a t = record { cause = edits.wrong_size (record { rows = rows; columns = columns }); is = a.0; told = some_same _ _ t; kept = a.1 }
 turned old new e (an_edit.Limit which) text a t = record { cause = edits.beyond (which_of which); is = a.0; told = some_same _ _ t; kept = a.1 }
 turned old new e (an_edit.Cycle n) text a t = record { cause = edits.cycle n; is = a.0; told = some_same _ _ t; kept = a.1 }
+turned old new e (an_edit.Viewers n c) text a t = record { cause = edits.fault (faults.too_many_viewers n c); is = a.0; told = some_same _ _ t; kept = a.1 }
 turned old new e (an_edit.Overflow n r c) text a t = record { cause = edits.fault (faults.overflow n r c); is = a.0; told = some_same _ _ t; kept = a.1 }
 turned old new e an_edit.NoMemory text a t = absurd (cc)
 

@@ -28,6 +28,7 @@ edit_told (an_edit.Exists n) = Some (edit_cause (edits.exists_already n))
 edit_told (an_edit.Size rows columns) = Some (edit_cause (edits.wrong_size (record { rows = rows; columns = columns })))
 edit_told (an_edit.Limit which) = Some (edit_cause (edits.beyond (which_of which)))
 edit_told (an_edit.Cycle n) = Some (edit_cause (edits.cycle n))
+edit_told (an_edit.Viewers n c) = Some (edit_cause (edits.fault (faults.too_many_viewers n c)))
 edit_told (an_edit.Overflow n r c) = Some (edit_cause (edits.fault (faults.overflow n r c)))
 edit_told an_edit.NoMemory = None
 

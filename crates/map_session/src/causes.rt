@@ -54,6 +54,7 @@ fn which_text(which: Which) -> &'static [u8]
     match which {
         Which::Sources => b"sources",
         Which::Statements => b"statements",
+        Which::Zonals => b"zonals",
     }
 }
 
@@ -63,6 +64,13 @@ fn limit_cause(alloc: Global, which: Which) -> Result<Vec<u8>, NoMemory>
     let mut text = Vec::from_slice(alloc, b"limit ")?;
     text.extend_from_slice(which_text(which))?;
     Ok(text)
+}
+
+fn viewers_cause(alloc: Global, name: &Name, count: u64) -> Result<Vec<u8>, NoMemory>
+    ensures { IfOk result (λ text. edit_told (Refusal.Viewers name.now count) ≡ Some text.items) }
+{
+    let who = named(alloc, b"viewers ", name)?;
+    counted(alloc, &who, count)
 }
 
 fn overflow_cause(alloc: Global, name: &Name, r: u64, c: u64) -> Result<Vec<u8>, NoMemory>
@@ -83,6 +91,7 @@ pub(crate) fn edit_cause(alloc: Global, refusal: &Refusal) -> Result<Vec<u8>, No
         Refusal::Size(rows, columns) => counted_twice(alloc, b"size", *rows, *columns),
         Refusal::Limit(which) => limit_cause(alloc, *which),
         Refusal::Cycle(name) => named(alloc, b"cycle ", name),
+        Refusal::Viewers(name, count) => viewers_cause(alloc, name, *count),
         Refusal::Overflow(name, r, c) => overflow_cause(alloc, name, *r, *c),
         Refusal::NoMemory => Err(NoMemory),
     }

@@ -14,7 +14,7 @@ use Rattle.layer_tiles.proofs.Strides.{length-strided, get_or-strided}
 use Rattle.op_jobs.specs.Tiling.{AreNarrow, IsLeastUpTo}
 
 -- a cell of a tile that is in range
-narrow_in : (s : Size) (cells : Cells) (t i : ℕ) → IsSize s → i < cells_in s → tile_of s i ≡ t → All (λ c. IsFalse (is_wide c)) (tile_cells s cells t) → IsFalse (is_wide (get_or cells i None))
+pub narrow_in : (s : Size) (cells : Cells) (t i : ℕ) → IsSize s → i < cells_in s → tile_of s i ≡ t → All (λ c. IsFalse (is_wide c)) (tile_cells s cells t) → IsFalse (is_wide (get_or cells i None))
 narrow_in s cells t i h l e all =
     let b = back s i h l in
     let r = i / s.columns % 32 in

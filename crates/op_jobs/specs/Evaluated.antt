@@ -1,15 +1,13 @@
--- What becomes of an operation's grid.
-use Rattle.std.specs.Prelude.{◌≡◌, ℕ, Some, None, Result, Ok, Err, ⊤}
-use Rattle.std.specs.List.{position}
-use Rattle.map_nums.specs.Answers.{is_wide}
-use Rattle.map_nums.specs.Grids.{Size, Grid}
+-- What becomes of a statement's layer.
+use Rattle.std.specs.Prelude.{◌≡◌, ℕ, List, None, Result, Ok, Err}
+use Rattle.map_nums.specs.Grids.{Size, Cells}
+use Rattle.map_defs.specs.Ops.{Op}
 use Rattle.layer_tiles.specs.Layers.{LayerState, layer_of}
-use Rattle.layer_tiles.specs.declared.kernels.KernelRefusal.{KernelRefusal}
-use Rattle.layer_tiles.specs.declared.kernels.KernelRefusal.TheVariants.{Overflow, NoMemory}
+use Rattle.map_waves.specs.Statements.{made, fault_in}
+use Rattle.map_waves.specs.Unmade.{IsUnmade}
+use Rattle.map_waves.specs.declared.alone.Unmade.{Unmade}
 
--- the grid with the stamp where all of it is in range, and exactly there; else its first cell that is out of range.
--- Want of memory is free
-abbrev pub IsEvaluated : Size → Grid → ℕ → Result LayerState KernelRefusal → Type 0
-IsEvaluated size grid stamp (Ok layer) = (layer ≡ layer_of size grid.cells stamp) × (position is_wide grid.cells ≡ None)
-IsEvaluated size grid stamp (Err (Overflow at)) = position is_wide grid.cells ≡ Some at
-IsEvaluated size grid stamp (Err NoMemory) = ⊤
+-- the operation's cells with the stamp where there is no fault, and exactly there; else the fault. Want of memory is free
+abbrev pub IsEvaluated : Size → Op → List Cells → ℕ → Result LayerState Unmade → Type 0
+IsEvaluated size op operands stamp (Ok layer) = (layer ≡ layer_of size (made size op operands) stamp) × (fault_in size op operands ≡ None)
+IsEvaluated size op operands stamp (Err unmade) = IsUnmade size op operands unmade

@@ -1,3 +1,14 @@
+pub mod Beside
+pub mod Changed
+pub mod Classes
 pub mod Evaluated
 pub mod Kernels
+pub mod Others
+pub mod Owning
+pub mod Pieces
+pub mod Sound
 pub mod Tiling
+pub mod Whole
+pub mod Zonal
+pub mod ZonalZones
+pub mod Sight

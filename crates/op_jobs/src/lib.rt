@@ -1,9 +1,31 @@
 //! Statements on whole layers.
 //!
-//! [`evaluate`] makes the layer of an operation tile by tile, over the operands after the edit.
+//! [`Statements`] cuts a written statement into jobs, over its operands after an edit and what is kept of it; [`evaluate`] makes its layer anew.
 #![tactic(auto)]
 
+mod beside;
+mod damage;
 mod evaluation;
-mod tiling;
+mod kernels;
+mod own;
+mod pieces;
+mod sight;
+mod sight_jobs;
+mod statements;
+mod tiles;
+mod whole;
+mod whole_damage;
+mod whole_flow;
+mod whole_jobs;
+mod whole_regions;
+mod whole_spread;
+mod zonal;
+mod zonal_jobs;
+mod zonal_kernel;
+mod zonal_zones;
 
+pub use beside::Beside;
 pub use evaluation::evaluate;
+pub use own::{Own, TileJobs};
+pub use pieces::Piece;
+pub use statements::Statements;

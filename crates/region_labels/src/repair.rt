@@ -4,7 +4,7 @@ ghost use Rattle.std.specs.List.{All};
 ghost use Rattle.std.specs.Option.{option_copied};
 ghost use Rattle.map_nums.specs.Grids.{IsSize, Cells, cells_in, cell_at, places};
 ghost use Rattle.map_defs.specs.Regions.{AreRegions};
-ghost use Rattle.layer_tiles.specs.Tallies.{RisesBy};
+ghost use Rattle.layer_tiles.specs.Tallies.{KeepsParts, RisesBy};
 ghost use Rattle.layer_tiles.specs.Changes.{cells_before};
 ghost use Rattle.layer_tiles.specs.Patches.{patched, HoldsAll};
 ghost use Rattle.tile_work.specs.Working.{IsSameWork, IsPatchTo, IsOld, before_of, base_of, copies};
@@ -144,6 +144,7 @@ fn first_labels<M: Tally>(alloc: Global, of: &Change<'_>, tally: &mut M) -> Resu
     ensures worked { IfOk result (λ r. r.worked ≡ first_work of.now.size (patched of.now.size [] r.patch.tiles)) }
     ensures picks { (labels : Cells) → AreRegions of.now.size of.now.cells labels → IsPickedBy (10 * first_work of.now.size labels) (M.counts tally.old) (M.counts tally.new) }
     ensures looks { IsLookedBy (2 * tiles_in of.now.size + 1) (M.counts tally.old) (M.counts tally.new) }
+    ensures parts { KeepsParts (M.counts tally.old) (M.counts tally.new) }
 {
     let extent = of.extent();
     let count = extent.cells();
@@ -173,6 +174,7 @@ fn repaired_labels<M: Tally>(
     ensures exact { IfOk result (λ r. HoldsExactly of.now.size base.now.cells r.patch.tiles) }
     ensures worked { IfOk result (λ r. r.worked ≡ length changed.now + length (filter (is_touched of.now.size (patched of.now.size base.now.cells r.patch.tiles) changed.now) (places of.now.size))) }
     ensures bounds { (labels : Cells) → AreRegions of.now.size of.now.cells labels → RisesBy (2 * length (filter (tile_has of.now.size (differs base.now.cells labels)) (tiles of.now.size)) + min 1 (length changed.now)) (11 * length changed.now + 10 * length (filter (is_touched of.now.size labels changed.now) (places of.now.size))) (M.counts tally.old) (M.counts tally.new) }
+    ensures parts { KeepsParts (M.counts tally.old) (M.counts tally.new) }
 {
     let extent = of.extent();
     let _base = base.extent();
@@ -199,6 +201,7 @@ pub fn label_repair<M: Tally>(
     ensures worked { IfOk result (λ r. (t : Term) → r.worked ≡ op_work (region_op t) of.now.size (cells_before of.now ∷ []) (of.now.cells ∷ []) (before_of (option_copied base.entry)) (patched of.now.size (base_of (before_of (option_copied base.entry))) r.patch.tiles)) }
     ensures picks { (labels : Cells) → AreRegions of.now.size of.now.cells labels → (t : Term) → IsPickedBy (11 * op_work (region_op t) of.now.size (cells_before of.now ∷ []) (of.now.cells ∷ []) (before_of (option_copied base.entry)) labels) (M.counts tally.old) (M.counts tally.new) }
     ensures looks { (labels : Cells) → AreRegions of.now.size of.now.cells labels → HoldsNoUnchanged of.now → (t : Term) → IsLookedBy (5 * length (op_damage (region_op t) of.now.size (cells_before of.now ∷ []) (of.now.cells ∷ []) (before_of (option_copied base.entry)) labels)) (M.counts tally.old) (M.counts tally.new) }
+    ensures parts { KeepsParts (M.counts tally.old) (M.counts tally.new) }
 {
     let _kept = of.extent();
     match base {
@@ -221,6 +224,7 @@ fn repair_layer<M: Tally>(
     ensures worked { IfOk result (λ r. (t : Term) → r.worked ≡ op_work (region_op t) of.now.size (cells_before of.now ∷ []) (of.now.cells ∷ []) (Some base.now.cells) (patched of.now.size base.now.cells r.patch.tiles)) }
     ensures picks { (labels : Cells) → AreRegions of.now.size of.now.cells labels → (t : Term) → IsPickedBy (11 * op_work (region_op t) of.now.size (cells_before of.now ∷ []) (of.now.cells ∷ []) (Some base.now.cells) labels) (M.counts tally.old) (M.counts tally.new) }
     ensures looks { (labels : Cells) → AreRegions of.now.size of.now.cells labels → HoldsNoUnchanged of.now → (t : Term) → IsLookedBy (5 * length (op_damage (region_op t) of.now.size (cells_before of.now ∷ []) (of.now.cells ∷ []) (Some base.now.cells) labels)) (M.counts tally.old) (M.counts tally.new) }
+    ensures parts { KeepsParts (M.counts tally.old) (M.counts tally.new) }
 {
     let _base = base.extent();
     let _kept = of.extent();

@@ -12,7 +12,7 @@ use Rattle.map_nums.specs.declared.Stat.TheVariants.{Sum}
 use Rattle.map_nums.specs.declared.Rate.{Rate}
 use Rattle.map_nums.specs.Numbers.{is_value, greatest_value, vmax}
 use Rattle.map_words.specs.Bytes.{Text, is_blank, is_mark, is_good, first_bad, is_silent}
-use Rattle.map_words.specs.Words.{Placed, closed, longer, words_from, text_of}
+use Rattle.map_words.specs.Words.{Placed, closed, longer, words_from, words_of, text_of}
 use Rattle.map_words.specs.Names.{is_plain, has_name_form, is_name_byte, is_reserved}
 use Rattle.map_defs.specs.Ops.{Term, layer_term, number_term, Op, local_op, difference_op, ratio_op, rating_op, focal_op, zonal_op, form_op, direction_op, flow_op, spread_op, sight_op, region_op}
 use Rattle.map_defs.specs.Sight.{Sighting}
@@ -33,7 +33,8 @@ use Rattle.statement_parser.specs.declared.op.Form.TheVariants.{Linkage}
 use Rattle.statement_parser.specs.Texts.{seen, is_short, LineText, worded}
 use Rattle.statement_parser.specs.Printing.{ReadsBack}
 use Rattle.statement_parser.proofs.Numerals.{is_run_byte, number_run, number_some}
-use Rattle.statement_parser.proofs.BackWords.{written_texts, words_back}
+use Rattle.statement_parser.proofs.BackWords.{written_tail, written_texts, words_back}
+use Rattle.statement_parser.proofs.Recutting.{name_line}
 
 both : (a b : Bool) → (a && b) ≡ true → (a ≡ true) × (b ≡ true)
 both true true e = (refl, refl)
@@ -42,15 +43,15 @@ both false b e = absurd cc
 
 -- ---- words without columns
 
-abbrev closed_text : Option Text → List Text
+abbrev pub closed_text : Option Text → List Text
 closed_text None = []
 closed_text (Some t) = t ∷ []
 
-abbrev longer_text : Option Text → ℕ → Option Text
+abbrev pub longer_text : Option Text → ℕ → Option Text
 longer_text None b = Some (b ∷ [])
 longer_text (Some t) b = Some (t ++ b ∷ [])
 
-abbrev texts_from : Option Text → Text → List Text
+abbrev pub texts_from : Option Text → Text → List Text
 texts_from now [] = closed_text now
 texts_from now (b ∷ bs) =
     cond (is_blank b) (closed_text now ++ texts_from None bs) (cond (is_mark b) (closed_text now ++ (b ∷ []) ∷ texts_from None bs) (texts_from (longer_text now b) bs))
@@ -63,7 +64,7 @@ longer_is : (now : Option Placed) (b at : ℕ) → option_map text_of (longer no
 longer_is None b at = refl
 longer_is (Some w) b at = refl
 
-texts_are : (at : ℕ) (now : Option Placed) (bs : Text) → map text_of (words_from at now bs) ≡ texts_from (option_map text_of now) bs
+pub texts_are : (at : ℕ) (now : Option Placed) (bs : Text) → map text_of (words_from at now bs) ≡ texts_from (option_map text_of now) bs
 texts_are at now [] = closed_is now
 texts_are at now (b ∷ bs) = go (is_blank b) (is_mark b) (texts_are (suc at) None bs) (texts_are (suc at) (longer now b at) bs)
   where
@@ -77,13 +78,13 @@ texts_are at now (b ∷ bs) = go (is_blank b) (is_mark b) (texts_are (suc at) No
 -- ---- a word, and what follows it
 
 -- a longest run of other bytes, or a mark
-abbrev IsRun : Text → Type 0
+abbrev pub IsRun : Text → Type 0
 IsRun t = (t ≡ [] → ⊥) × (list_all is_run_byte t ≡ true)
 
-abbrev IsMark : Text → Type 0
+abbrev pub IsMark : Text → Type 0
 IsMark t = (b : ℕ) × (t ≡ b ∷ []) × (is_blank b ≡ false) × (is_mark b ≡ true) × (is_good b ≡ true)
 
-abbrev IsWord : Text → Type 0
+abbrev pub IsWord : Text → Type 0
 IsWord t = IsRun t ⊎ IsMark t
 
 record IsRunByte (b : ℕ) : Type 0 where
@@ -115,7 +116,7 @@ run_start (b ∷ bs) rest h =
     let r = run_byte b k.0 in
     rw (r.blank, r.mark) (run_on (b ∷ []) bs rest k.1)
 
-from_word : (u rest : Text) (us : List Text) → IsWord u → ((t : Text) → texts_from (Some t) rest ≡ t ∷ us) → texts_from None rest ≡ us → texts_from None (u ++ rest) ≡ u ∷ us
+pub from_word : (u rest : Text) (us : List Text) → IsWord u → ((t : Text) → texts_from (Some t) rest ≡ t ∷ us) → texts_from None rest ≡ us → texts_from None (u ++ rest) ≡ u ∷ us
 from_word u rest us w run mark = elim w [
   | inl h ↦ run_start u rest h ∙ run u
   | inr h ↦ ap (λ t. texts_from None (t ++ rest)) h.1 ∙ rw (h.2, h.3) (ap (λ ts. (h.0 ∷ []) ∷ ts) mark) ∙ ap (λ t. t ∷ us) (sym h.1)
@@ -129,9 +130,9 @@ spaced_texts (u ∷ us) h =
     let w = from_word u (spaced us) us h.0 ih.0 ih.1 in
     (λ t. ap (λ ts. t ∷ ts) w, w)
 
-seen_joined : (ts : List Text) → Each IsWord ts → seen (joined ts) ≡ ts
-seen_joined [] h = refl
-seen_joined (t ∷ ts) h =
+words_joined : (ts : List Text) → Each IsWord ts → map text_of (words_of (joined ts)) ≡ ts
+words_joined [] h = refl
+words_joined (t ∷ ts) h =
     let ih = spaced_texts ts h.1 in
     texts_are 1 None (t ++ spaced ts) ∙ from_word t (spaced ts) ts h.0 ih.0 ih.1
 
@@ -141,13 +142,13 @@ run_good : (t : Text) → list_all is_run_byte t ≡ true → list_all is_good t
 run_good [] e = refl
 run_good (b ∷ bs) e = let h = both (is_run_byte b) (list_all is_run_byte bs) e in rw ((run_byte b h.0).good, run_good bs h.1) refl
 
-word_good : (t : Text) → IsWord t → list_all is_good t ≡ true
+pub word_good : (t : Text) → IsWord t → list_all is_good t ≡ true
 word_good t w = elim w [
   | inl h ↦ run_good t h.1
   | inr h ↦ ap (list_all is_good) h.1 ∙ rw h.4 refl
 ]
 
-spaced_good : (ts : List Text) → Each IsWord ts → list_all is_good (spaced ts) ≡ true
+pub spaced_good : (ts : List Text) → Each IsWord ts → list_all is_good (spaced ts) ≡ true
 spaced_good [] h = refl
 spaced_good (t ∷ ts) h = list_all-append is_good t (spaced ts) ∙ rw (word_good t h.0, spaced_good ts h.1) refl
 
@@ -165,7 +166,7 @@ all_prefix (b ∷ bs) e =
 not_below : (n : ℕ) → nat_lt n n ≡ false
 not_below n = grind (arith, nat_tests)
 
-no_bad : (t : Text) → list_all is_good t ≡ true → first_bad t ≡ None
+pub no_bad : (t : Text) → list_all is_good t ≡ true → first_bad t ≡ None
 no_bad t e = rw (all_prefix t e, not_below (length t)) refl
 
 -- ---- the words of a statement
@@ -196,7 +197,7 @@ not_empty : is_plain [] ≡ true → ⊥
 unfolding is_plain
 not_empty e = cc
 
-plain_word : (n : Text) → is_plain n ≡ true → IsWord n
+pub plain_word : (n : Text) → is_plain n ≡ true → IsWord n
 plain_word [] p = absurd (not_empty p)
 plain_word (b ∷ bs) p =
     let h = named b bs p in
@@ -205,7 +206,7 @@ plain_word (b ∷ bs) p =
 number_word : (z : ℤ) → IsTrue (is_value z) → IsWord (signed_decimal z)
 number_word z h = inl (number_some z h, number_run z h)
 
-term_word : (t : Term) → IsTerm t → IsWord (term_text t)
+pub term_word : (t : Term) → IsTerm t → IsWord (term_text t)
 term_word (layer_term n) h = plain_word n h
 term_word (number_term z) h = number_word z h
 
@@ -290,7 +291,7 @@ friction_words (number_term z) h = go (int_eq z (pos 1))
     go true = tt
     go false = (inl (λ e. cc, refl), (inl (λ e. cc, refl), (number_word z h, tt)))
 
-op_words : (o : Op) → IsOp o → Each IsWord (op_texts o)
+pub op_words : (o : Op) → IsOp o → Each IsWord (op_texts o)
 op_words (local_op s ts) h = (operation_word (Local s), (of_word, terms_words ts h.2))
 op_words (difference_op l r) h = pair_words Difference (codes "and") l r and_word h.0 h.1
 op_words (ratio_op l r) h = pair_words Ratio (codes "and") l r and_word h.0 h.1
@@ -322,7 +323,7 @@ after_seen (u ∷ us) h =
     ap (texts_from None) (append_assoc (term_text u) (listed_after us) (41 ∷ [])) ∙ from_word (term_text u) rest more (term_word u h.0) ih.0 ih.1 in
     (λ t. ap (λ ts. t ∷ codes "," ∷ ts) same, ap (λ ts. codes "," ∷ ts) same)
 
-call_seen : (n p : Text) (ts : List Term) → is_plain n ≡ true → IsWritten (call p ts) → seen (written_text n (call p ts)) ≡ written_texts n (call p ts)
+call_seen : (n p : Text) (ts : List Term) → is_plain n ≡ true → IsWritten (call p ts) → map text_of (words_of (written_text n (call p ts))) ≡ written_texts n (call p ts)
 call_seen n p [] q h = absurd (let l = h.1 in omega arith)
 call_seen n p (a ∷ us) q h =
     let rest = listed_after us ++ 41 ∷ [] in
@@ -357,8 +358,8 @@ plain_words : (n : Text) (o : Op) → is_plain n ≡ true → IsOp o → Each Is
 plain_words n o p h = (plain_word n p, (equals_word, op_words o h))
 
 written_seen : (n : Text) (w : Written) → is_plain n ≡ true → IsWritten w → seen (written_text n w) ≡ written_texts n w
-written_seen n (plain o) p h = seen_joined (written_texts n (plain o)) (plain_words n o p h)
-written_seen n (call q ts) p h = call_seen n q ts p h
+written_seen n (plain o) p h = name_line (written_text n (plain o)) n (codes "=" ∷ written_tail (plain o)) (words_joined (written_texts n (plain o)) (plain_words n o p h)) p
+written_seen n (call q ts) p h = name_line (written_text n (call q ts)) n (codes "=" ∷ written_tail (call q ts)) (call_seen n q ts p h) p
 
 written_good : (n : Text) (w : Written) → is_plain n ≡ true → IsWritten w → list_all is_good (written_text n w) ≡ true
 written_good n (plain o) p h = joined_good (written_texts n (plain o)) (plain_words n o p h)

@@ -16,20 +16,21 @@ use Rattle.map_words.specs.Numbers.{if_between}
 use Rattle.map_words.specs.Names.{is_plain, is_reserved, is_among}
 use Rattle.grammar_core.specs.Rules.{Rule, Derives, node, ends, on, next, after, also, or_rule}
 use Rattle.grammar_core.proofs.Ends.{next_derives, also_derives, rest_derives}
-use Rattle.map_defs.specs.Ops.{Term, layer_term, number_term, Op, local_op, difference_op, ratio_op, rating_op, focal_op, zonal_op, form_op, direction_op, flow_op, spread_op, sight_op, region_op}
+use Rattle.map_defs.specs.Ops.{Term, layer_term, number_term, terms_of, Op, local_op, difference_op, ratio_op, rating_op, focal_op, zonal_op, form_op, direction_op, flow_op, spread_op, sight_op, region_op}
 use Rattle.map_defs.specs.Sight.{Sighting}
 use Rattle.map_defs.specs.Incremental as incremental
 use Rattle.map_defs.specs.Incremental.{linkage_form, length_form, partition_form, frontage_form, gradient_form, aspect_form}
 use Rattle.map_defs.specs.Statements.{Written, plain, call}
 use Rattle.statement_parser.specs.Lines.{Manner, define, Line, edit}
-use Rattle.statement_parser.specs.Operations.{operations, operation_text, find_operation, has_row, operation_named}
+use Rattle.statement_parser.specs.Scopes.{Scope, anywhere}
+use Rattle.statement_parser.specs.Operations.{operations, operation_text, find_operation, operation_named}
 use Rattle.statement_parser.specs.Forms.{form_of, form_row}
 use Rattle.statement_parser.specs.Places.{the, maybe, name_of, value_of, count_of, disc_of, reach_of, limit_of, term_of, weights_of, cell_of, call_of}
-use Rattle.statement_parser.specs.Bodies.{term_after, further_terms, optional_part, statistic_body, pair_body, single_body, rate_part, with_rates, rating_body, radius_part, sight_part, radiates, focal_body, friction_part, spread_body, drainage_op, drainage_body, operation_body, call_body}
+use Rattle.statement_parser.specs.Bodies.{term_after, further_terms, optional_part, statistic_body, pair_body, single_body, rate_part, with_rates, rating_body, radius_part, sight_part, radiates, focal_body, friction_part, spread_body, drainage_op, drainage_body, operation_body, call_body, body_rule}
 use Rattle.statement_parser.specs.Commands.{command_text, commands, find_command, command_named}
-use Rattle.statement_parser.specs.Grammar.{body_rule, define_rule, command_rule, IsLine}
+use Rattle.statement_parser.specs.Grammar.{define_rule, command_rule, IsLine}
 use Rattle.layer_tiles.specs.Cells.{IsCell}
-use Rattle.statement_parser.specs.Formed.{Each, IsTerm, IsRate, IsBetween, IsRadius, IsSighting, IsOp, IsWritten}
+use Rattle.statement_parser.specs.Formed.{Each, InScope, AreInScope, IsTerm, IsRate, IsNoProduct, IsBetween, IsRadius, IsSighting, IsOp, IsWritten}
 use Rattle.statement_parser.specs.There.{HasRow, IsOpThere, IsWrittenThere}
 use Rattle.statement_parser.specs.Canonical.{cell_text, optional_texts, rates_texts, radius_texts, sight_texts, friction_texts, op_texts}
 use Rattle.statement_parser.specs.TermTexts.{term_text, terms_after, terms_texts}
@@ -46,9 +47,13 @@ use Rattle.statement_parser.proofs.FormedLines.{IsRow}
 name_back : (n : Text) → IsTrue (is_plain n) → name_of n ≡ Some n
 name_back n h = rw h refl
 
-term_back : (t : Term) → IsTerm t → term_of (term_text t) ≡ Some t
-term_back (layer_term n) h = rw h refl
-term_back (number_term z) h = rw (no_plain z h) (ap (option_map number_term) (value_back z h))
+-- a term that may stand in the scope
+abbrev IsTermIn : Scope → Term → Type 0
+IsTermIn scope t = IsTerm t × InScope scope t
+
+term_back : (scope : Scope) (t : Term) → IsTermIn scope t → term_of scope (term_text t) ≡ Some t
+term_back scope (layer_term n) h = rw (h.0, h.1) refl
+term_back scope (number_term z) h = rw (no_plain z h.0) (ap (option_map number_term) (value_back z h.0))
 
 cell_back : (c : Option ℤ) → IsCell c → cell_of (cell_text c) ≡ Some c
 cell_back None h = refl
@@ -88,7 +93,7 @@ none_named {A} text (x ∷ xs) t each p = go (bytes_eq (text x) t) refl (none_na
 -- no word of a command is a name, computed
 commands_reserved : Each (λ c. is_plain (command_text c) ≡ false) commands
 unfolding is_plain is_reserved is_among
-commands_reserved = (refl, (refl, (refl, (refl, (refl, (refl, (refl, (refl, (refl, (refl, (refl, tt)))))))))))
+commands_reserved = (refl, (refl, (refl, (refl, (refl, (refl, (refl, (refl, (refl, (refl, (refl, (refl, (refl, (refl, tt))))))))))))))
 
 -- nor is that of an operation
 operations_reserved : Each (λ o. is_plain (operation_text o) ≡ false) operations
@@ -125,253 +130,10 @@ without_optional word other default z ws none h = go (int_eq z default)
     go true w us e = h w us e
     go false w us e = let same : other ≡ w = cc in ap (the word) (sym same) ∙ none
 
-further_back : (word : Text) (f : List Term → Rule Text Line) (ws : List Text) (x : Line) → the word word ≡ Some tt → Without word ws → (n : ℕ) (us front : List Term) → length us ≤ n → Each IsTerm us
-    → Derives (f (front ++ us)) ws x → Derives (further_terms word f n front) (terms_after word us ++ ws) x
-further_back word f ws x same none zero [] front le h d = subst (λ (ts : List Term). Derives (f ts) ws x) (append-nil front) d
-further_back word f ws x same none zero (u ∷ us) front le h d = absurd (omega arith)
-further_back word f ws x same none (suc n) [] front le h d =
-    rest_derives (the word) (λ _. next term_of (λ t. further_terms word f n (front ++ t ∷ []))) (f front) ws x none (subst (λ (ts : List Term). Derives (f ts) ws x) (append-nil front) d)
-further_back word f ws x same none (suc n) (u ∷ us) front le h d =
-    also_derives (the word) (λ _. next term_of (λ t. further_terms word f n (front ++ t ∷ []))) (f front) word tt (term_text u ∷ (terms_after word us ++ ws)) x same
-    (next_derives term_of (λ t. further_terms word f n (front ++ t ∷ [])) (term_text u) u (terms_after word us ++ ws) x (term_back u h.0)
-    (further_back word f ws x same none n us (front ++ u ∷ []) (omega arith) h.1 (subst (λ (ts : List Term). Derives (f ts) ws x) (sym (append_assoc front (u ∷ []) us)) d)))
-
-module _ (mk : Op → Line) where
-  abbrev last : Op → Rule Text Line
-  last op = ends (mk op)
-
-  statistic_back : (s : Stat) (ts : List Term) → IsOp (local_op s ts) → Derives (statistic_body s last) (codes "of" ∷ terms_texts ts) (mk (local_op s ts))
-  statistic_back s [] h = absurd (let l = h.0 in omega arith)
-  statistic_back s (a ∷ []) h = absurd (let l = h.0 in omega arith)
-  statistic_back s (a ∷ b ∷ us) h =
-      let x = mk (local_op s (a ∷ b ∷ us)) in
-      let l = h.1 in
-      let rest = terms_after (codes "and") us in
-      next_derives term_of _ (term_text a) a (codes "and" ∷ term_text b ∷ rest) x (term_back a h.2.0)
-      (next_derives term_of (λ b. further_terms (codes "and") (λ ts. last (local_op s ts)) 6 (a ∷ b ∷ [])) (term_text b) b rest x (term_back b h.2.1.0) (subst (λ ws. Derives (further_terms (codes "and") (λ ts. last (local_op s ts)) 6 (a ∷ b ∷ [])) ws x) (append-nil rest) (further_back (codes "and") (λ ts. last (local_op s ts)) [] x refl (without_nil (codes "and")) 6 us (a ∷ b ∷ []) (omega arith) h.2.1.1 refl)))
-
-  pair_back : (word : Text) (make : Term → Term → Op) (a b : Term) → the word word ≡ Some tt → IsTerm a → IsTerm b → Derives (pair_body word make last) (codes "of" ∷ term_text a ∷ word ∷ term_text b ∷ []) (mk (make a b))
-  pair_back word make a b same p q =
-      next_derives term_of _ (term_text a) a (word ∷ term_text b ∷ []) (mk (make a b)) (term_back a p)
-      (next_derives (the word) _ word tt (term_text b ∷ []) (mk (make a b)) same
-      (next_derives term_of (λ b. last (make a b)) (term_text b) b [] (mk (make a b)) (term_back b q) refl))
-
-no_to : (rs : List Rate) → Without (codes "to") (rates_texts rs)
-no_to [] w us e = absurd cc
-no_to (r ∷ rs) w us e = let h : codes "with" ≡ w = cc in ap (the (codes "to")) (sym h)
-
-optional_back : (word : Text) (default z : ℤ) (g : ℤ → Rule Text Line) (ws : List Text) (x : Line) → the word word ≡ Some tt → IsTrue (is_value z) → Without word ws → Derives (g z) ws x
-    → Derives (optional_part word value_of default g) (optional_texts word default z ++ ws) x
-optional_back word default z g ws x same h none d = go (int_eq z default) refl
-  where
-    go : (b : Bool) → int_eq z default ≡ b → Derives (optional_part word value_of default g) (cond b [] (word ∷ signed_decimal z ∷ []) ++ ws) x
-    go true e =
-        let left_out : z ≡ default = (Decides-int_eq z default).0 e in
-        rest_derives (the word) (λ _. next value_of g) (g default) ws x none (subst (λ (y : ℤ). Derives (g y) ws x) left_out d)
-    go false e =
-        also_derives (the word) (λ _. next value_of g) (g default) word tt (signed_decimal z ∷ ws) x same
-        (next_derives value_of g (signed_decimal z) z ws x (value_back z h) d)
-
-rate_back : (g : Rate → Rule Text Line) (r : Rate) (ws : List Text) (x : Line) → IsRate r → Without (codes "to") ws → Derives (g r) ws x
-    → Derives (rate_part g) (cell_text r.give ∷ codes "for" ∷ signed_decimal r.low ∷ (optional_texts (codes "to") r.low r.high ++ ws)) x
-rate_back g r ws x h none d =
-    let rest = optional_texts (codes "to") r.low r.high ++ ws in
-    next_derives cell_of _ (cell_text r.give) r.give (codes "for" ∷ signed_decimal r.low ∷ rest) x (cell_back r.give h.give)
-    (next_derives value_of _ (signed_decimal r.low) r.low rest x (value_back r.low h.low)
-    (optional_back (codes "to") r.low r.high (λ high. g (record { low = r.low; high = high; give = r.give })) ws x refl h.high none d))
-
-module _ (mk : List Rate → Line) where
-  with_back : (n : ℕ) (rs front : List Rate) → length rs ≤ n → Each IsRate rs → Derives (with_rates (λ rs. ends (mk rs)) n front) (rates_texts rs) (mk (front ++ rs))
-  with_back zero [] front le h = ap (λ rs. Some (mk rs)) (sym (append-nil front))
-  with_back zero (r ∷ rs) front le h = absurd (omega arith)
-  with_back (suc n) [] front le h = ap (λ rs. Some (mk rs)) (sym (append-nil front))
-  with_back (suc n) (r ∷ rs) front le h =
-      let g = λ (one : Rate). with_rates (λ rs. ends (mk rs)) n (front ++ one ∷ []) in
-      also_derives (the (codes "with")) (λ _. rate_part g) (ends (mk front)) (codes "with") tt (cell_text r.give ∷ codes "for" ∷ signed_decimal r.low ∷ (optional_texts (codes "to") r.low r.high ++ rates_texts rs)) (mk (front ++ r ∷ rs)) refl
-      (rate_back g r (rates_texts rs) (mk (front ++ r ∷ rs)) h.0 (no_to rs)
-      (subst (λ (us : List Rate). Derives (g r) (rates_texts rs) (mk us)) (append_assoc front (r ∷ []) rs) (with_back n rs (front ++ r ∷ []) (omega arith) h.1)))
-
-rating_back : (mk : Op → Line) (t : Term) (rs : List Rate) → IsOp (rating_op t rs) → Derives (rating_body (λ op. ends (mk op))) (codes "of" ∷ term_text t ∷ rates_texts rs) (mk (rating_op t rs))
-rating_back mk t [] h = absurd (let l = h.1 in omega arith)
-rating_back mk t (r ∷ rs) h =
-    let x = mk (rating_op t (r ∷ rs)) in
-    let l = h.2 in
-    let g = λ (one : Rate). with_rates (λ rs. ends (mk (rating_op t rs))) 31 (one ∷ []) in
-    next_derives term_of _ (term_text t) t (rates_texts (r ∷ rs)) x (term_back t h.0)
-    (rate_back g r (rates_texts rs) x h.3.0 (no_to rs) (with_back (λ rs. mk (rating_op t rs)) 31 rs (r ∷ []) (omega arith) h.3.1))
-
--- a part of one place that may be left out
-part_back : {A : Type 0} (word : Text) (place : Text → Option A) (default v : A) (t : Text) (b : Bool) (g : A → Rule Text Line) (ws : List Text) (x : Line) → the word word ≡ Some tt → (b ≡ true → v ≡ default) → place t ≡ Some v → Without word ws
-    → Derives (g v) ws x → Derives (optional_part word place default g) (cond b [] (word ∷ t ∷ []) ++ ws) x
-part_back {A} word place default v t true g ws x same left_out h none d = rest_derives (the word) (λ _. next place g) (g default) ws x none (subst (λ (y : A). Derives (g y) ws x) (left_out refl) d)
-part_back word place default v t false g ws x same left_out h none d = also_derives (the word) (λ _. next place g) (g default) word tt (t ∷ ws) x same (next_derives place g t v ws x h d)
-
-same_pos : (a b : ℕ) → int_eq (pos a) (pos b) ≡ true → a ≡ b
-same_pos a b e = let same : pos a ≡ pos b = (Decides-int_eq (pos a) (pos b)).0 e in cc
-
--- a count that may be left out, at the end of a line
-count_part_back : (word : Text) (low high default n : ℕ) (g : ℕ → Rule Text Line) (x : Line) → the word word ≡ Some tt → IsBetween low high n → n < 2 ^ 64 → Derives (g n) [] x
-    → Derives (optional_part word (count_of (pos low) (pos high)) default g) (optional_texts word (pos default) (pos n)) x
-count_part_back word low high default n g x same h lt d =
-    subst (λ ws. Derives (optional_part word (count_of (pos low) (pos high)) default g) ws x) (append-nil (optional_texts word (pos default) (pos n)))
-    (part_back word (count_of (pos low) (pos high)) default n (decimal n) (int_eq (pos n) (pos default)) g [] x same (same_pos n default) (count_back low high n h lt) (without_nil word) d)
-
 -- the words of a call, after its name
 abbrev pub given_texts : List Term → List Text
 given_texts [] = codes "(" ∷ codes ")" ∷ []
 given_texts (t ∷ ts) = codes "(" ∷ term_text t ∷ (terms_after (codes ",") ts ++ codes ")" ∷ [])
-
-module _ (m : Manner) (mk : Op → Line) where
-  abbrev ended : Op → Rule Text Line
-  ended op = ends (mk op)
-
-  radius_back : (s : Stat) (r : Option ℕ) (t : Term) → IsRadius r → Derives (radius_part s t ended) (radius_texts r) (mk (focal_op s r t))
-  radius_back s None t h = refl
-  radius_back s (Some n) t h =
-      let lt : n < 2 ^ 64 = (let l = h.1 in omega arith) in
-      also_derives (the (codes "at")) (λ _. next disc_of (λ r. ended (focal_op s r t))) (ended (focal_op s None t)) (codes "at") tt (decimal n ∷ []) (mk (focal_op s (Some n) t)) refl
-      (next_derives disc_of (λ r. ended (focal_op s r t)) (decimal n) (Some n) [] (mk (focal_op s (Some n) t)) (ap (option_map Some) (count_back 1 32 n h lt)) refl)
-
-  no_word : (b : Bool) (word w : Text) → the word w ≡ None → maybe b (the word) w ≡ None
-  no_word true word w e = e
-  no_word false word w e = refl
-
-  no_radiating : (b : Bool) (r : Option ℕ) (w : Text) (us : List Text) → radius_texts r ≡ w ∷ us → maybe b (the (codes "radiating")) w ≡ None
-  no_radiating b None w us e = absurd cc
-  no_radiating b (Some n) w us e = let same : codes "at" ≡ w = cc in no_word b (codes "radiating") w (ap (the (codes "radiating")) (sym same))
-
-  abbrev near : Stat → Term → Rule Text Line
-  near s a = also (on (maybe (radiates m s) (the (codes "radiating"))) (λ _. sight_part a ended)) (radius_part s a ended)
-
-  focal_back : (s : Stat) (r : Option ℕ) (t : Term) → IsRadius r → IsTerm t → Derives (focal_body m s ended) (codes "of" ∷ term_text t ∷ radius_texts r) (mk (focal_op s r t))
-  focal_back s r t h p =
-      next_derives term_of (near s) (term_text t) t (radius_texts r) (mk (focal_op s r t)) (term_back t p)
-      (rest_derives (maybe (radiates m s) (the (codes "radiating"))) (λ _. sight_part t ended) (radius_part s t ended) (radius_texts r) (mk (focal_op s r t)) (no_radiating (radiates m s) r) (radius_back s r t h))
-
-  heights_back : (s : Sighting) (t u : Term) → IsSighting s
-      → Derives (optional_part (codes "from") value_of (pos 0) (λ from. optional_part (codes "to") value_of (pos 0) (λ to. optional_part (codes "within") reach_of 64 (λ reach. ended (sight_op (record { from = from; to = to; reach = reach }) t u))))) (sight_texts s) (mk (sight_op s t u))
-  heights_back s t u h =
-      let x = mk (sight_op s t u) in
-      let within = optional_texts (codes "within") (pos 64) (pos s.reach) in
-      let lt : s.reach < 2 ^ 64 = (let l = h.reach.1 in omega arith) in
-      let no_from : Without (codes "from") within = subst (Without (codes "from")) (append-nil within) (without_optional (codes "from") (codes "within") (pos 64) (pos s.reach) [] refl (without_nil (codes "from"))) in
-      let no_to : Without (codes "to") within = subst (Without (codes "to")) (append-nil within) (without_optional (codes "to") (codes "within") (pos 64) (pos s.reach) [] refl (without_nil (codes "to"))) in
-      let from_rule = optional_part (codes "from") value_of (pos 0) (λ from. optional_part (codes "to") value_of (pos 0) (λ to. optional_part (codes "within") reach_of 64 (λ reach. ended (sight_op (record { from = from; to = to; reach = reach }) t u)))) in
-      subst (λ ws. Derives from_rule ws x) (sym (append_assoc (optional_texts (codes "from") (pos 0) s.from) (optional_texts (codes "to") (pos 0) s.to) within))
-      (optional_back (codes "from") (pos 0) s.from (λ from. optional_part (codes "to") value_of (pos 0) (λ to. optional_part (codes "within") reach_of 64 (λ reach. ended (sight_op (record { from = from; to = to; reach = reach }) t u)))) (optional_texts (codes "to") (pos 0) s.to ++ within) x refl h.from (without_optional (codes "from") (codes "to") (pos 0) s.to within refl no_from)
-      (optional_back (codes "to") (pos 0) s.to (λ to. optional_part (codes "within") reach_of 64 (λ reach. ended (sight_op (record { from = s.from; to = to; reach = reach }) t u))) within x refl h.to no_to
-      (count_part_back (codes "within") 1 64 64 s.reach (λ reach. ended (sight_op (record { from = s.from; to = s.to; reach = reach }) t u)) x refl h.reach lt refl)))
-
-  may_radiate : (b : Bool) → b ≡ true → maybe b (the (codes "radiating")) (codes "radiating") ≡ Some tt
-  may_radiate true e = refl
-  may_radiate false e = absurd cc
-
-  sight_back : (s : Sighting) (t u : Term) → m.sight ≡ true → IsSighting s → IsTerm t → IsTerm u → Derives (focal_body m Sum ended) (codes "of" ∷ term_text t ∷ codes "radiating" ∷ codes "on" ∷ term_text u ∷ sight_texts s) (mk (sight_op s t u))
-  sight_back s t u there h p q =
-      let x = mk (sight_op s t u) in
-      next_derives term_of (near Sum) (term_text t) t (codes "radiating" ∷ codes "on" ∷ term_text u ∷ sight_texts s) x (term_back t p)
-      (also_derives (maybe m.sight (the (codes "radiating"))) (λ _. sight_part t ended) (radius_part Sum t ended) (codes "radiating") tt (codes "on" ∷ term_text u ∷ sight_texts s) x (may_radiate m.sight there)
-      (next_derives term_of _ (term_text u) u (sight_texts s) x (term_back u q) (heights_back s t u h)))
-
-  friction_back : (g : Term → Rule Text Line) (u : Term) (ws : List Text) (x : Line) → IsTerm u → Without (codes "spreading") ws → Derives (g u) ws x → Derives (friction_part g) (friction_texts u ++ ws) x
-  friction_back g (layer_term n) ws x h none d =
-      also_derives (the (codes "spreading")) (λ _. term_after (codes "in") g) (g (number_term (pos 1))) (codes "spreading") tt (codes "in" ∷ n ∷ ws) x refl (next_derives term_of g n (layer_term n) ws x (term_back (layer_term n) h) d)
-  friction_back g (number_term z) ws x h none d = go (int_eq z (pos 1)) refl
-    where
-      go : (b : Bool) → int_eq z (pos 1) ≡ b → Derives (friction_part g) (cond b [] (codes "spreading" ∷ codes "in" ∷ signed_decimal z ∷ []) ++ ws) x
-      go true e =
-          let one : z ≡ pos 1 = (Decides-int_eq z (pos 1)).0 e in
-          rest_derives (the (codes "spreading")) (λ _. term_after (codes "in") g) (g (number_term (pos 1))) ws x none (subst (λ (y : ℤ). Derives (g (number_term y)) ws x) one d)
-      go false e =
-          also_derives (the (codes "spreading")) (λ _. term_after (codes "in") g) (g (number_term (pos 1))) (codes "spreading") tt (codes "in" ∷ signed_decimal z ∷ ws) x refl
-          (next_derives term_of g (signed_decimal z) (number_term z) ws x (term_back (number_term z) h) d)
-
-  spread_back : (limit : ℕ) (t u : Term) → IsOp (spread_op limit t u) → Derives (spread_body ended) (codes "of" ∷ term_text t ∷ (friction_texts u ++ optional_texts (codes "within") vmax (pos limit))) (mk (spread_op limit t u))
-  spread_back limit t u h =
-      let x = mk (spread_op limit t u) in
-      let within = optional_texts (codes "within") vmax (pos limit) in
-      let lt : limit < 2 ^ 64 = (let l = h.0 in omega arith) in
-      let no_spreading : Without (codes "spreading") within = subst (Without (codes "spreading")) (append-nil within) (without_optional (codes "spreading") (codes "within") vmax (pos limit) [] refl (without_nil (codes "spreading"))) in
-      next_derives term_of _ (term_text t) t (friction_texts u ++ within) x (term_back t h.1)
-      (friction_back (λ friction. optional_part (codes "within") limit_of greatest_value (λ limit. ended (spread_op limit t friction))) u within x h.2 no_spreading
-      (count_part_back (codes "within") 0 greatest_value greatest_value limit (λ limit. ended (spread_op limit t u)) x refl (omega arith, h.0) lt refl))
-
-  single_back : (make : Term → Op) (t : Term) → IsTerm t → Derives (single_body make ended) (codes "of" ∷ term_text t ∷ []) (mk (make t))
-  single_back make t p = next_derives term_of (λ a. ended (make a)) (term_text t) t [] (mk (make t)) (term_back t p) refl
-
-  direction_back : (t : Term) → IsTerm t → Derives (drainage_body ended) (codes "of" ∷ term_text t ∷ []) (mk (direction_op t))
-  direction_back t p = next_derives term_of (λ a. optional_part (codes "carrying") weights_of None (λ w. ended (drainage_op a w))) (term_text t) t [] (mk (direction_op t)) (term_back t p) refl
-
-  flow_back : (t u : Term) → IsTerm t → IsTerm u → Derives (drainage_body ended) (codes "of" ∷ term_text t ∷ codes "carrying" ∷ term_text u ∷ []) (mk (flow_op t u))
-  flow_back t u p q =
-      let x = mk (flow_op t u) in
-      next_derives term_of (λ a. optional_part (codes "carrying") weights_of None (λ w. ended (drainage_op a w))) (term_text t) t (codes "carrying" ∷ term_text u ∷ []) x (term_back t p)
-      (also_derives (the (codes "carrying")) (λ _. next weights_of (λ w. ended (drainage_op t w))) (ended (direction_op t)) (codes "carrying") tt (term_text u ∷ []) x refl
-      (next_derives weights_of (λ w. ended (drainage_op t w)) (term_text u) (Some u) [] x (ap (option_map Some) (term_back u q)) refl))
-
--- ---- bodies
-
-form_back : (f : incremental.Form) → form_of (form_row f) ≡ f
-form_back linkage_form = refl
-form_back length_form = refl
-form_back partition_form = refl
-form_back frontage_form = refl
-form_back gradient_form = refl
-form_back aspect_form = refl
-
-module _ (m : Manner) (mk : Written → Line) where
-  abbrev whole : Written → Rule Text Line
-  whole w = ends (mk w)
-
-  abbrev done : Op → Line
-  done op = mk (plain op)
-
-  abbrev callers : Text → Rule Text Line
-  callers p = call_body (λ ts. whole (call p ts))
-
-  -- an operation's name, and then what follows it
-  by_name : (o : Operation) (ws : List Text) (x : Line) → HasRow m o → IsRow o → Derives (operation_body m (λ op. ends (done op)) o) ws x → Derives (body_rule m whole) (operation_text o ∷ ws) x
-  by_name o ws x there row d = also_derives (operation_named m) (operation_body m (λ op. ends (done op))) (node None (on (call_of m) callers)) (operation_text o) o ws x (named_back m o there row) d
-
-  op_back : (o : Op) → IsOp o → IsOpThere m o → Derives (body_rule m whole) (op_texts o) (mk (plain o))
-  op_back (local_op s ts) h there = by_name (Local s) (codes "of" ∷ terms_texts ts) (done (local_op s ts)) there tt (statistic_back done s ts h)
-  op_back (difference_op l r) h there = by_name Difference (codes "of" ∷ term_text l ∷ codes "and" ∷ term_text r ∷ []) (done (difference_op l r)) there tt (pair_back done (codes "and") difference_op l r refl h.0 h.1)
-  op_back (ratio_op l r) h there = by_name Ratio (codes "of" ∷ term_text l ∷ codes "and" ∷ term_text r ∷ []) (done (ratio_op l r)) there tt (pair_back done (codes "and") ratio_op l r refl h.0 h.1)
-  op_back (rating_op t rs) h there = by_name Rating (codes "of" ∷ term_text t ∷ rates_texts rs) (done (rating_op t rs)) there tt (rating_back done t rs h)
-  op_back (focal_op s r t) h there = by_name (Focal s) (codes "of" ∷ term_text t ∷ radius_texts r) (done (focal_op s r t)) there h.0 (focal_back m done s r t h.1 h.2)
-  op_back (zonal_op s t u) h there = by_name (Zonal s) (codes "of" ∷ term_text t ∷ codes "within" ∷ term_text u ∷ []) (done (zonal_op s t u)) there h.0 (pair_back done (codes "within") (zonal_op s) t u refl h.1 h.2)
-  op_back (form_op f t) h there =
-      by_name (Incremental (form_row f)) (codes "of" ∷ term_text t ∷ []) (done (form_op f t)) there tt
-      (subst (λ g. Derives (single_body (form_op (form_of (form_row f))) (λ op. ends (done op))) (codes "of" ∷ term_text t ∷ []) (done (form_op g t))) (form_back f) (single_back m done (form_op (form_of (form_row f))) t h))
-  op_back (direction_op t) h there = by_name Drainage (codes "of" ∷ term_text t ∷ []) (done (direction_op t)) there tt (direction_back m done t h)
-  op_back (flow_op t u) h there = by_name Drainage (codes "of" ∷ term_text t ∷ codes "carrying" ∷ term_text u ∷ []) (done (flow_op t u)) there tt (flow_back m done t u h.0 h.1)
-  op_back (spread_op limit t u) h there =
-      by_name Proximity (codes "of" ∷ term_text t ∷ (friction_texts u ++ optional_texts (codes "within") vmax (pos limit))) (done (spread_op limit t u)) there tt (spread_back m done limit t u h)
-  op_back (sight_op s t u) h there =
-      by_name (Focal Sum) (codes "of" ∷ term_text t ∷ codes "radiating" ∷ codes "on" ∷ term_text u ∷ sight_texts s) (done (sight_op s t u)) there.0 tt (sight_back m done s t u there.1 h.0 h.1 h.2)
-  op_back (region_op t) h there = by_name Insularity (codes "of" ∷ term_text t ∷ []) (done (region_op t)) there tt (single_back m done region_op t h)
-
-  call_there : (b : Bool) (p : Text) → b ≡ true → is_plain p ≡ true → maybe b name_of p ≡ Some p
-  call_there true p e h = name_back p h
-  call_there false p e h = absurd cc
-
-  no_close : (us : List Text) → Without (codes ",") (codes ")" ∷ us)
-  no_close us w vs e = let same : codes ")" ≡ w = cc in ap (the (codes ",")) (sym same)
-
-  call_back : (p : Text) (ts : List Term) → m.calls ≡ true → IsWritten (call p ts) → Derives (body_rule m whole) (p ∷ given_texts ts) (mk (call p ts))
-  call_back p [] there h = absurd (let l = h.1 in omega arith)
-  call_back p (a ∷ us) there h =
-      let x = mk (call p (a ∷ us)) in
-      let ws = term_text a ∷ (terms_after (codes ",") us ++ codes ")" ∷ []) in
-      let few : length us ≤ 7 = (let l = h.2 in omega arith) in
-      let r = node None (on (call_of m) callers) in
-      rest_derives (operation_named m) (operation_body m (λ op. ends (done op))) r (p ∷ codes "(" ∷ ws) x
-      (λ w us e. (let same : p ≡ w = cc in subst (λ q. operation_named m q ≡ None) same (no_operation m p h.0)))
-      (next_derives (call_of m) callers p p (codes "(" ∷ ws) x (call_there m.calls p there h.0)
-      (next_derives term_of (λ a. further_terms (codes ",") (λ ts. next (the (codes ")")) (λ _. whole (call p ts))) 7 (a ∷ [])) (term_text a) a (terms_after (codes ",") us ++ codes ")" ∷ []) x (term_back a h.3.0)
-      (further_back (codes ",") (λ ts. next (the (codes ")")) (λ _. whole (call p ts))) (codes ")" ∷ []) x refl (no_close []) 7 us (a ∷ []) few h.3.1 refl)))
-
--- ---- lines
 
 -- the words of a body
 abbrev pub written_tail : Written → List Text
@@ -381,15 +143,313 @@ written_tail (call p ts) = p ∷ given_texts ts
 abbrev pub written_texts : Text → Written → List Text
 written_texts n w = n ∷ codes "=" ∷ written_tail w
 
-body_back : (m : Manner) (mk : Written → Line) (w : Written) → IsWritten w → IsWrittenThere m w → Derives (body_rule m (λ w. ends (mk w))) (written_tail w) (mk w)
-body_back m mk (plain o) h there = op_back m mk o h there
-body_back m mk (call p ts) h there = call_back m mk p ts there h
+-- ---- in a scope
+
+module _ (scope : Scope) where
+  abbrev IsIn : Term → Type 0
+  IsIn t = IsTermIn scope t
+
+  abbrev IsOpIn : Op → Type 0
+  IsOpIn (local_op s ts) = (2 ≤ length ts) × (length ts ≤ 8) × Each IsIn ts
+  IsOpIn (difference_op l r) = IsIn l × IsIn r
+  IsOpIn (ratio_op l r) = IsIn l × IsIn r
+  IsOpIn (rating_op t rs) = IsIn t × (1 ≤ length rs) × (length rs ≤ 32) × Each IsRate rs
+  IsOpIn (focal_op s r t) = IsNoProduct s × IsRadius r × IsIn t
+  IsOpIn (zonal_op s t u) = IsNoProduct s × IsIn t × IsIn u
+  IsOpIn (form_op f t) = IsIn t
+  IsOpIn (direction_op t) = IsIn t
+  IsOpIn (flow_op t u) = IsIn t × IsIn u
+  IsOpIn (spread_op limit t u) = (limit ≤ greatest_value) × IsIn t × IsIn u
+  IsOpIn (sight_op s t u) = IsSighting s × IsIn t × IsIn u
+  IsOpIn (region_op t) = IsIn t
+
+  abbrev pub IsWrittenIn : Written → Type 0
+  IsWrittenIn (plain o) = IsOpIn o
+  IsWrittenIn (call p ts) = IsTrue (is_plain p) × (1 ≤ length ts) × (length ts ≤ 8) × Each IsIn ts
+
+  each_in : (ts : List Term) → Each IsTerm ts → Each (InScope scope) ts → Each IsIn ts
+  each_in [] h k = tt
+  each_in (t ∷ ts) h k = ((h.0, k.0), each_in ts h.1 k.1)
+
+  op_in : (o : Op) → IsOp o → Each (InScope scope) (terms_of o) → IsOpIn o
+  op_in (local_op s ts) h k = (h.0, h.1, each_in ts h.2 k)
+  op_in (difference_op l r) h k = ((h.0, k.0), (h.1, k.1.0))
+  op_in (ratio_op l r) h k = ((h.0, k.0), (h.1, k.1.0))
+  op_in (rating_op t rs) h k = ((h.0, k.0), h.1, h.2, h.3)
+  op_in (focal_op s r t) h k = (h.0, h.1, (h.2, k.0))
+  op_in (zonal_op s t u) h k = (h.0, (h.1, k.0), (h.2, k.1.0))
+  op_in (form_op f t) h k = (h, k.0)
+  op_in (direction_op t) h k = (h, k.0)
+  op_in (flow_op t u) h k = ((h.0, k.0), (h.1, k.1.0))
+  op_in (spread_op limit t u) h k = (h.0, (h.1, k.0), (h.2, k.1.0))
+  op_in (sight_op s t u) h k = (h.0, (h.1, k.0), (h.2, k.1.0))
+  op_in (region_op t) h k = (h, k.0)
+
+  pub written_in : (w : Written) → IsWritten w → AreInScope scope w → IsWrittenIn w
+  written_in (plain o) h k = op_in o h k
+  written_in (call p ts) h k = (h.0, h.1, h.2, each_in ts h.3 k)
+
+  further_back : (word : Text) (f : List Term → Rule Text Line) (ws : List Text) (x : Line) → the word word ≡ Some tt → Without word ws → (n : ℕ) (us front : List Term) → length us ≤ n → Each IsIn us
+      → Derives (f (front ++ us)) ws x → Derives (further_terms scope word f n front) (terms_after word us ++ ws) x
+  further_back word f ws x same none zero [] front le h d = subst (λ (ts : List Term). Derives (f ts) ws x) (append-nil front) d
+  further_back word f ws x same none zero (u ∷ us) front le h d = absurd (omega arith)
+  further_back word f ws x same none (suc n) [] front le h d =
+      rest_derives (the word) (λ _. next (term_of scope) (λ t. further_terms scope word f n (front ++ t ∷ []))) (f front) ws x none (subst (λ (ts : List Term). Derives (f ts) ws x) (append-nil front) d)
+  further_back word f ws x same none (suc n) (u ∷ us) front le h d =
+      also_derives (the word) (λ _. next (term_of scope) (λ t. further_terms scope word f n (front ++ t ∷ []))) (f front) word tt (term_text u ∷ (terms_after word us ++ ws)) x same
+      (next_derives (term_of scope) (λ t. further_terms scope word f n (front ++ t ∷ [])) (term_text u) u (terms_after word us ++ ws) x (term_back scope u h.0)
+      (further_back word f ws x same none n us (front ++ u ∷ []) (omega arith) h.1 (subst (λ (ts : List Term). Derives (f ts) ws x) (sym (append_assoc front (u ∷ []) us)) d)))
+
+  module _ (mk : Op → Line) where
+    abbrev last : Op → Rule Text Line
+    last op = ends (mk op)
+
+    statistic_back : (s : Stat) (ts : List Term) → IsOpIn (local_op s ts) → Derives (statistic_body scope s last) (codes "of" ∷ terms_texts ts) (mk (local_op s ts))
+    statistic_back s [] h = absurd (let l = h.0 in omega arith)
+    statistic_back s (a ∷ []) h = absurd (let l = h.0 in omega arith)
+    statistic_back s (a ∷ b ∷ us) h =
+        let x = mk (local_op s (a ∷ b ∷ us)) in
+        let l = h.1 in
+        let rest = terms_after (codes "and") us in
+        next_derives (term_of scope) _ (term_text a) a (codes "and" ∷ term_text b ∷ rest) x (term_back scope a h.2.0)
+        (next_derives (term_of scope) (λ b. further_terms scope (codes "and") (λ ts. last (local_op s ts)) 6 (a ∷ b ∷ [])) (term_text b) b rest x (term_back scope b h.2.1.0) (subst (λ ws. Derives (further_terms scope (codes "and") (λ ts. last (local_op s ts)) 6 (a ∷ b ∷ [])) ws x) (append-nil rest) (further_back (codes "and") (λ ts. last (local_op s ts)) [] x refl (without_nil (codes "and")) 6 us (a ∷ b ∷ []) (omega arith) h.2.1.1 refl)))
+
+    pair_back : (word : Text) (make : Term → Term → Op) (a b : Term) → the word word ≡ Some tt → IsIn a → IsIn b → Derives (pair_body scope word make last) (codes "of" ∷ term_text a ∷ word ∷ term_text b ∷ []) (mk (make a b))
+    pair_back word make a b same p q =
+        next_derives (term_of scope) _ (term_text a) a (word ∷ term_text b ∷ []) (mk (make a b)) (term_back scope a p)
+        (next_derives (the word) _ word tt (term_text b ∷ []) (mk (make a b)) same
+        (next_derives (term_of scope) (λ b. last (make a b)) (term_text b) b [] (mk (make a b)) (term_back scope b q) refl))
+
+  no_to : (rs : List Rate) → Without (codes "to") (rates_texts rs)
+  no_to [] w us e = absurd cc
+  no_to (r ∷ rs) w us e = let h : codes "with" ≡ w = cc in ap (the (codes "to")) (sym h)
+
+  optional_back : (word : Text) (default z : ℤ) (g : ℤ → Rule Text Line) (ws : List Text) (x : Line) → the word word ≡ Some tt → IsTrue (is_value z) → Without word ws → Derives (g z) ws x
+      → Derives (optional_part word value_of default g) (optional_texts word default z ++ ws) x
+  optional_back word default z g ws x same h none d = go (int_eq z default) refl
+    where
+      go : (b : Bool) → int_eq z default ≡ b → Derives (optional_part word value_of default g) (cond b [] (word ∷ signed_decimal z ∷ []) ++ ws) x
+      go true e =
+          let left_out : z ≡ default = (Decides-int_eq z default).0 e in
+          rest_derives (the word) (λ _. next value_of g) (g default) ws x none (subst (λ (y : ℤ). Derives (g y) ws x) left_out d)
+      go false e =
+          also_derives (the word) (λ _. next value_of g) (g default) word tt (signed_decimal z ∷ ws) x same
+          (next_derives value_of g (signed_decimal z) z ws x (value_back z h) d)
+
+  rate_back : (g : Rate → Rule Text Line) (r : Rate) (ws : List Text) (x : Line) → IsRate r → Without (codes "to") ws → Derives (g r) ws x
+      → Derives (rate_part g) (cell_text r.give ∷ codes "for" ∷ signed_decimal r.low ∷ (optional_texts (codes "to") r.low r.high ++ ws)) x
+  rate_back g r ws x h none d =
+      let rest = optional_texts (codes "to") r.low r.high ++ ws in
+      next_derives cell_of _ (cell_text r.give) r.give (codes "for" ∷ signed_decimal r.low ∷ rest) x (cell_back r.give h.give)
+      (next_derives value_of _ (signed_decimal r.low) r.low rest x (value_back r.low h.low)
+      (optional_back (codes "to") r.low r.high (λ high. g (record { low = r.low; high = high; give = r.give })) ws x refl h.high none d))
+
+  module _ (mk : List Rate → Line) where
+    with_back : (n : ℕ) (rs front : List Rate) → length rs ≤ n → Each IsRate rs → Derives (with_rates (λ rs. ends (mk rs)) n front) (rates_texts rs) (mk (front ++ rs))
+    with_back zero [] front le h = ap (λ rs. Some (mk rs)) (sym (append-nil front))
+    with_back zero (r ∷ rs) front le h = absurd (omega arith)
+    with_back (suc n) [] front le h = ap (λ rs. Some (mk rs)) (sym (append-nil front))
+    with_back (suc n) (r ∷ rs) front le h =
+        let g = λ (one : Rate). with_rates (λ rs. ends (mk rs)) n (front ++ one ∷ []) in
+        also_derives (the (codes "with")) (λ _. rate_part g) (ends (mk front)) (codes "with") tt (cell_text r.give ∷ codes "for" ∷ signed_decimal r.low ∷ (optional_texts (codes "to") r.low r.high ++ rates_texts rs)) (mk (front ++ r ∷ rs)) refl
+        (rate_back g r (rates_texts rs) (mk (front ++ r ∷ rs)) h.0 (no_to rs)
+        (subst (λ (us : List Rate). Derives (g r) (rates_texts rs) (mk us)) (append_assoc front (r ∷ []) rs) (with_back n rs (front ++ r ∷ []) (omega arith) h.1)))
+
+  rating_back : (mk : Op → Line) (t : Term) (rs : List Rate) → IsOpIn (rating_op t rs) → Derives (rating_body scope (λ op. ends (mk op))) (codes "of" ∷ term_text t ∷ rates_texts rs) (mk (rating_op t rs))
+  rating_back mk t [] h = absurd (let l = h.1 in omega arith)
+  rating_back mk t (r ∷ rs) h =
+      let x = mk (rating_op t (r ∷ rs)) in
+      let l = h.2 in
+      let g = λ (one : Rate). with_rates (λ rs. ends (mk (rating_op t rs))) 31 (one ∷ []) in
+      next_derives (term_of scope) _ (term_text t) t (rates_texts (r ∷ rs)) x (term_back scope t h.0)
+      (rate_back g r (rates_texts rs) x h.3.0 (no_to rs) (with_back (λ rs. mk (rating_op t rs)) 31 rs (r ∷ []) (omega arith) h.3.1))
+
+  -- a part of one place that may be left out
+  part_back : {A : Type 0} (word : Text) (place : Text → Option A) (default v : A) (t : Text) (b : Bool) (g : A → Rule Text Line) (ws : List Text) (x : Line) → the word word ≡ Some tt → (b ≡ true → v ≡ default) → place t ≡ Some v → Without word ws
+      → Derives (g v) ws x → Derives (optional_part word place default g) (cond b [] (word ∷ t ∷ []) ++ ws) x
+  part_back {A} word place default v t true g ws x same left_out h none d = rest_derives (the word) (λ _. next place g) (g default) ws x none (subst (λ (y : A). Derives (g y) ws x) (left_out refl) d)
+  part_back word place default v t false g ws x same left_out h none d = also_derives (the word) (λ _. next place g) (g default) word tt (t ∷ ws) x same (next_derives place g t v ws x h d)
+
+  same_pos : (a b : ℕ) → int_eq (pos a) (pos b) ≡ true → a ≡ b
+  same_pos a b e = let same : pos a ≡ pos b = (Decides-int_eq (pos a) (pos b)).0 e in cc
+
+  -- a count that may be left out, at the end of a line
+  count_part_back : (word : Text) (low high default n : ℕ) (g : ℕ → Rule Text Line) (x : Line) → the word word ≡ Some tt → IsBetween low high n → n < 2 ^ 64 → Derives (g n) [] x
+      → Derives (optional_part word (count_of (pos low) (pos high)) default g) (optional_texts word (pos default) (pos n)) x
+  count_part_back word low high default n g x same h lt d =
+      subst (λ ws. Derives (optional_part word (count_of (pos low) (pos high)) default g) ws x) (append-nil (optional_texts word (pos default) (pos n)))
+      (part_back word (count_of (pos low) (pos high)) default n (decimal n) (int_eq (pos n) (pos default)) g [] x same (same_pos n default) (count_back low high n h lt) (without_nil word) d)
+
+  module _ (m : Manner) (mk : Op → Line) where
+    abbrev ended : Op → Rule Text Line
+    ended op = ends (mk op)
+
+    radius_back : (s : Stat) (r : Option ℕ) (t : Term) → IsRadius r → Derives (radius_part s t ended) (radius_texts r) (mk (focal_op s r t))
+    radius_back s None t h = refl
+    radius_back s (Some n) t h =
+        let lt : n < 2 ^ 64 = (let l = h.1 in omega arith) in
+        also_derives (the (codes "at")) (λ _. next disc_of (λ r. ended (focal_op s r t))) (ended (focal_op s None t)) (codes "at") tt (decimal n ∷ []) (mk (focal_op s (Some n) t)) refl
+        (next_derives disc_of (λ r. ended (focal_op s r t)) (decimal n) (Some n) [] (mk (focal_op s (Some n) t)) (ap (option_map Some) (count_back 1 32 n h lt)) refl)
+
+    no_word : (b : Bool) (word w : Text) → the word w ≡ None → maybe b (the word) w ≡ None
+    no_word true word w e = e
+    no_word false word w e = refl
+
+    no_radiating : (b : Bool) (r : Option ℕ) (w : Text) (us : List Text) → radius_texts r ≡ w ∷ us → maybe b (the (codes "radiating")) w ≡ None
+    no_radiating b None w us e = absurd cc
+    no_radiating b (Some n) w us e = let same : codes "at" ≡ w = cc in no_word b (codes "radiating") w (ap (the (codes "radiating")) (sym same))
+
+    abbrev near : Stat → Term → Rule Text Line
+    near s a = also (on (maybe (radiates m s) (the (codes "radiating"))) (λ _. sight_part scope a ended)) (radius_part s a ended)
+
+    focal_back : (s : Stat) (r : Option ℕ) (t : Term) → IsRadius r → IsIn t → Derives (focal_body scope m s ended) (codes "of" ∷ term_text t ∷ radius_texts r) (mk (focal_op s r t))
+    focal_back s r t h p =
+        next_derives (term_of scope) (near s) (term_text t) t (radius_texts r) (mk (focal_op s r t)) (term_back scope t p)
+        (rest_derives (maybe (radiates m s) (the (codes "radiating"))) (λ _. sight_part scope t ended) (radius_part s t ended) (radius_texts r) (mk (focal_op s r t)) (no_radiating (radiates m s) r) (radius_back s r t h))
+
+    heights_back : (s : Sighting) (t u : Term) → IsSighting s
+        → Derives (optional_part (codes "from") value_of (pos 0) (λ from. optional_part (codes "to") value_of (pos 0) (λ to. optional_part (codes "within") reach_of 64 (λ reach. ended (sight_op (record { from = from; to = to; reach = reach }) t u))))) (sight_texts s) (mk (sight_op s t u))
+    heights_back s t u h =
+        let x = mk (sight_op s t u) in
+        let within = optional_texts (codes "within") (pos 64) (pos s.reach) in
+        let lt : s.reach < 2 ^ 64 = (let l = h.reach.1 in omega arith) in
+        let no_from : Without (codes "from") within = subst (Without (codes "from")) (append-nil within) (without_optional (codes "from") (codes "within") (pos 64) (pos s.reach) [] refl (without_nil (codes "from"))) in
+        let no_to : Without (codes "to") within = subst (Without (codes "to")) (append-nil within) (without_optional (codes "to") (codes "within") (pos 64) (pos s.reach) [] refl (without_nil (codes "to"))) in
+        let from_rule = optional_part (codes "from") value_of (pos 0) (λ from. optional_part (codes "to") value_of (pos 0) (λ to. optional_part (codes "within") reach_of 64 (λ reach. ended (sight_op (record { from = from; to = to; reach = reach }) t u)))) in
+        subst (λ ws. Derives from_rule ws x) (sym (append_assoc (optional_texts (codes "from") (pos 0) s.from) (optional_texts (codes "to") (pos 0) s.to) within))
+        (optional_back (codes "from") (pos 0) s.from (λ from. optional_part (codes "to") value_of (pos 0) (λ to. optional_part (codes "within") reach_of 64 (λ reach. ended (sight_op (record { from = from; to = to; reach = reach }) t u)))) (optional_texts (codes "to") (pos 0) s.to ++ within) x refl h.from (without_optional (codes "from") (codes "to") (pos 0) s.to within refl no_from)
+        (optional_back (codes "to") (pos 0) s.to (λ to. optional_part (codes "within") reach_of 64 (λ reach. ended (sight_op (record { from = s.from; to = to; reach = reach }) t u))) within x refl h.to no_to
+        (count_part_back (codes "within") 1 64 64 s.reach (λ reach. ended (sight_op (record { from = s.from; to = s.to; reach = reach }) t u)) x refl h.reach lt refl)))
+
+    may_radiate : (b : Bool) → b ≡ true → maybe b (the (codes "radiating")) (codes "radiating") ≡ Some tt
+    may_radiate true e = refl
+    may_radiate false e = absurd cc
+
+    sight_back : (s : Sighting) (t u : Term) → m.sight ≡ true → IsSighting s → IsIn t → IsIn u → Derives (focal_body scope m Sum ended) (codes "of" ∷ term_text t ∷ codes "radiating" ∷ codes "on" ∷ term_text u ∷ sight_texts s) (mk (sight_op s t u))
+    sight_back s t u there h p q =
+        let x = mk (sight_op s t u) in
+        next_derives (term_of scope) (near Sum) (term_text t) t (codes "radiating" ∷ codes "on" ∷ term_text u ∷ sight_texts s) x (term_back scope t p)
+        (also_derives (maybe m.sight (the (codes "radiating"))) (λ _. sight_part scope t ended) (radius_part Sum t ended) (codes "radiating") tt (codes "on" ∷ term_text u ∷ sight_texts s) x (may_radiate m.sight there)
+        (next_derives (term_of scope) _ (term_text u) u (sight_texts s) x (term_back scope u q) (heights_back s t u h)))
+
+    friction_back : (g : Term → Rule Text Line) (u : Term) (ws : List Text) (x : Line) → IsIn u → Without (codes "spreading") ws → Derives (g u) ws x → Derives (friction_part scope g) (friction_texts u ++ ws) x
+    friction_back g (layer_term n) ws x h none d =
+        also_derives (the (codes "spreading")) (λ _. term_after scope (codes "in") g) (g (number_term (pos 1))) (codes "spreading") tt (codes "in" ∷ n ∷ ws) x refl (next_derives (term_of scope) g n (layer_term n) ws x (term_back scope (layer_term n) h) d)
+    friction_back g (number_term z) ws x h none d = go (int_eq z (pos 1)) refl
+      where
+        go : (b : Bool) → int_eq z (pos 1) ≡ b → Derives (friction_part scope g) (cond b [] (codes "spreading" ∷ codes "in" ∷ signed_decimal z ∷ []) ++ ws) x
+        go true e =
+            let one : z ≡ pos 1 = (Decides-int_eq z (pos 1)).0 e in
+            rest_derives (the (codes "spreading")) (λ _. term_after scope (codes "in") g) (g (number_term (pos 1))) ws x none (subst (λ (y : ℤ). Derives (g (number_term y)) ws x) one d)
+        go false e =
+            also_derives (the (codes "spreading")) (λ _. term_after scope (codes "in") g) (g (number_term (pos 1))) (codes "spreading") tt (codes "in" ∷ signed_decimal z ∷ ws) x refl
+            (next_derives (term_of scope) g (signed_decimal z) (number_term z) ws x (term_back scope (number_term z) h) d)
+
+    spread_back : (limit : ℕ) (t u : Term) → IsOpIn (spread_op limit t u) → Derives (spread_body scope ended) (codes "of" ∷ term_text t ∷ (friction_texts u ++ optional_texts (codes "within") vmax (pos limit))) (mk (spread_op limit t u))
+    spread_back limit t u h =
+        let x = mk (spread_op limit t u) in
+        let within = optional_texts (codes "within") vmax (pos limit) in
+        let lt : limit < 2 ^ 64 = (let l = h.0 in omega arith) in
+        let no_spreading : Without (codes "spreading") within = subst (Without (codes "spreading")) (append-nil within) (without_optional (codes "spreading") (codes "within") vmax (pos limit) [] refl (without_nil (codes "spreading"))) in
+        next_derives (term_of scope) _ (term_text t) t (friction_texts u ++ within) x (term_back scope t h.1)
+        (friction_back (λ friction. optional_part (codes "within") limit_of greatest_value (λ limit. ended (spread_op limit t friction))) u within x h.2 no_spreading
+        (count_part_back (codes "within") 0 greatest_value greatest_value limit (λ limit. ended (spread_op limit t u)) x refl (omega arith, h.0) lt refl))
+
+    single_back : (make : Term → Op) (t : Term) → IsIn t → Derives (single_body scope make ended) (codes "of" ∷ term_text t ∷ []) (mk (make t))
+    single_back make t p = next_derives (term_of scope) (λ a. ended (make a)) (term_text t) t [] (mk (make t)) (term_back scope t p) refl
+
+    direction_back : (t : Term) → IsIn t → Derives (drainage_body scope ended) (codes "of" ∷ term_text t ∷ []) (mk (direction_op t))
+    direction_back t p = next_derives (term_of scope) (λ a. optional_part (codes "carrying") (weights_of scope) None (λ w. ended (drainage_op a w))) (term_text t) t [] (mk (direction_op t)) (term_back scope t p) refl
+
+    flow_back : (t u : Term) → IsIn t → IsIn u → Derives (drainage_body scope ended) (codes "of" ∷ term_text t ∷ codes "carrying" ∷ term_text u ∷ []) (mk (flow_op t u))
+    flow_back t u p q =
+        let x = mk (flow_op t u) in
+        next_derives (term_of scope) (λ a. optional_part (codes "carrying") (weights_of scope) None (λ w. ended (drainage_op a w))) (term_text t) t (codes "carrying" ∷ term_text u ∷ []) x (term_back scope t p)
+        (also_derives (the (codes "carrying")) (λ _. next (weights_of scope) (λ w. ended (drainage_op t w))) (ended (direction_op t)) (codes "carrying") tt (term_text u ∷ []) x refl
+        (next_derives (weights_of scope) (λ w. ended (drainage_op t w)) (term_text u) (Some u) [] x (ap (option_map Some) (term_back scope u q)) refl))
+
+  -- ---- bodies
+
+  form_back : (f : incremental.Form) → form_of (form_row f) ≡ f
+  form_back linkage_form = refl
+  form_back length_form = refl
+  form_back partition_form = refl
+  form_back frontage_form = refl
+  form_back gradient_form = refl
+  form_back aspect_form = refl
+
+  module _ (m : Manner) (mk : Written → Line) where
+    abbrev whole : Written → Rule Text Line
+    whole w = ends (mk w)
+
+    abbrev done : Op → Line
+    done op = mk (plain op)
+
+    abbrev callers : Text → Rule Text Line
+    callers p = call_body scope (λ ts. whole (call p ts))
+
+    -- an operation's name, and then what follows it
+    by_name : (o : Operation) (ws : List Text) (x : Line) → HasRow m o → IsRow o → Derives (operation_body scope m (λ op. ends (done op)) o) ws x → Derives (body_rule scope m whole) (operation_text o ∷ ws) x
+    by_name o ws x there row d = also_derives (operation_named m) (operation_body scope m (λ op. ends (done op))) (node None (on (call_of m) callers)) (operation_text o) o ws x (named_back m o there row) d
+
+    op_back : (o : Op) → IsOpIn o → IsOpThere m o → Derives (body_rule scope m whole) (op_texts o) (mk (plain o))
+    op_back (local_op s ts) h there = by_name (Local s) (codes "of" ∷ terms_texts ts) (done (local_op s ts)) there tt (statistic_back done s ts h)
+    op_back (difference_op l r) h there = by_name Difference (codes "of" ∷ term_text l ∷ codes "and" ∷ term_text r ∷ []) (done (difference_op l r)) there tt (pair_back done (codes "and") difference_op l r refl h.0 h.1)
+    op_back (ratio_op l r) h there = by_name Ratio (codes "of" ∷ term_text l ∷ codes "and" ∷ term_text r ∷ []) (done (ratio_op l r)) there tt (pair_back done (codes "and") ratio_op l r refl h.0 h.1)
+    op_back (rating_op t rs) h there = by_name Rating (codes "of" ∷ term_text t ∷ rates_texts rs) (done (rating_op t rs)) there tt (rating_back done t rs h)
+    op_back (focal_op s r t) h there = by_name (Focal s) (codes "of" ∷ term_text t ∷ radius_texts r) (done (focal_op s r t)) there h.0 (focal_back m done s r t h.1 h.2)
+    op_back (zonal_op s t u) h there = by_name (Zonal s) (codes "of" ∷ term_text t ∷ codes "within" ∷ term_text u ∷ []) (done (zonal_op s t u)) there h.0 (pair_back done (codes "within") (zonal_op s) t u refl h.1 h.2)
+    op_back (form_op f t) h there =
+        by_name (Incremental (form_row f)) (codes "of" ∷ term_text t ∷ []) (done (form_op f t)) there tt
+        (subst (λ g. Derives (single_body scope (form_op (form_of (form_row f))) (λ op. ends (done op))) (codes "of" ∷ term_text t ∷ []) (done (form_op g t))) (form_back f) (single_back m done (form_op (form_of (form_row f))) t h))
+    op_back (direction_op t) h there = by_name Drainage (codes "of" ∷ term_text t ∷ []) (done (direction_op t)) there tt (direction_back m done t h)
+    op_back (flow_op t u) h there = by_name Drainage (codes "of" ∷ term_text t ∷ codes "carrying" ∷ term_text u ∷ []) (done (flow_op t u)) there tt (flow_back m done t u h.0 h.1)
+    op_back (spread_op limit t u) h there =
+        by_name Proximity (codes "of" ∷ term_text t ∷ (friction_texts u ++ optional_texts (codes "within") vmax (pos limit))) (done (spread_op limit t u)) there tt (spread_back m done limit t u h)
+    op_back (sight_op s t u) h there =
+        by_name (Focal Sum) (codes "of" ∷ term_text t ∷ codes "radiating" ∷ codes "on" ∷ term_text u ∷ sight_texts s) (done (sight_op s t u)) there.0 tt (sight_back m done s t u there.1 h.0 h.1 h.2)
+    op_back (region_op t) h there = by_name Insularity (codes "of" ∷ term_text t ∷ []) (done (region_op t)) there tt (single_back m done region_op t h)
+
+    call_there : (b : Bool) (p : Text) → b ≡ true → is_plain p ≡ true → maybe b name_of p ≡ Some p
+    call_there true p e h = name_back p h
+    call_there false p e h = absurd cc
+
+    no_close : (us : List Text) → Without (codes ",") (codes ")" ∷ us)
+    no_close us w vs e = let same : codes ")" ≡ w = cc in ap (the (codes ",")) (sym same)
+
+    call_back : (p : Text) (ts : List Term) → m.calls ≡ true → IsWrittenIn (call p ts) → Derives (body_rule scope m whole) (p ∷ given_texts ts) (mk (call p ts))
+    call_back p [] there h = absurd (let l = h.1 in omega arith)
+    call_back p (a ∷ us) there h =
+        let x = mk (call p (a ∷ us)) in
+        let ws = term_text a ∷ (terms_after (codes ",") us ++ codes ")" ∷ []) in
+        let few : length us ≤ 7 = (let l = h.2 in omega arith) in
+        let r = node None (on (call_of m) callers) in
+        rest_derives (operation_named m) (operation_body scope m (λ op. ends (done op))) r (p ∷ codes "(" ∷ ws) x
+        (λ w us e. (let same : p ≡ w = cc in subst (λ q. operation_named m q ≡ None) same (no_operation m p h.0)))
+        (next_derives (call_of m) callers p p (codes "(" ∷ ws) x (call_there m.calls p there h.0)
+        (next_derives (term_of scope) (λ a. further_terms scope (codes ",") (λ ts. next (the (codes ")")) (λ _. whole (call p ts))) 7 (a ∷ [])) (term_text a) a (terms_after (codes ",") us ++ codes ")" ∷ []) x (term_back scope a h.3.0)
+        (further_back (codes ",") (λ ts. next (the (codes ")")) (λ _. whole (call p ts))) (codes ")" ∷ []) x refl (no_close []) 7 us (a ∷ []) few h.3.1 refl)))
+
+  pub body_back : (m : Manner) (mk : Written → Line) (w : Written) → IsWrittenIn w → IsWrittenThere m w → Derives (body_rule scope m (λ w. ends (mk w))) (written_tail w) (mk w)
+  body_back m mk (plain o) h there = op_back m mk o h there
+  body_back m mk (call p ts) h there = call_back m mk p ts there h
+
+-- ---- lines
+
+all_anywhere : (ts : List Term) → Each (InScope anywhere) ts
+all_anywhere [] = tt
+all_anywhere (layer_term n ∷ ts) = (refl, all_anywhere ts)
+all_anywhere (number_term z ∷ ts) = (tt, all_anywhere ts)
+
+written_anywhere : (w : Written) → AreInScope anywhere w
+written_anywhere (plain o) = all_anywhere (terms_of o)
+written_anywhere (call p ts) = all_anywhere ts
 
 pub words_back : (m : Manner) (n : Text) (w : Written) → IsTrue (is_plain n) → IsWritten w → IsWrittenThere m w → IsLine m (written_texts n w) (edit (define n w))
-words_back m n w p h there = start (command_named m n) (name_of n) (no_command m n p) (name_back n p) (body_back m (λ w. edit (define n w)) w h there)
+words_back m n w p h there = start (command_named m n) (name_of n) (no_command m n p) (name_back n p) (body_back anywhere m (λ w. edit (define n w)) w (written_in anywhere w h (written_anywhere w)) there)
   where
     start : (c : Option Command) (named : Option Text) → c ≡ None → named ≡ Some n → Derives (define_rule m n) (codes "=" ∷ written_tail w) (edit (define n w))
-        → Derives (or_rule (after c command_rule) (after named (define_rule m))) (codes "=" ∷ written_tail w) (edit (define n w))
+        → Derives (or_rule (after c (command_rule m)) (after named (define_rule m))) (codes "=" ∷ written_tail w) (edit (define n w))
     start None None e f d = absurd cc
     start None (Some k) e f d = let same : n ≡ k = cc in subst (λ (t : Text). Derives (define_rule m t) (codes "=" ∷ written_tail w) (edit (define n w))) same d
     start (Some c) named e f d = absurd cc

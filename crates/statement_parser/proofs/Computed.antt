@@ -4,6 +4,7 @@ use Rattle.std.specs.Prelude.{codes}
 use Rattle.map_words.specs.Bytes.{Text, first_bad, is_silent}
 use Rattle.map_words.specs.Names.{is_plain, is_dotted, is_reserved, is_among}
 use Rattle.map_words.specs.Numbers.{number_text}
+use Rattle.grammar_core.specs.declared.Kind.TheVariants.{Syntax}
 use Rattle.grammar_core.specs.declared.Fault.{Fault}
 use Rattle.grammar_core.proofs.FirstFault.{found_so, refused_so}
 use Rattle.statement_parser.specs.Lines.{Manner, Line}
@@ -14,10 +15,12 @@ use Rattle.statement_parser.specs.Grammar.{line_rule}
 use Rattle.statement_parser.specs.ReadBodies.{statistic_at, pair_at, difference_at, ratio_at, rating_at, radius_at, sight_at, reaching_at, focal_at, spread_at, given_at, call_at, plain_at, body_at}
 use Rattle.statement_parser.specs.ReadParts.{term_after_at, further_at, optional_at, range_at, rate_at, with_at, friction_at}
 use Rattle.statement_parser.specs.ReadLine.{define_at, line_at, quit_at}
+use Rattle.statement_parser.specs.ReadProcedures.{names_at, parameters_at, inner_at, result_at, named_inner_at, statements_at, procedure_at}
+use Rattle.statement_parser.specs.ReadLabels.{bytes_at, label_at, symbol_at}
 use Rattle.statement_parser.specs.ReadCommands.{corners_at, paint_at, new_at, drop_at, value_at, any_line_at, table_at, list_at}
 use Rattle.statement_parser.specs.Texts.{seen, is_short, LineText, silent, worded, refusal_of, RefusedText, bad_byte, bad_word}
 use Rattle.statement_parser.specs.Columns.{column}
-use Rattle.statement_parser.specs.Worked.{first_rows, all_rows, Worked}
+use Rattle.statement_parser.specs.Worked.{first_rows, all_rows, WorkedProcedures, Worked}
 use Rattle.statement_parser.proofs.SoundLines.{healthy_line}
 use Rattle.statement_parser.proofs.ReadsLines.{line_reads}
 
@@ -27,8 +30,20 @@ line_row m bytes x s e f h = worded s e f (found_so (tests m) (line_rule m) (see
 refused_row : (m : Manner) (bytes : Text) (f : Fault) → is_short bytes ≡ true → is_silent bytes ≡ false → first_bad bytes ≡ None → line_at m (seen bytes) ≡ Err f → RefusedText m bytes (refusal_of f.kind (column bytes f.left))
 refused_row m bytes f s e g h = bad_word f.kind f.left s e g (refused_so (tests m) (line_rule m) (seen bytes) f (healthy_line m).sound refl (sym (line_reads m (seen bytes)) ∙ h))
 
+procedure_rows : WorkedProcedures
+unfolding line_at names_at parameters_at inner_at result_at named_inner_at statements_at procedure_at bytes_at label_at symbol_at define_at corners_at paint_at new_at drop_at value_at any_line_at table_at list_at quit_at term_after_at further_at optional_at statistic_at pair_at difference_at ratio_at range_at rate_at with_at rating_at radius_at sight_at reaching_at focal_at friction_at spread_at given_at call_at plain_at body_at operation_named find_operation command_named find_command is_plain is_dotted is_reserved is_among number_text
+procedure_rows = record {
+  made = line_row all_rows (codes "procedure Twice(P, K): x = LocalSum of P and K; result = LocalProduct of x and 2") _ refl refl refl refl;
+  no_result = refused_row all_rows (codes "procedure Q(P): x = LocalSum of P and 1") (record { kind = Syntax; left = 0 }) refl refl refl refl;
+  no_result_yet = refused_row all_rows (codes "procedure Q(P): x = LocalSum of P and 1; ") (record { kind = Syntax; left = 0 }) refl refl refl refl;
+  later_name = refused_row all_rows (codes "procedure Q(P): x = LocalSum of P and y; y = LocalSum of x and 1") (record { kind = Syntax; left = 9 }) refl refl refl refl;
+  after_result = refused_row all_rows (codes "procedure Q(P): result = LocalSum of P and 1; y = LocalSum of P and 1") (record { kind = Syntax; left = 8 }) refl refl refl refl;
+  same_parameter = refused_row all_rows (codes "procedure Q(P, P): result = LocalSum of P and 1") (record { kind = Syntax; left = 10 }) refl refl refl refl;
+  same_inner = refused_row all_rows (codes "procedure Q(P): P = LocalSum of P and 1") (record { kind = Syntax; left = 7 }) refl refl refl refl;
+}
+
 pub rows : Worked
-unfolding line_at define_at corners_at paint_at new_at drop_at value_at any_line_at table_at list_at quit_at term_after_at further_at optional_at statistic_at pair_at difference_at ratio_at range_at rate_at with_at rating_at radius_at sight_at reaching_at focal_at friction_at spread_at given_at call_at plain_at body_at operation_named find_operation command_named find_command is_plain is_dotted is_reserved is_among number_text
+unfolding line_at names_at parameters_at inner_at result_at named_inner_at statements_at procedure_at bytes_at label_at symbol_at define_at corners_at paint_at new_at drop_at value_at any_line_at table_at list_at quit_at term_after_at further_at optional_at statistic_at pair_at difference_at ratio_at range_at rate_at with_at rating_at radius_at sight_at reaching_at focal_at friction_at spread_at given_at call_at plain_at body_at operation_named find_operation command_named find_command is_plain is_dotted is_reserved is_among number_text
 rows = record {
   empty = silent refl refl;
   note = silent refl refl;
@@ -60,6 +75,14 @@ rows = record {
   spread = line_row all_rows (codes "C = FocalProximity of A spreading in 2 within 7") _ refl refl refl refl;
   called = line_row all_rows (codes "C=Twice(A,3)") _ refl refl refl refl;
   tabled = line_row all_rows (codes "table A.b C") _ refl refl refl refl;
+  labelled = line_row all_rows (codes "label A 5=x  y ") _ refl refl refl refl;
+  signed = line_row all_rows (codes "symbol A -1; ") _ refl refl refl refl;
+  joined_label = refused_row all_rows (codes "label A 5x") _ refl refl refl refl;
+  no_text = refused_row all_rows (codes "label A 5 ") _ refl refl refl refl;
+  longest_label = refused_row all_rows (codes "label A 5 0123456789012345678901234567890123456789012345678901234567890123 4") _ refl refl refl refl;
+  two_signs = refused_row all_rows (codes "symbol A 1 a b") _ refl refl refl refl;
+  no_sign = refused_row all_rows (codes "symbol A 1") _ refl refl refl refl;
+  procedures = procedure_rows;
   far = refused_row all_rows (codes "C = FocalMean of A at 33") _ refl refl refl refl;
   no_mean = refused_row all_rows (codes "C = FocalMean of A radiating on B") _ refl refl refl refl;
   no_product = refused_row all_rows (codes "C = FocalProduct of A") _ refl refl refl refl;

@@ -1,7 +1,8 @@
 -- Every line that is read is formed, and there.
-use Rattle.std.proofs.Common.{◌≡◌, ◌+◌, ◌≤◌, ℕ, zero, suc, ℤ, pos, negsuc, Bool, true, false, cond, ◌&&◌, ◌||◌, List, [], ◌∷◌, ◌++◌, length, Option, Some, None, refl, sym, ap, subst, arith, length-append, find}
+use Rattle.std.proofs.Common.{◌≡◌, ◌+◌, ◌≤◌, ℕ, zero, suc, ℤ, pos, negsuc, Bool, true, false, cond, not, ◌&&◌, ◌||◌, List, [], ◌∷◌, ◌++◌, length, Option, Some, None, refl, sym, subst, arith, append_assoc, length-append, find}
 use Rattle.std.specs.Prelude.{codes, bytes_eq, int_le, nat_abs, option_map, IsTrue, nat_le}
 use Rattle.std.proofs.lemmas.Bool.{leb-true}
+use Rattle.std.proofs.lemmas.List.{append-nil}
 use Rattle.map_nums.specs.declared.Stat.{Stat}
 use Rattle.map_nums.specs.declared.Stat.TheVariants as stats
 use Rattle.map_nums.specs.declared.Rate.{Rate}
@@ -11,30 +12,33 @@ use Rattle.map_words.specs.Names.{is_plain, is_dotted}
 use Rattle.map_words.specs.Numbers.{number_text, if_between}
 use Rattle.grammar_core.specs.Rules.{Rule, ends, on, next}
 use Rattle.grammar_core.proofs.Ends.{AllEnds, each_end, ends_on, ends_next, ends_or, ends_also}
-use Rattle.map_defs.specs.Ops.{Term, layer_term, number_term, Op, local_op, difference_op, ratio_op, rating_op, focal_op, zonal_op, form_op, direction_op, flow_op, spread_op, sight_op, region_op}
+use Rattle.map_defs.specs.Ops.{Term, layer_term, number_term, terms_of, Op, local_op, difference_op, ratio_op, rating_op, focal_op, zonal_op, form_op, direction_op, flow_op, spread_op, sight_op, region_op}
 use Rattle.map_defs.specs.Sight.{Sighting}
-use Rattle.map_defs.specs.Statements.{plain, call}
-use Rattle.statement_parser.specs.Lines.{Manner, define, paint, new_layer, drop, ask_value, ask_grid, ask_show, ask_legend, ask_table, ask_stamps, ask_list, Line, edit, ask, quit}
+use Rattle.map_defs.specs.Statements.{Written, plain, call, Inner}
+use Rattle.statement_parser.specs.Lines.{Manner, define, paint, new_layer, drop, put_label, put_symbol, ask_value, ask_grid, ask_show, ask_legend, ask_table, ask_stamps, ask_list, Line, edit, ask, quit}
 use Rattle.statement_parser.specs.Forms.{form_of, form_row}
+use Rattle.statement_parser.specs.Scopes.{Scope, anywhere, has_name, names_before}
+use Rattle.statement_parser.specs.ProcedureRules.{fresh_of, further_names, inner_part, result_rule, statements_rule, procedure_line, procedure_rule}
 use Rattle.statement_parser.specs.Operations.{operations, operation_text, find_operation, has_row, operation_named}
 use Rattle.statement_parser.specs.Places.{the, maybe, name_of, any_of, value_of, count_of, side_of, disc_of, reach_of, limit_of, term_of, weights_of, cell_of, call_of}
-use Rattle.statement_parser.specs.Bodies.{term_after, further_terms, optional_part, statistic_body, pair_body, rate_part, with_rates, rating_body, radius_part, sight_part, radiates, focal_body, friction_part, spread_body, drainage_op, drainage_body, operation_body, call_body}
+use Rattle.statement_parser.specs.Bodies.{term_after, further_terms, optional_part, statistic_body, pair_body, rate_part, with_rates, rating_body, radius_part, sight_part, radiates, focal_body, friction_part, spread_body, drainage_op, drainage_body, operation_body, call_body, body_rule}
 use Rattle.statement_parser.specs.Commands.{commands, command_text, find_command, has_command, command_named}
-use Rattle.statement_parser.specs.Grammar.{body_rule, define_rule, command_rule, line_rule, IsLine}
+use Rattle.statement_parser.specs.Grammar.{define_rule, command_rule, line_rule}
 use Rattle.std.specs.Prelude.{IfOk, Result, Ok, Err}
 use Rattle.statement_parser.specs.declared.refusal.LineRefusal.{LineRefusal}
 use Rattle.statement_parser.specs.Texts.{seen, LineText, silent, worded}
 use Rattle.statement_parser.specs.Parsed.{IsParsed}
 use Rattle.layer_tiles.specs.Cells.{IsCell}
-use Rattle.statement_parser.specs.Formed.{Each, IsTerm, IsRate, IsNoProduct, IsBetween, IsRadius, IsSighting, IsOp, IsSide, IsAny, IsFormed}
-use Rattle.statement_parser.specs.There.{HasRow, HasCommand, IsOpThere, IsThere}
+use Rattle.statement_parser.specs.Formed.{Each, InScope, AreInScope, IsFresh, AreFresh, IsInner, AreInner, IsBody, IsTerm, IsRate, IsNoProduct, IsBetween, IsRadius, IsSighting, IsOp, IsWritten, IsSide, IsAny, IsFormed}
+use Rattle.statement_parser.specs.There.{HasRow, HasCommand, IsOpThere, IsWrittenThere, AreInnerThere, IsThere}
+use Rattle.statement_parser.proofs.LabelRules.{text_ends, sign_ends}
 use Rattle.std.proofs.lemmas.Slice.Eq.{bytes_eq-Decides}
 use Rattle.statement_parser.specs.declared.op.Form.{Form}
 use Rattle.statement_parser.specs.declared.op.Form.TheVariants.{Linkage, Length, Partition, Frontage, Gradient, Aspect}
 use Rattle.statement_parser.specs.declared.operation.Operation.{Operation}
 use Rattle.statement_parser.specs.declared.operation.Operation.TheVariants.{Local, Difference, Ratio, Rating, Focal, Proximity, Insularity, Zonal, Incremental, Drainage}
 use Rattle.statement_parser.specs.declared.command.Command.{Command}
-use Rattle.statement_parser.specs.declared.command.Command.TheVariants.{Paint, New, Drop, Value, Grid, Show, Legend, Table, Stamps, List as Listing, Quit}
+use Rattle.statement_parser.specs.declared.command.Command.TheVariants.{Procedure, Paint, New, Drop, Label, Symbol, Value, Grid, Show, Legend, Table, Stamps, List as Listing, Quit}
 
 -- ---- what a place gives
 
@@ -78,12 +82,20 @@ count_formed low high w n e =
 disc_formed : (w : Text) (r : Option ℕ) → disc_of w ≡ Some r → IsRadius r
 disc_formed w r e = let h = map_some Some (count_of (pos 1) (pos 32) w) r e in subst IsRadius h.2 (count_formed 1 32 w h.0 h.1)
 
-term_formed : (w : Text) (t : Term) → term_of w ≡ Some t → IsTerm t
-term_formed w t e = go (is_plain w) refl e
+-- a term that may stand in the scope
+abbrev IsTermIn : Scope → Term → Type 0
+IsTermIn scope t = IsTerm t × InScope scope t
+
+term_formed : (scope : Scope) (w : Text) (t : Term) → term_of scope w ≡ Some t → IsTermIn scope t
+term_formed scope w t e = go (is_plain w) (scope w) refl refl e
   where
-    go : (b : Bool) → is_plain w ≡ b → cond b (Some (layer_term w)) (option_map number_term (value_of w)) ≡ Some t → IsTerm t
-    go true p e = let h : layer_term w ≡ t = cc in subst IsTerm h p
-    go false p e = let h = map_some number_term (value_of w) t e in subst IsTerm h.2 (value_formed w h.0 h.1)
+    number : option_map number_term (value_of w) ≡ Some t → IsTermIn scope t
+    number e = let h = map_some number_term (value_of w) t e in subst (IsTermIn scope) h.2 (value_formed w h.0 h.1, tt)
+
+    go : (b c : Bool) → is_plain w ≡ b → scope w ≡ c → cond (b && c) (Some (layer_term w)) (option_map number_term (value_of w)) ≡ Some t → IsTermIn scope t
+    go true true p q e = let h : layer_term w ≡ t = cc in subst (IsTermIn scope) h (p, q)
+    go true false p q e = number e
+    go false c p q e = number e
 
 cell_formed : (w : Text) (c : Option ℤ) → cell_of w ≡ Some c → IsCell c
 cell_formed w c e = go (bytes_eq w (codes "null")) e
@@ -93,12 +105,12 @@ cell_formed w c e = go (bytes_eq w (codes "null")) e
     go false e = let h = map_some Some (value_of w) c e in subst IsCell h.2 (value_formed w h.0 h.1)
 
 -- the terms of a part that may be left out
-abbrev AreWeights : Option Term → Type 0
-AreWeights None = Unit {0}
-AreWeights (Some t) = IsTerm t
+abbrev AreWeights : Scope → Option Term → Type 0
+AreWeights scope None = Unit {0}
+AreWeights scope (Some t) = IsTermIn scope t
 
-weights_formed : (w : Text) (t : Option Term) → weights_of w ≡ Some t → AreWeights t
-weights_formed w t e = let h = map_some Some (term_of w) t e in subst AreWeights h.2 (term_formed w h.0 h.1)
+weights_formed : (scope : Scope) (w : Text) (t : Option Term) → weights_of scope w ≡ Some t → AreWeights scope t
+weights_formed scope w t e = let h = map_some Some (term_of scope w) t e in subst (AreWeights scope) h.2 (term_formed scope w h.0 h.1)
 
 maybe_some : {A : Type 0} (b : Bool) (f : Text → Option A) (w : Text) (v : A) → maybe b f w ≡ Some v → (b ≡ true) × (f w ≡ Some v)
 maybe_some true f w v e = (refl, e)
@@ -139,7 +151,7 @@ abbrev IsAnyCommand : Command → Type 0
 IsAnyCommand c = Unit {0}
 
 all_commands : Each IsAnyCommand commands
-all_commands = (tt, (tt, (tt, (tt, (tt, (tt, (tt, (tt, (tt, (tt, (tt, tt)))))))))))
+all_commands = (tt, (tt, (tt, (tt, (tt, (tt, (tt, (tt, (tt, (tt, (tt, (tt, (tt, (tt, tt))))))))))))))
 
 command_there : (m : Manner) (w : Text) (c : Command) → command_named m w ≡ Some c → HasCommand m c
 unfolding command_named find_command
@@ -172,9 +184,6 @@ module _ (m : Manner) where
   then_the : (word : Text) (r : Unit {0} → Rule Text Line) → Formed (r tt) → Formed (next (the word) r)
   then_the word r h = ends_next IsGood (the word) r (λ w v e. h)
 
-  then_term : (r : Term → Rule Text Line) → Keeps IsTerm r → Formed (next term_of r)
-  then_term r h = ends_next IsGood term_of r (λ w t e. h t (term_formed w t e))
-
   then_value : (r : ℤ → Rule Text Line) → Keeps (λ z. IsTrue (is_value z)) r → Formed (next value_of r)
   then_value r h = ends_next IsGood value_of r (λ w z e. h z (value_formed w z e))
 
@@ -201,132 +210,212 @@ module _ (m : Manner) where
   run-push : {A : Type 0} (P : A → Type 0) (least most n : ℕ) (xs : List A) (y : A) → IsRun P least most (suc n) xs → P y → IsRun P least most n (xs ++ y ∷ [])
   run-push P least most n xs y r p = (omega (arith, length-append xs (y ∷ [])), omega (arith, length-append xs (y ∷ [])), all-push P xs y r.2 p)
 
-  after_formed : (word : Text) (f : Term → Rule Text Line) → Keeps IsTerm f → Formed (term_after word f)
-  after_formed word f h = then_the word _ (then_term f h)
+  all_left : {A : Type 0} (P Q : A → Type 0) (xs : List A) → Each (λ x. P x × Q x) xs → Each P xs
+  all_left P Q [] a = tt
+  all_left P Q (x ∷ xs) a = (a.0.0, all_left P Q xs a.1)
 
-  further_formed : (word : Text) (least most : ℕ) (f : List Term → Rule Text Line) → Keeps (λ ts. (least ≤ length ts) × (length ts ≤ most) × Each IsTerm ts) f → (n : ℕ) (ts : List Term) → IsRun IsTerm least most n ts
-      → Formed (further_terms word f n ts)
-  further_formed word least most f h zero ts r = h ts (r.0, omega arith, r.2)
-  further_formed word least most f h (suc n) ts r =
-      ends_also IsGood (the word) (λ _. next term_of (λ t. further_terms word f n (ts ++ t ∷ []))) (f ts)
-      (λ w v e. then_term (λ t. further_terms word f n (ts ++ t ∷ [])) (λ t p. further_formed word least most f h n (ts ++ t ∷ []) (run-push IsTerm least most n ts t r p))) (h ts (r.0, omega arith, r.2))
+  all_right : {A : Type 0} (P Q : A → Type 0) (xs : List A) → Each (λ x. P x × Q x) xs → Each Q xs
+  all_right P Q [] a = tt
+  all_right P Q (x ∷ xs) a = (a.0.1, all_right P Q xs a.1)
 
-  optional_formed : {A : Type 0} (word : Text) (place : Text → Option A) (default : A) (f : A → Rule Text Line) → Formed (next place f) → Formed (f default) → Formed (optional_part word place default f)
-  optional_formed word place default f there left_out = ends_also IsGood (the word) (λ _. next place f) (f default) (λ w v e. there) left_out
+  module _ (scope : Scope) where
+    abbrev IsIn : Term → Type 0
+    IsIn t = IsTerm t × InScope scope t
 
-  statistic_formed : (s : Stat) (f : Op → Rule Text Line) → ((ts : List Term) → IsOp (local_op s ts) → Formed (f (local_op s ts))) → Formed (statistic_body s f)
-  statistic_formed s f h =
-      after_formed (codes "of") _ (λ a p. after_formed (codes "and") _ (λ b q.
-      further_formed (codes "and") 2 8 (λ ts. f (local_op s ts)) h 6 (a ∷ b ∷ []) (omega arith, omega arith, (p, (q, tt)))))
+    -- an operation that may stand in the scope
+    abbrev IsKept : Op → Type 0
+    IsKept op = IsOp op × IsOpThere m op × Each (InScope scope) (terms_of op)
 
-  pair_formed : (word : Text) (make : Term → Term → Op) (f : Op → Rule Text Line) → ((a b : Term) → IsTerm a → IsTerm b → Formed (f (make a b))) → Formed (pair_body word make f)
-  pair_formed word make f h = after_formed (codes "of") _ (λ a p. after_formed word _ (λ b q. h a b p q))
+    then_term : (r : Term → Rule Text Line) → Keeps IsIn r → Formed (next (term_of scope) r)
+    then_term r h = ends_next IsGood (term_of scope) r (λ w t e. h t (term_formed scope w t e))
 
-  rate_formed : (f : Rate → Rule Text Line) → Keeps IsRate f → Formed (rate_part f)
-  rate_formed f h =
-      let made = λ (give : Option ℤ) (low high : ℤ). let x : Rate = record { low = low; high = high; give = give } in x in
-      then_cell _ (λ give g. then_the (codes "for") _ (then_value _ (λ low l.
-      optional_formed (codes "to") value_of low (λ high. f (made give low high)) (then_value (λ high. f (made give low high)) (λ high k. h (made give low high) (record { low = l; high = k; give = g })))
-      (h (made give low low) (record { low = l; high = l; give = g })))))
+    after_formed : (word : Text) (f : Term → Rule Text Line) → Keeps IsIn f → Formed (term_after scope word f)
+    after_formed word f h = then_the word _ (then_term f h)
 
-  with_formed : (f : List Rate → Rule Text Line) → Keeps (λ rs. (1 ≤ length rs) × (length rs ≤ 32) × Each IsRate rs) f → (n : ℕ) (rs : List Rate) → IsRun IsRate 1 32 n rs → Formed (with_rates f n rs)
-  with_formed f h zero rs r = h rs (r.0, omega arith, r.2)
-  with_formed f h (suc n) rs r =
-      ends_also IsGood (the (codes "with")) (λ _. rate_part (λ one. with_rates f n (rs ++ one ∷ []))) (f rs)
-      (λ w v e. rate_formed (λ one. with_rates f n (rs ++ one ∷ [])) (λ one p. with_formed f h n (rs ++ one ∷ []) (run-push IsRate 1 32 n rs one r p))) (h rs (r.0, omega arith, r.2))
+    further_formed : (word : Text) (least most : ℕ) (f : List Term → Rule Text Line) → Keeps (λ ts. (least ≤ length ts) × (length ts ≤ most) × Each IsIn ts) f → (n : ℕ) (ts : List Term) → IsRun IsIn least most n ts
+        → Formed (further_terms scope word f n ts)
+    further_formed word least most f h zero ts r = h ts (r.0, omega arith, r.2)
+    further_formed word least most f h (suc n) ts r =
+        ends_also IsGood (the word) (λ _. next (term_of scope) (λ t. further_terms scope word f n (ts ++ t ∷ []))) (f ts)
+        (λ w v e. then_term (λ t. further_terms scope word f n (ts ++ t ∷ [])) (λ t p. further_formed word least most f h n (ts ++ t ∷ []) (run-push IsIn least most n ts t r p))) (h ts (r.0, omega arith, r.2))
 
-  rating_formed : (f : Op → Rule Text Line) → ((t : Term) (rs : List Rate) → IsOp (rating_op t rs) → Formed (f (rating_op t rs))) → Formed (rating_body f)
-  rating_formed f h =
-      after_formed (codes "of") _ (λ a p. then_the (codes "with") _ (rate_formed (λ one. with_rates (λ rs. f (rating_op a rs)) 31 (one ∷ [])) (λ one q.
-      with_formed (λ rs. f (rating_op a rs)) (λ rs r. h a rs (p, r.0, r.1, r.2)) 31 (one ∷ []) (omega arith, omega arith, (q, tt)))))
+    optional_formed : {A : Type 0} (word : Text) (place : Text → Option A) (default : A) (f : A → Rule Text Line) → Formed (next place f) → Formed (f default) → Formed (optional_part word place default f)
+    optional_formed word place default f there left_out = ends_also IsGood (the word) (λ _. next place f) (f default) (λ w v e. there) left_out
 
-  radius_formed : (s : Stat) (a : Term) (f : Op → Rule Text Line) → ((r : Option ℕ) → IsRadius r → Formed (f (focal_op s r a))) → Formed (radius_part s a f)
-  radius_formed s a f h =
-      optional_formed (codes "at") disc_of None (λ r. f (focal_op s r a)) (ends_next IsGood disc_of (λ r. f (focal_op s r a)) (λ w r e. h r (disc_formed w r e))) (h None tt)
+    statistic_formed : (s : Stat) (f : Op → Rule Text Line) → ((ts : List Term) → IsOp (local_op s ts) → Each (InScope scope) ts → Formed (f (local_op s ts))) → Formed (statistic_body scope s f)
+    statistic_formed s f h =
+        after_formed (codes "of") _ (λ a p. after_formed (codes "and") _ (λ b q.
+        further_formed (codes "and") 2 8 (λ ts. f (local_op s ts)) (λ ts r. h ts (r.0, r.1, all_left IsTerm (InScope scope) ts r.2) (all_right IsTerm (InScope scope) ts r.2)) 6 (a ∷ b ∷ []) (omega arith, omega arith, (p, (q, tt)))))
 
-  sight_formed : (a : Term) (f : Op → Rule Text Line) → ((s : Sighting) (u : Term) → IsSighting s → IsTerm u → Formed (f (sight_op s a u))) → Formed (sight_part a f)
-  sight_formed a f h =
-      let made = λ (from to : ℤ) (reach : ℕ). let x : Sighting = record { from = from; to = to; reach = reach } in x in
-      let reaches = λ (u : Term) (p : IsTerm u) (from : ℤ) (q : IsTrue (is_value from)) (to : ℤ) (r : IsTrue (is_value to)).
-      optional_formed (codes "within") reach_of 64 (λ reach. f (sight_op (made from to reach) a u))
-      (ends_next IsGood reach_of (λ reach. f (sight_op (made from to reach) a u)) (λ w n e. h (made from to n) u (record { from = q; to = r; reach = count_formed 1 64 w n e }) p))
-      (h (made from to 64) u (record { from = q; to = r; reach = (omega arith, omega arith) }) p) in
-      let tos = λ (u : Term) (p : IsTerm u) (from : ℤ) (q : IsTrue (is_value from)).
-      optional_formed (codes "to") value_of (pos 0) (λ to. optional_part (codes "within") reach_of 64 (λ reach. f (sight_op (made from to reach) a u)))
-      (then_value (λ to. optional_part (codes "within") reach_of 64 (λ reach. f (sight_op (made from to reach) a u))) (λ to r. reaches u p from q to r)) (reaches u p from q (pos 0) refl) in
-      after_formed (codes "on") _ (λ u p.
-      optional_formed (codes "from") value_of (pos 0) (λ from. optional_part (codes "to") value_of (pos 0) (λ to. optional_part (codes "within") reach_of 64 (λ reach. f (sight_op (made from to reach) a u))))
-      (then_value (λ from. optional_part (codes "to") value_of (pos 0) (λ to. optional_part (codes "within") reach_of 64 (λ reach. f (sight_op (made from to reach) a u)))) (λ from q. tos u p from q)) (tos u p (pos 0) refl))
+    pair_formed : (word : Text) (make : Term → Term → Op) (f : Op → Rule Text Line) → ((a b : Term) → IsIn a → IsIn b → Formed (f (make a b))) → Formed (pair_body scope word make f)
+    pair_formed word make f h = after_formed (codes "of") _ (λ a p. after_formed word _ (λ b q. h a b p q))
 
-  -- only a sum radiates, where it may
-  radiates_sum : (s : Stat) → radiates m s ≡ true → (s ≡ stats.Sum) × (m.sight ≡ true)
-  radiates_sum stats.Sum e = (refl, e)
-  radiates_sum s e = absurd cc
+    rate_formed : (f : Rate → Rule Text Line) → Keeps IsRate f → Formed (rate_part f)
+    rate_formed f h =
+        let made = λ (give : Option ℤ) (low high : ℤ). let x : Rate = record { low = low; high = high; give = give } in x in
+        then_cell _ (λ give g. then_the (codes "for") _ (then_value _ (λ low l.
+        optional_formed (codes "to") value_of low (λ high. f (made give low high)) (then_value (λ high. f (made give low high)) (λ high k. h (made give low high) (record { low = l; high = k; give = g })))
+        (h (made give low low) (record { low = l; high = l; give = g })))))
 
-  focal_formed : (s : Stat) (f : Op → Rule Text Line) → IsNoProduct s → HasRow m (Focal s) → Keeps (λ op. IsOp op × IsOpThere m op) f → Formed (focal_body m s f)
-  focal_formed s f row there h =
-      after_formed (codes "of") _ (λ a p.
-      ends_also IsGood (maybe (radiates m s) (the (codes "radiating"))) (λ _. sight_part a f) (radius_part s a f)
-      (λ w v e. (let sum = radiates_sum s (maybe_some (radiates m s) (the (codes "radiating")) w v e).0 in
-      sight_formed a f (λ sighting u q r. h (sight_op sighting a u) ((q, p, r), (subst (λ s. HasRow m (Focal s)) sum.0 there, sum.1)))))
-      (radius_formed s a f (λ r q. h (focal_op s r a) ((row, q, p), there))))
+    with_formed : (f : List Rate → Rule Text Line) → Keeps (λ rs. (1 ≤ length rs) × (length rs ≤ 32) × Each IsRate rs) f → (n : ℕ) (rs : List Rate) → IsRun IsRate 1 32 n rs → Formed (with_rates f n rs)
+    with_formed f h zero rs r = h rs (r.0, omega arith, r.2)
+    with_formed f h (suc n) rs r =
+        ends_also IsGood (the (codes "with")) (λ _. rate_part (λ one. with_rates f n (rs ++ one ∷ []))) (f rs)
+        (λ w v e. rate_formed (λ one. with_rates f n (rs ++ one ∷ [])) (λ one p. with_formed f h n (rs ++ one ∷ []) (run-push IsRate 1 32 n rs one r p))) (h rs (r.0, omega arith, r.2))
 
-  friction_formed : (f : Term → Rule Text Line) → Keeps IsTerm f → Formed (friction_part f)
-  friction_formed f h = ends_also IsGood (the (codes "spreading")) (λ _. term_after (codes "in") f) (f (number_term (pos 1))) (λ w v e. after_formed (codes "in") f h) (h (number_term (pos 1)) refl)
+    rating_formed : (f : Op → Rule Text Line) → ((t : Term) (rs : List Rate) → IsOp (rating_op t rs) → InScope scope t → Formed (f (rating_op t rs))) → Formed (rating_body scope f)
+    rating_formed f h =
+        after_formed (codes "of") _ (λ a p. then_the (codes "with") _ (rate_formed (λ one. with_rates (λ rs. f (rating_op a rs)) 31 (one ∷ [])) (λ one q.
+        with_formed (λ rs. f (rating_op a rs)) (λ rs r. h a rs (p.0, r.0, r.1, r.2) p.1) 31 (one ∷ []) (omega arith, omega arith, (q, tt)))))
 
-  spread_formed : (f : Op → Rule Text Line) → ((limit : ℕ) (a u : Term) → IsOp (spread_op limit a u) → Formed (f (spread_op limit a u))) → Formed (spread_body f)
-  spread_formed f h =
-      after_formed (codes "of") _ (λ a p. friction_formed (λ u. optional_part (codes "within") limit_of greatest_value (λ limit. f (spread_op limit a u))) (λ u q.
-      optional_formed (codes "within") limit_of greatest_value (λ limit. f (spread_op limit a u))
-      (ends_next IsGood limit_of (λ limit. f (spread_op limit a u)) (λ w n e. h n a u ((count_formed 0 greatest_value w n e).1, p, q))) (h greatest_value a u (omega arith, p, q))))
+    radius_formed : (s : Stat) (a : Term) (f : Op → Rule Text Line) → ((r : Option ℕ) → IsRadius r → Formed (f (focal_op s r a))) → Formed (radius_part s a f)
+    radius_formed s a f h =
+        optional_formed (codes "at") disc_of None (λ r. f (focal_op s r a)) (ends_next IsGood disc_of (λ r. f (focal_op s r a)) (λ w r e. h r (disc_formed w r e))) (h None tt)
 
-  drainage_formed : (f : Op → Rule Text Line) → HasRow m Drainage → Keeps (λ op. IsOp op × IsOpThere m op) f → Formed (drainage_body f)
-  drainage_formed f there h =
-      after_formed (codes "of") _ (λ a p.
-      optional_formed (codes "carrying") weights_of None (λ w. f (drainage_op a w)) (ends_next IsGood weights_of (λ w. f (drainage_op a w)) (λ t w e. carried a p w (weights_formed t w e))) (carried a p None tt))
-    where
-      carried : (a : Term) → IsTerm a → (w : Option Term) → AreWeights w → Formed (f (drainage_op a w))
-      carried a p None q = h (direction_op a) (p, there)
-      carried a p (Some u) q = h (flow_op a u) ((p, q), there)
+    sight_formed : (a : Term) (f : Op → Rule Text Line) → ((s : Sighting) (u : Term) → IsSighting s → IsIn u → Formed (f (sight_op s a u))) → Formed (sight_part scope a f)
+    sight_formed a f h =
+        let made = λ (from to : ℤ) (reach : ℕ). let x : Sighting = record { from = from; to = to; reach = reach } in x in
+        let reaches = λ (u : Term) (p : IsIn u) (from : ℤ) (q : IsTrue (is_value from)) (to : ℤ) (r : IsTrue (is_value to)).
+        optional_formed (codes "within") reach_of 64 (λ reach. f (sight_op (made from to reach) a u))
+        (ends_next IsGood reach_of (λ reach. f (sight_op (made from to reach) a u)) (λ w n e. h (made from to n) u (record { from = q; to = r; reach = count_formed 1 64 w n e }) p))
+        (h (made from to 64) u (record { from = q; to = r; reach = (omega arith, omega arith) }) p) in
+        let tos = λ (u : Term) (p : IsIn u) (from : ℤ) (q : IsTrue (is_value from)).
+        optional_formed (codes "to") value_of (pos 0) (λ to. optional_part (codes "within") reach_of 64 (λ reach. f (sight_op (made from to reach) a u)))
+        (then_value (λ to. optional_part (codes "within") reach_of 64 (λ reach. f (sight_op (made from to reach) a u))) (λ to r. reaches u p from q to r)) (reaches u p from q (pos 0) refl) in
+        after_formed (codes "on") _ (λ u p.
+        optional_formed (codes "from") value_of (pos 0) (λ from. optional_part (codes "to") value_of (pos 0) (λ to. optional_part (codes "within") reach_of 64 (λ reach. f (sight_op (made from to reach) a u))))
+        (then_value (λ from. optional_part (codes "to") value_of (pos 0) (λ to. optional_part (codes "within") reach_of 64 (λ reach. f (sight_op (made from to reach) a u)))) (λ from q. tos u p from q)) (tos u p (pos 0) refl))
 
-  operation_formed : (f : Op → Rule Text Line) → Keeps (λ op. IsOp op × IsOpThere m op) f → (o : Operation) → HasRow m o → IsRow o → Formed (operation_body m f o)
-  operation_formed f h (Local s) there row = statistic_formed s f (λ ts p. h (local_op s ts) (p, there))
-  operation_formed f h Difference there row = pair_formed (codes "and") difference_op f (λ a b p q. h (difference_op a b) ((p, q), there))
-  operation_formed f h Ratio there row = pair_formed (codes "and") ratio_op f (λ a b p q. h (ratio_op a b) ((p, q), there))
-  operation_formed f h Rating there row = rating_formed f (λ t rs p. h (rating_op t rs) (p, there))
-  operation_formed f h (Focal s) there row = focal_formed s f row there h
-  operation_formed f h Proximity there row = spread_formed f (λ limit a u p. h (spread_op limit a u) (p, there))
-  operation_formed f h Insularity there row = after_formed (codes "of") _ (λ a p. h (region_op a) (p, there))
-  operation_formed f h (Zonal s) there row = pair_formed (codes "within") (zonal_op s) f (λ a b p q. h (zonal_op s a b) ((row, p, q), there))
-  operation_formed f h (Incremental form) there row = after_formed (codes "of") _ (λ a p. h (form_op (form_of form) a) (p, subst (λ g. HasRow m (Incremental g)) (form_again form) there))
-  operation_formed f h Drainage there row = drainage_formed f there h
+    -- only a sum radiates, where it may
+    radiates_sum : (s : Stat) → radiates m s ≡ true → (s ≡ stats.Sum) × (m.sight ≡ true)
+    radiates_sum stats.Sum e = (refl, e)
+    radiates_sum s e = absurd cc
 
-  call_formed : (p : Text) (f : List Term → Rule Text Line) → ((ts : List Term) → (1 ≤ length ts) × (length ts ≤ 8) × Each IsTerm ts → Formed (f ts)) → Formed (call_body f)
-  call_formed p f h =
-      after_formed (codes "(") _ (λ a q. further_formed (codes ",") 1 8 (λ ts. next (the (codes ")")) (λ _. f ts)) (λ ts r. then_the (codes ")") (λ _. f ts) (h ts r)) 7 (a ∷ []) (omega arith, omega arith, (q, tt)))
+    focal_formed : (s : Stat) (f : Op → Rule Text Line) → IsNoProduct s → HasRow m (Focal s) → Keeps IsKept f → Formed (focal_body scope m s f)
+    focal_formed s f row there h =
+        after_formed (codes "of") _ (λ a p.
+        ends_also IsGood (maybe (radiates m s) (the (codes "radiating"))) (λ _. sight_part scope a f) (radius_part s a f)
+        (λ w v e. (let sum = radiates_sum s (maybe_some (radiates m s) (the (codes "radiating")) w v e).0 in
+        sight_formed a f (λ sighting u q r. h (sight_op sighting a u) ((q, p.0, r.0), (subst (λ s. HasRow m (Focal s)) sum.0 there, sum.1), (p.1, (r.1, tt))))))
+        (radius_formed s a f (λ r q. h (focal_op s r a) ((row, q, p.0), there, (p.1, tt)))))
+
+    friction_formed : (f : Term → Rule Text Line) → Keeps IsIn f → Formed (friction_part scope f)
+    friction_formed f h = ends_also IsGood (the (codes "spreading")) (λ _. term_after scope (codes "in") f) (f (number_term (pos 1))) (λ w v e. after_formed (codes "in") f h) (h (number_term (pos 1)) (refl, tt))
+
+    spread_formed : (f : Op → Rule Text Line) → ((limit : ℕ) (a u : Term) → IsOp (spread_op limit a u) → InScope scope a → InScope scope u → Formed (f (spread_op limit a u))) → Formed (spread_body scope f)
+    spread_formed f h =
+        after_formed (codes "of") _ (λ a p. friction_formed (λ u. optional_part (codes "within") limit_of greatest_value (λ limit. f (spread_op limit a u))) (λ u q.
+        optional_formed (codes "within") limit_of greatest_value (λ limit. f (spread_op limit a u))
+        (ends_next IsGood limit_of (λ limit. f (spread_op limit a u)) (λ w n e. h n a u ((count_formed 0 greatest_value w n e).1, p.0, q.0) p.1 q.1)) (h greatest_value a u (omega arith, p.0, q.0) p.1 q.1)))
+
+    drainage_formed : (f : Op → Rule Text Line) → HasRow m Drainage → Keeps IsKept f → Formed (drainage_body scope f)
+    drainage_formed f there h =
+        after_formed (codes "of") _ (λ a p.
+        optional_formed (codes "carrying") (weights_of scope) None (λ w. f (drainage_op a w)) (ends_next IsGood (weights_of scope) (λ w. f (drainage_op a w)) (λ t w e. carried a p w (weights_formed scope t w e))) (carried a p None tt))
+      where
+        carried : (a : Term) → IsIn a → (w : Option Term) → AreWeights scope w → Formed (f (drainage_op a w))
+        carried a p None q = h (direction_op a) (p.0, there, (p.1, tt))
+        carried a p (Some u) q = h (flow_op a u) ((p.0, q.0), there, (p.1, (q.1, tt)))
+
+    operation_formed : (f : Op → Rule Text Line) → Keeps IsKept f → (o : Operation) → HasRow m o → IsRow o → Formed (operation_body scope m f o)
+    operation_formed f h (Local s) there row = statistic_formed s f (λ ts p k. h (local_op s ts) (p, there, k))
+    operation_formed f h Difference there row = pair_formed (codes "and") difference_op f (λ a b p q. h (difference_op a b) ((p.0, q.0), there, (p.1, (q.1, tt))))
+    operation_formed f h Ratio there row = pair_formed (codes "and") ratio_op f (λ a b p q. h (ratio_op a b) ((p.0, q.0), there, (p.1, (q.1, tt))))
+    operation_formed f h Rating there row = rating_formed f (λ t rs p k. h (rating_op t rs) (p, there, (k, tt)))
+    operation_formed f h (Focal s) there row = focal_formed s f row there h
+    operation_formed f h Proximity there row = spread_formed f (λ limit a u p k l. h (spread_op limit a u) (p, there, (k, (l, tt))))
+    operation_formed f h Insularity there row = after_formed (codes "of") _ (λ a p. h (region_op a) (p.0, there, (p.1, tt)))
+    operation_formed f h (Zonal s) there row = pair_formed (codes "within") (zonal_op s) f (λ a b p q. h (zonal_op s a b) ((row, p.0, q.0), there, (p.1, (q.1, tt))))
+    operation_formed f h (Incremental form) there row = after_formed (codes "of") _ (λ a p. h (form_op (form_of form) a) (p.0, subst (λ g. HasRow m (Incremental g)) (form_again form) there, (p.1, tt)))
+    operation_formed f h Drainage there row = drainage_formed f there h
+
+    call_formed : (p : Text) (f : List Term → Rule Text Line) → ((ts : List Term) → (1 ≤ length ts) × (length ts ≤ 8) × Each IsTerm ts → Each (InScope scope) ts → Formed (f ts)) → Formed (call_body scope f)
+    call_formed p f h =
+        after_formed (codes "(") _ (λ a q. further_formed (codes ",") 1 8 (λ ts. next (the (codes ")")) (λ _. f ts)) (λ ts r. then_the (codes ")") (λ _. f ts) (h ts (r.0, r.1, all_left IsTerm (InScope scope) ts r.2) (all_right IsTerm (InScope scope) ts r.2))) 7 (a ∷ []) (omega arith, omega arith, (q, tt)))
+
+    body_formed : (f : Written → Rule Text Line) → ((w : Written) → IsWritten w → IsWrittenThere m w → AreInScope scope w → Formed (f w)) → Formed (body_rule scope m f)
+    body_formed f h = (
+      tt,
+      ends_or IsGood (on (operation_named m) (operation_body scope m (λ op. f (plain op)))) (on (call_of m) (λ q. call_body scope (λ ts. f (call q ts))))
+          (ends_on IsGood (operation_named m) (operation_body scope m (λ op. f (plain op))) (λ w o e. (let row = operation_formed_row m w o e in
+          operation_formed (λ op. f (plain op)) (λ op q. h (plain op) q.0 q.1 q.2) o row.0 row.1)))
+          (ends_on IsGood (call_of m) (λ q. call_body scope (λ ts. f (call q ts))) (λ w q e. (let there = maybe_some m.calls name_of w q e in
+          call_formed q (λ ts. f (call q ts)) (λ ts r k. h (call q ts) (name_formed w q there.1, r.0, r.1, r.2) there.0 k)))),
+    )
 
   -- ---- lines
 
   done : (x : Line) → IsGood x → Formed (ends x)
   done x h = (h, λ w. tt)
 
-  body_formed : (n : Text) → IsTrue (is_plain n) → Formed (body_rule m (λ w. ends (edit (define n w))))
-  body_formed n p = (
-    tt,
-    ends_or IsGood (on (operation_named m) (operation_body m (λ op. ends (edit (define n (plain op)))))) (on (call_of m) (λ q. call_body (λ ts. ends (edit (define n (call q ts))))))
-        (ends_on IsGood (operation_named m) (operation_body m (λ op. ends (edit (define n (plain op))))) (λ w o e. (let row = operation_formed_row m w o e in
-        operation_formed (λ op. ends (edit (define n (plain op)))) (λ op q. done (edit (define n (plain op))) ((p, q.0), q.1)) o row.0 row.1)))
-        (ends_on IsGood (call_of m) (λ q. call_body (λ ts. ends (edit (define n (call q ts))))) (λ w q e. (let there = maybe_some m.calls name_of w q e in
-        call_formed q (λ ts. ends (edit (define n (call q ts)))) (λ ts r. done (edit (define n (call q ts))) ((p, (name_formed w q there.1, r.0, r.1, r.2)), there.0))))),
-  )
-
   define_formed : (n : Text) → IsTrue (is_plain n) → Formed (define_rule m n)
-  define_formed n p = then_the (codes "=") _ (body_formed n p)
+  define_formed n p = then_the (codes "=") _ (body_formed anywhere (λ w. ends (edit (define n w))) (λ w q there k. done (edit (define n w)) ((p, q), there)))
 
-  command_formed : (c : Command) → HasCommand m c → Formed (command_rule c)
+  -- ---- procedures
+
+  fresh_formed : (ns : List Text) (w q : Text) → fresh_of ns w ≡ Some q → IsFresh ns q
+  fresh_formed ns w q e = go (is_plain w) (has_name ns w) refl refl e
+    where
+      go : (b c : Bool) → is_plain w ≡ b → has_name ns w ≡ c → cond (b && not c) (Some w) None ≡ Some q → IsFresh ns q
+      go true false k l e = let h : w ≡ q = cc in subst (IsFresh ns) h (k, l)
+      go true true k l e = absurd cc
+      go false c k l e = absurd cc
+
+  fresh-push : (ns ps : List Text) (q : Text) → AreFresh ns ps → IsFresh (ns ++ ps) q → AreFresh ns (ps ++ q ∷ [])
+  fresh-push ns [] q h k = (subst (λ us. IsFresh us q) (append-nil ns) k, tt)
+  fresh-push ns (p ∷ ps) q h k = (h.0, fresh-push (ns ++ p ∷ []) ps q h.1 (subst (λ us. IsFresh us q) (sym (append_assoc ns (p ∷ []) ps)) k))
+
+  names_formed : (f : List Text → Rule Text Line) → ((ps : List Text) → IsBetween 1 8 (length ps) → AreFresh [] ps → Formed (f ps)) → (n : ℕ) (ps : List Text) → 1 ≤ length ps → length ps + n ≤ 8 → AreFresh [] ps → Formed (further_names f n ps)
+  names_formed f h zero ps some most new = h ps (some, omega arith) new
+  names_formed f h (suc n) ps some most new =
+      ends_also IsGood (the (codes ",")) (λ _. next (fresh_of ps) (λ q. further_names f n (ps ++ q ∷ []))) (f ps)
+      (λ w v e. ends_next IsGood (fresh_of ps) (λ q. further_names f n (ps ++ q ∷ [])) (λ w q e.
+      names_formed f h n (ps ++ q ∷ []) (omega (arith, length-append ps (q ∷ []))) (omega (arith, length-append ps (q ∷ []))) (fresh-push [] ps q new (fresh_formed ps w q e))))
+      (h ps (some, omega arith) new)
+
+  inner-push : (ns : List Text) (is : List Inner) (i : Inner) → AreInner ns is → IsFresh (names_before ns is) i.name → IsInner (names_before ns is) i.written → AreInner ns (is ++ i ∷ [])
+  inner-push ns [] i h k l = (k, l, tt)
+  inner-push ns (j ∷ js) i h k l = (h.0, h.1, inner-push (ns ++ j.name ∷ []) js i h.2 k l)
+
+  inner_formed : (ns : List Text) (f : Written → Rule Text Line) → ((w : Written) → IsInner ns w → IsWrittenThere m w → Formed (f w)) → Formed (inner_part m ns f)
+  inner_formed ns f h = then_the (codes "=") _ (body_formed (has_name ns) f (λ w q there k. h w (q, k) there))
+
+  -- what a body of these parameters makes is formed
+  abbrev Makes : (List Inner → Line) → List Text → Type 0
+  Makes make ps = (body : List Inner) → length body ≤ 16 → IsBody ps body → AreInnerThere m body → IsGood (make body)
+
+  result_formed : (make : List Inner → Line) (ps : List Text) (is : List Inner) → Makes make ps → length is ≤ 15 → AreInner ps is → AreInnerThere m is → Formed (result_rule m make ps is)
+  result_formed make ps is h most inner there =
+      let last = λ (w : Written). let i : Inner = record { name = codes "result"; written = w } in i in
+      inner_formed (names_before ps is) (λ w. ends (make (is ++ last w ∷ []))) (λ w k t.
+      done (make (is ++ last w ∷ [])) (h (is ++ last w ∷ []) (omega (arith, length-append is (last w ∷ []))) (record { before = is; last = w; whole = refl; inner = inner; result = k }) (all-push (λ (i : Inner). IsWrittenThere m i.written) is (last w) there t)))
+
+  statements_formed : (make : List Inner → Line) (ps : List Text) → Makes make ps → (n : ℕ) (is : List Inner) → length is + n ≤ 15 → AreInner ps is → AreInnerThere m is → Formed (statements_rule m make ps n is)
+  statements_formed make ps h zero is most inner there = then_the (codes "result") _ (result_formed make ps is h (omega arith) inner there)
+  statements_formed make ps h (suc n) is most inner there =
+      let named = λ (q : Text) (w : Written). let i : Inner = record { name = q; written = w } in i in
+      let ns = names_before ps is in
+      let more = λ (q : Text). inner_part m ns (λ w. next (the (codes ";")) (λ _. statements_rule m make ps n (is ++ named q w ∷ []))) in
+      ends_also IsGood (the (codes "result")) (λ _. result_rule m make ps is) (next (fresh_of ns) more)
+      (λ w v e. result_formed make ps is h (omega arith) inner there)
+      (ends_next IsGood (fresh_of ns) more (λ v q e. inner_formed ns (λ w. next (the (codes ";")) (λ _. statements_rule m make ps n (is ++ named q w ∷ []))) (λ w k t.
+      then_the (codes ";") _ (statements_formed make ps h n (is ++ named q w ∷ []) (omega (arith, length-append is (named q w ∷ []))) (inner-push ps is (named q w) inner (fresh_formed ns v q e) k)
+      (all-push (λ (i : Inner). IsWrittenThere m i.written) is (named q w) there t)))))
+
+  procedure_formed : HasCommand m Procedure → Formed (procedure_rule m)
+  procedure_formed t =
+      then_name _ (λ p a. then_the (codes "(") _ (then_name _ (λ q b.
+      names_formed (λ ps. next (the (codes ")")) (λ _. next (the (codes ":")) (λ _. statements_rule m (procedure_line p ps) ps 15 []))) (λ ps some new.
+      then_the (codes ")") _ (then_the (codes ":") _ (statements_formed (procedure_line p ps) ps (λ body few k there. (record { name = a; some = some; takes = new; few = few; body = k }, (t, there))) 15 [] (omega arith) tt tt)))
+      7 (q ∷ []) (omega arith) (omega arith) ((b, refl), tt))))
+
+  command_formed : (c : Command) → HasCommand m c → Formed (command_rule m c)
+  command_formed Procedure t = procedure_formed t
   command_formed Paint t = then_name _ (λ n p. then_side _ (λ r1 a. then_side _ (λ c1 b. then_side _ (λ r2 c. then_side _ (λ c2 d. then_cell _ (λ v q. done (edit (paint n r1 c1 r2 c2 v)) ((p, a, b, c, d, q), t)))))))
   command_formed New t = then_name _ (λ n p. then_cell _ (λ v q. done (edit (new_layer n v)) ((p, q), t)))
   command_formed Drop t = then_name _ (λ n p. done (edit (drop n)) (p, t))
+  command_formed Label t = then_name _ (λ n p. then_value _ (λ z q. text_ends IsGood (λ t. edit (put_label n z t)) (λ x r. ((p, q, r), t))))
+  command_formed Symbol t = then_name _ (λ n p. then_value _ (λ z q. sign_ends IsGood (λ b. edit (put_symbol n z b)) (λ b r. ((p, q, r), t))))
   command_formed Value t = then_any _ (λ n p. then_side _ (λ r a. then_side _ (λ c b. done (ask (ask_value n r c)) ((p, a, b), t))))
   command_formed Grid t = then_any _ (λ n p. done (ask (ask_grid n)) (p, t))
   command_formed Show t = then_any _ (λ n p. done (ask (ask_show n)) (p, t))
@@ -339,7 +428,7 @@ module _ (m : Manner) where
   line_formed : Formed (line_rule m)
   line_formed = (
     (tt, tt),
-    ends_or IsGood (on (command_named m) command_rule) (on name_of (define_rule m)) (ends_on IsGood (command_named m) command_rule (λ w c e. command_formed c (command_there m w c e)))
+    ends_or IsGood (on (command_named m) (command_rule m)) (on name_of (define_rule m)) (ends_on IsGood (command_named m) (command_rule m) (λ w c e. command_formed c (command_there m w c e)))
         (ends_on IsGood name_of (define_rule m) (λ w n e. define_formed n (name_formed w n e))),
   )
 

@@ -1,8 +1,14 @@
 pub mod PlaceFacts
 pub mod Placing
+pub mod LabelRules
+pub mod FreshNames
+pub mod ScopeFacts
+pub mod Recutting
 pub mod SoundBodies
+pub mod ProcedureSound
 pub mod SoundLines
 pub mod ReadsBodies
+pub mod ProcedureReads
 pub mod ReadsLines
 pub mod Whole
 pub mod Adding
@@ -10,6 +16,8 @@ pub mod FormedLines
 pub mod Numerals
 pub mod BackWords
 pub mod BackBytes
+pub mod Local
+pub mod ProcedureBack
 pub mod Computed
 pub mod LineOfLemmas
 pub mod TermLemmas

@@ -1,7 +1,6 @@
 -- What the places of lines take, and what they don't.
-use Rattle.std.proofs.Common.{◌≡◌, pos, Bool, true, false, cond, List, [], ◌∷◌, Option, Some, None, refl, ap, ◌∙◌}
-use Rattle.std.specs.Prelude.{codes, is_some, bytes_eq, find}
-use Rattle.std.specs.List.{list_any}
+use Rattle.std.proofs.Common.{◌≡◌, pos, Bool, true, false, cond, ◌∷◌, Option, Some, None, refl, ap}
+use Rattle.std.specs.Prelude.{codes, is_some, bytes_eq}
 use Rattle.map_nums.specs.declared.Stat.TheVariants as stats
 use Rattle.map_words.specs.Bytes.{Text}
 use Rattle.map_words.specs.Names.{is_plain, is_dotted, is_reserved, is_among}
@@ -9,12 +8,11 @@ use Rattle.map_words.specs.Numbers.{number_text}
 use Rattle.grammar_core.proofs.Reading.{IsPlace}
 use Rattle.map_defs.specs.Ops.{number_term}
 use Rattle.statement_parser.specs.Lines.{Manner}
+use Rattle.statement_parser.specs.Scopes.{Scope}
 use Rattle.statement_parser.specs.Operations.{find_operation, has_row, operation_named}
 use Rattle.statement_parser.specs.Places.{the, maybe, name_of, any_of, value_of, side_of, disc_of, reach_of, limit_of, term_of, weights_of, cell_of, call_of, tests}
 use Rattle.statement_parser.specs.Commands.{find_command, has_command, command_named}
-use Rattle.statement_parser.specs.declared.operation.Operation.{Operation}
 use Rattle.statement_parser.specs.declared.operation.Operation.TheVariants.{Local}
-use Rattle.statement_parser.specs.declared.command.Command.{Command}
 
 -- each takes some word
 pub name_takes : name_of (codes "A") ≡ Some (codes "A")
@@ -25,13 +23,13 @@ pub any_takes : any_of (codes "A") ≡ Some (codes "A")
 unfolding is_plain is_reserved is_among
 any_takes = refl
 
-pub term_takes : term_of (codes "1") ≡ Some (number_term (pos 1))
+pub term_takes : (scope : Scope) → term_of scope (codes "1") ≡ Some (number_term (pos 1))
 unfolding is_plain number_text
-term_takes = refl
+term_takes scope = refl
 
-pub weights_takes : weights_of (codes "1") ≡ Some (Some (number_term (pos 1)))
+pub weights_takes : (scope : Scope) → weights_of scope (codes "1") ≡ Some (Some (number_term (pos 1)))
 unfolding is_plain number_text
-weights_takes = refl
+weights_takes scope = refl
 
 pub value_takes : value_of (codes "1") ≡ Some (pos 1)
 unfolding number_text
@@ -69,7 +67,7 @@ pub command_none : (m : Manner) (t : Text) → find_command t ≡ None → comma
 unfolding command_named
 command_none m t e = either_none (has_command m.commands t) (find_command t) e
 
-no_operation_number : find_operation (codes "1") ≡ None
+no_operation_number : find_operation (codes "10") ≡ None
 unfolding find_operation
 no_operation_number = refl
 
@@ -77,7 +75,7 @@ no_command_operation : find_command (codes "LocalSum") ≡ None
 unfolding find_command
 no_command_operation = refl
 
-no_command_number : find_command (codes "1") ≡ None
+no_command_number : find_command (codes "10") ≡ None
 unfolding find_command
 no_command_number = refl
 
@@ -85,7 +83,7 @@ sum_found : find_operation (codes "LocalSum") ≡ Some (Local stats.Sum)
 unfolding find_operation
 sum_found = refl
 
-no_name_number : name_of (codes "1") ≡ None
+no_name_number : name_of (codes "10") ≡ None
 unfolding is_plain
 no_name_number = refl
 
@@ -95,7 +93,7 @@ module _ (m : Manner) where
   operation_takes = sum_found
 
   -- no operation stands there, and where a number is due
-  pub the_place : (word : Text) → bytes_eq (codes "LocalSum") word ≡ false → bytes_eq (codes "1") word ≡ false → IsPlace (tests m) (the word) false
+  pub the_place : (word : Text) → bytes_eq (codes "LocalSum") word ≡ false → bytes_eq (codes "10") word ≡ false → IsPlace (tests m) (the word) false
   the_place word e f = record { free = rw e refl; number = rw f refl }
 
   pub name_place : IsPlace (tests m) name_of false
@@ -106,13 +104,13 @@ module _ (m : Manner) where
   unfolding is_plain is_dotted is_reserved is_among
   any_place = record { free = refl; number = refl }
 
-  pub term_place : IsPlace (tests m) term_of true
+  pub term_place : (scope : Scope) → IsPlace (tests m) (term_of scope) true
   unfolding is_plain is_reserved is_among number_text
-  term_place = record { free = refl; number = refl }
+  term_place scope = record { free = refl; number = refl }
 
-  pub weights_place : IsPlace (tests m) weights_of true
+  pub weights_place : (scope : Scope) → IsPlace (tests m) (weights_of scope) true
   unfolding is_plain is_reserved is_among number_text
-  weights_place = record { free = refl; number = refl }
+  weights_place scope = record { free = refl; number = refl }
 
   pub value_place : IsPlace (tests m) value_of true
   unfolding number_text
@@ -145,11 +143,11 @@ module _ (m : Manner) where
   pub call_place : IsPlace (tests m) (call_of m) false
   call_place = record {
     free = maybe_free m.calls name_of (codes "LocalSum") name_place.free;
-    number = ap is_some (maybe_free m.calls name_of (codes "1") no_name_number);
+    number = ap is_some (maybe_free m.calls name_of (codes "10") no_name_number);
   }
 
-  pub operation_number : is_some (operation_named m (codes "1")) ≡ false
-  operation_number = ap is_some (operation_none m (codes "1") no_operation_number)
+  pub operation_number : is_some (operation_named m (codes "10")) ≡ false
+  operation_number = ap is_some (operation_none m (codes "10") no_operation_number)
 
   pub command_place : IsPlace (tests m) (command_named m) false
-  command_place = record { free = command_none m (codes "LocalSum") no_command_operation; number = ap is_some (command_none m (codes "1") no_command_number) }
+  command_place = record { free = command_none m (codes "LocalSum") no_command_operation; number = ap is_some (command_none m (codes "10") no_command_number) }

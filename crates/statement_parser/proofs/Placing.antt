@@ -1,15 +1,15 @@
 -- Places read by a rule, where only the tests of numbers matter; and a part that may not be there.
-use Rattle.std.proofs.Common.{◌≡◌, ℕ, suc, Bool, true, false, cond, ◌&&◌, List, [], ◌∷◌, length, Option, Some, None, Result, refl, ap, ◌∙◌}
+use Rattle.std.proofs.Common.{◌≡◌, suc, Bool, true, false, cond, ◌&&◌, List, [], ◌∷◌, length, Option, Some, None, Result, refl, ap, ◌∙◌}
 use Rattle.std.specs.Prelude.{is_some}
 use Rattle.map_words.specs.Bytes.{Text}
 use Rattle.grammar_core.specs.declared.Kind.TheVariants.{Operation}
 use Rattle.grammar_core.specs.declared.Fault.{Fault}
-use Rattle.grammar_core.specs.Rules.{Rule, fail, node, step, on, next, after, also, or_rule, ◌<|>◌}
+use Rattle.grammar_core.specs.Rules.{Rule, fail, node, on, next, after, also, or_rule, ◌<|>◌}
 use Rattle.grammar_core.specs.Refusals.{is_unknown}
 use Rattle.grammar_core.specs.Run.{is_node, refused, kind_at, run}
 use Rattle.grammar_core.specs.Readers.{◌>>=◌, Read, one_at, starts}
 use Rattle.grammar_core.proofs.Parts.{or_left}
-use Rattle.grammar_core.proofs.Reading.{assoc, IsPlace, AllNodes, Reads, place, IsTail, also_tail, also_reads, or_refused, or_else}
+use Rattle.grammar_core.proofs.Reading.{assoc, IsPlace, AllNodes, Reads, place, IsTail, also_reads, or_refused, or_else}
 use Rattle.statement_parser.specs.Lines.{Manner, Line}
 use Rattle.statement_parser.specs.Places.{maybe, tests, reading}
 

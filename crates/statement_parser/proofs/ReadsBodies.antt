@@ -1,11 +1,11 @@
 -- Reading operations is reading by their rules, whatever follows.
-use Rattle.std.proofs.Common.{◌≡◌, ℕ, zero, suc, ℤ, pos, Bool, true, false, List, [], ◌∷◌, ◌++◌, length, Option, Some, None, Result, Ok, refl, ap, ◌∙◌}
+use Rattle.std.proofs.Common.{◌≡◌, ℕ, zero, suc, ℤ, pos, true, false, List, [], ◌∷◌, ◌++◌, length, Option, Some, None, Result, Ok, refl, ap, ◌∙◌}
 use Rattle.std.specs.Prelude.{codes, is_some}
 use Rattle.map_nums.specs.declared.Stat.{Stat}
 use Rattle.map_nums.specs.declared.Rate.{Rate}
 use Rattle.map_words.specs.Bytes.{Text}
 use Rattle.grammar_core.specs.declared.Fault.{Fault}
-use Rattle.grammar_core.specs.Rules.{Rule, node, on, next, also, ◌<|>◌}
+use Rattle.grammar_core.specs.Rules.{Rule, on, next, also}
 use Rattle.grammar_core.specs.Refusals.{is_unknown}
 use Rattle.grammar_core.specs.Run.{run, is_node}
 use Rattle.grammar_core.specs.Readers.{◌>>=◌, Read, one_at, starts}
@@ -14,12 +14,12 @@ use Rattle.map_defs.specs.Ops.{Term, number_term, Op, local_op, difference_op, r
 use Rattle.map_defs.specs.Statements.{Written, plain, call}
 use Rattle.map_nums.specs.Numbers.{greatest_value}
 use Rattle.statement_parser.specs.Lines.{Manner, Line}
+use Rattle.statement_parser.specs.Scopes.{Scope}
 use Rattle.statement_parser.specs.Operations.{operation_named}
 use Rattle.statement_parser.specs.Forms.{form_of}
 use Rattle.statement_parser.specs.Places.{the, maybe, value_of, disc_of, reach_of, limit_of, term_of, weights_of, cell_of, call_of, tests, reading}
-use Rattle.statement_parser.specs.Bodies.{term_after, further_terms, optional_part, statistic_body, pair_body, single_body, rate_part, with_rates, rating_body, radius_part, sight_part, radiates, focal_body, friction_part, spread_body, drainage_op, drainage_body, operation_body, call_body}
-use Rattle.statement_parser.specs.Grammar.{body_rule}
-use Rattle.statement_parser.specs.ReadBodies.{statistic_at, pair_at, difference_at, ratio_at, rating_at, radius_at, sight_at, reaching_at, focal_at, spread_at, region_at, zonal_at, incremental_at, drainage_at, operation_at, given_at, call_at, plain_at, called_at, named_at, body_at}
+use Rattle.statement_parser.specs.Bodies.{term_after, further_terms, optional_part, statistic_body, pair_body, single_body, rate_part, with_rates, rating_body, radius_part, sight_part, radiates, focal_body, friction_part, spread_body, drainage_op, drainage_body, operation_body, call_body, body_rule}
+use Rattle.statement_parser.specs.ReadBodies.{statistic_at, pair_at, difference_at, ratio_at, rating_at, radius_at, sight_at, reaching_at, focal_at, spread_at, region_at, zonal_at, incremental_at, drainage_at, operation_at, given_at, call_at, plain_at, named_at, body_at}
 use Rattle.statement_parser.specs.ReadParts.{term_after_at, further_at, optional_at, range_at, rate_at, with_at, friction_at}
 use Rattle.statement_parser.specs.declared.op.Form.{Form}
 use Rattle.statement_parser.specs.declared.operation.Operation.{Operation}
@@ -27,7 +27,7 @@ use Rattle.statement_parser.specs.declared.operation.Operation.TheVariants.{Loca
 use Rattle.statement_parser.proofs.PlaceFacts.{the_place, term_place, weights_place, value_place, disc_place, reach_place, limit_place, cell_place, call_place, operation_takes, operation_number}
 use Rattle.statement_parser.proofs.Placing.{placed, placed_k, maybe_reads, either_place}
 
-module _ (m : Manner) where
+module _ (m : Manner) (scope : Scope) where
   -- what follows an operation
   abbrev pub Goes : Type 0 → Type 0
   Goes A = A → List Text → Result Line Fault
@@ -85,32 +85,32 @@ module _ (m : Manner) where
 
   -- a word and a term, and then k
   after_reads : (word : Text) (k : Goes Term) (r : Term → Rule Text Line) → IsPlace (tests m) (the word) false → ((t : Term) → is_node (r t) ≡ true) → Reads (tests m) k r → (ws : List Text)
-      → (term_after_at word ws >>= λ p. k p.0 p.1) ≡ run (tests m) (term_after word r) ws
+      → (term_after_at scope word ws >>= λ p. k p.0 p.1) ≡ run (tests m) (term_after scope word r) ws
   unfolding term_after_at
   after_reads word k r p nodes reads =
-      placed_k m (the word) false (λ u ws. one_at reading term_of true ws) k _ p (λ u. refl) (λ u. placed m term_of true k r (term_place m) nodes reads)
+      placed_k m (the word) false (λ u ws. one_at reading (term_of scope) true ws) k _ p (λ u. refl) (λ u. placed m (term_of scope) true k r (term_place m scope) nodes reads)
 
   -- a word and a term, what is read after them, and then k
   after_reads_k : {B : Type 0} (word : Text) (h : Term → List Text → Read Text B) (k : Goes B) (r : Term → Rule Text Line) → IsPlace (tests m) (the word) false → ((t : Term) → is_node (r t) ≡ true)
       → ((t : Term) (ws : List Text) → (h t ws >>= λ p. k p.0 p.1) ≡ run (tests m) (r t) ws) → (ws : List Text)
-      → ((term_after_at word ws >>= λ p. h p.0 p.1) >>= λ p. k p.0 p.1) ≡ run (tests m) (term_after word r) ws
+      → ((term_after_at scope word ws >>= λ p. h p.0 p.1) >>= λ p. k p.0 p.1) ≡ run (tests m) (term_after scope word r) ws
   after_reads_k word h k r p nodes reads ws =
-      assoc (term_after_at word ws) (λ p. h p.0 p.1) (λ p. k p.0 p.1) ∙ after_reads word (λ t us. h t us >>= λ p. k p.0 p.1) r p nodes reads ws
+      assoc (term_after_at scope word ws) (λ p. h p.0 p.1) (λ p. k p.0 p.1) ∙ after_reads word (λ t us. h t us >>= λ p. k p.0 p.1) r p nodes reads ws
 
-  further_tail : (word : Text) (r : List Term → Rule Text Line) (n : ℕ) (ts : List Term) → IsPlace (tests m) (the word) false → AreTails r → IsTail (tests m) (further_terms word r n ts)
+  further_tail : (word : Text) (r : List Term → Rule Text Line) (n : ℕ) (ts : List Term) → IsPlace (tests m) (the word) false → AreTails r → IsTail (tests m) (further_terms scope word r n ts)
   further_tail word r zero ts p h = h ts
-  further_tail word r (suc n) ts p h = also_tail (tests m) (the word) (λ _. next term_of (λ t. further_terms word r n (ts ++ t ∷ []))) (r ts) p.free (h ts)
+  further_tail word r (suc n) ts p h = also_tail (tests m) (the word) (λ _. next (term_of scope) (λ t. further_terms scope word r n (ts ++ t ∷ []))) (r ts) p.free (h ts)
 
   further_reads : (word : Text) (k : Goes (List Term)) (r : List Term → Rule Text Line) → IsPlace (tests m) (the word) false → AreTails r → Reads (tests m) k r → (n : ℕ) (ts : List Term) (ws : List Text)
-      → (further_at word n ts ws >>= λ p. k p.0 p.1) ≡ run (tests m) (further_terms word r n ts) ws
+      → (further_at scope word n ts ws >>= λ p. k p.0 p.1) ≡ run (tests m) (further_terms scope word r n ts) ws
   unfolding further_at
   further_reads word k r p tails reads zero ts ws = reads ts ws
   further_reads word k r p tails reads (suc n) ts ws =
-      let more = λ (t : Term) (ws : List Text). further_at word n (ts ++ t ∷ []) ws in
-      let part = λ (ws : List Text). term_after_at word ws >>= λ t. more t.0 t.1 in
+      let more = λ (t : Term) (ws : List Text). further_at scope word n (ts ++ t ∷ []) ws in
+      let part = λ (ws : List Text). term_after_at scope word ws >>= λ t. more t.0 t.1 in
       cond_k (starts (the word) ws) (part ws) (Ok (ts, ws)) (λ p. k p.0 p.1)
-      ∙ also_reads (tests m) (the word) (λ _. next term_of (λ t. further_terms word r n (ts ++ t ∷ []))) (r ts) (λ ws. part ws >>= λ p. k p.0 p.1) (k ts) p (λ u. refl) (tails ts)
-      (after_reads_k word more k (λ t. further_terms word r n (ts ++ t ∷ [])) p (λ t. (further_tail word r n (ts ++ t ∷ []) p tails).node) (λ t. further_reads word k r p tails reads n (ts ++ t ∷ [])))
+      ∙ also_reads (tests m) (the word) (λ _. next (term_of scope) (λ t. further_terms scope word r n (ts ++ t ∷ []))) (r ts) (λ ws. part ws >>= λ p. k p.0 p.1) (k ts) p (λ u. refl) (tails ts)
+      (after_reads_k word more k (λ t. further_terms scope word r n (ts ++ t ∷ [])) p (λ t. (further_tail word r n (ts ++ t ∷ []) p tails).node) (λ t. further_reads word k r p tails reads n (ts ++ t ∷ [])))
       (reads ts) ws
 
   -- a part that may be left out, and then k
@@ -124,33 +124,33 @@ module _ (m : Manner) where
       (placed_k m (the word) false (λ u ws. one_at reading f true ws) k _ p (λ u. refl) (λ u. placed m f true k r q (λ v. (tails v).node) reads))
       (reads default) ws
 
-  statistic_reads : (s : Stat) (k : Goes Op) (r : Op → Rule Text Line) → AreTails r → Reads (tests m) k r → (ws : List Text) → (statistic_at s ws >>= λ p. k p.0 p.1) ≡ run (tests m) (statistic_body s r) ws
+  statistic_reads : (s : Stat) (k : Goes Op) (r : Op → Rule Text Line) → AreTails r → Reads (tests m) k r → (ws : List Text) → (statistic_at scope s ws >>= λ p. k p.0 p.1) ≡ run (tests m) (statistic_body scope s r) ws
   unfolding statistic_at
   statistic_reads s k r tails reads =
-      let last = λ (a b : Term) (ws : List Text). further_at (codes "and") 6 (a ∷ b ∷ []) ws >>= λ ts. Ok (local_op s ts.0, ts.1) in
-      let second = λ (a : Term) (ws : List Text). term_after_at (codes "and") ws >>= λ b. last a b.0 b.1 in
+      let last = λ (a b : Term) (ws : List Text). further_at scope (codes "and") 6 (a ∷ b ∷ []) ws >>= λ ts. Ok (local_op s ts.0, ts.1) in
+      let second = λ (a : Term) (ws : List Text). term_after_at scope (codes "and") ws >>= λ b. last a b.0 b.1 in
       after_reads_k (codes "of") second k _ of_place (λ a. refl) (λ a.
       after_reads_k (codes "and") (last a) k _ and_place (λ b. (further_tail (codes "and") (λ ts. r (local_op s ts)) 6 (a ∷ b ∷ []) and_place (λ ts. tails (local_op s ts))).node) (λ b ws.
-      assoc (further_at (codes "and") 6 (a ∷ b ∷ []) ws) (λ ts. Ok (local_op s ts.0, ts.1)) (λ p. k p.0 p.1)
+      assoc (further_at scope (codes "and") 6 (a ∷ b ∷ []) ws) (λ ts. Ok (local_op s ts.0, ts.1)) (λ p. k p.0 p.1)
       ∙ further_reads (codes "and") (λ ts. k (local_op s ts)) (λ ts. r (local_op s ts)) and_place (λ ts. tails (local_op s ts)) (λ ts. reads (local_op s ts)) 6 (a ∷ b ∷ []) ws))
 
   pair_reads : (word : Text) (make : Term → Term → Op) (k : Goes Op) (r : Op → Rule Text Line) → IsPlace (tests m) (the word) false → AreTails r → Reads (tests m) k r → (ws : List Text)
-      → (pair_at word ws >>= λ p. k (make p.0.0 p.0.1) p.1) ≡ run (tests m) (pair_body word make r) ws
+      → (pair_at scope word ws >>= λ p. k (make p.0.0 p.0.1) p.1) ≡ run (tests m) (pair_body scope word make r) ws
   unfolding pair_at
   pair_reads word make k r p tails reads =
       let h : Goes (Term × Term) = λ p ws. k (make p.0 p.1) ws in
       let last = λ (a b : Term) (ws : List Text). let x : Read Text (Term × Term) = Ok ((a, b), ws) in x in
-      let second = λ (a : Term) (ws : List Text). term_after_at word ws >>= λ b. last a b.0 b.1 in
+      let second = λ (a : Term) (ws : List Text). term_after_at scope word ws >>= λ b. last a b.0 b.1 in
       after_reads_k (codes "of") second h _ of_place (λ a. refl) (λ a.
       after_reads_k word (last a) h (λ b. r (make a b)) p (λ b. (tails (make a b)).node) (λ b. reads (make a b)))
 
-  difference_reads : (k : Goes Op) (r : Op → Rule Text Line) → AreTails r → Reads (tests m) k r → (ws : List Text) → (difference_at ws >>= λ p. k p.0 p.1) ≡ run (tests m) (pair_body (codes "and") difference_op r) ws
+  difference_reads : (k : Goes Op) (r : Op → Rule Text Line) → AreTails r → Reads (tests m) k r → (ws : List Text) → (difference_at scope ws >>= λ p. k p.0 p.1) ≡ run (tests m) (pair_body scope (codes "and") difference_op r) ws
   unfolding difference_at
-  difference_reads k r tails reads ws = assoc (pair_at (codes "and") ws) (λ p. Ok (difference_op p.0.0 p.0.1, p.1)) (λ p. k p.0 p.1) ∙ pair_reads (codes "and") difference_op k r and_place tails reads ws
+  difference_reads k r tails reads ws = assoc (pair_at scope (codes "and") ws) (λ p. Ok (difference_op p.0.0 p.0.1, p.1)) (λ p. k p.0 p.1) ∙ pair_reads (codes "and") difference_op k r and_place tails reads ws
 
-  ratio_reads : (k : Goes Op) (r : Op → Rule Text Line) → AreTails r → Reads (tests m) k r → (ws : List Text) → (ratio_at ws >>= λ p. k p.0 p.1) ≡ run (tests m) (pair_body (codes "and") ratio_op r) ws
+  ratio_reads : (k : Goes Op) (r : Op → Rule Text Line) → AreTails r → Reads (tests m) k r → (ws : List Text) → (ratio_at scope ws >>= λ p. k p.0 p.1) ≡ run (tests m) (pair_body scope (codes "and") ratio_op r) ws
   unfolding ratio_at
-  ratio_reads k r tails reads ws = assoc (pair_at (codes "and") ws) (λ p. Ok (ratio_op p.0.0 p.0.1, p.1)) (λ p. k p.0 p.1) ∙ pair_reads (codes "and") ratio_op k r and_place tails reads ws
+  ratio_reads k r tails reads ws = assoc (pair_at scope (codes "and") ws) (λ p. Ok (ratio_op p.0.0 p.0.1, p.1)) (λ p. k p.0 p.1) ∙ pair_reads (codes "and") ratio_op k r and_place tails reads ws
 
   rate_reads : (k : Goes Rate) (r : Rate → Rule Text Line) → AreTails r → Reads (tests m) k r → (ws : List Text) → (rate_at ws >>= λ p. k p.0 p.1) ≡ run (tests m) (rate_part r) ws
   unfolding rate_at range_at
@@ -180,7 +180,7 @@ module _ (m : Manner) where
       ∙ rate_reads (λ one ws. more one ws >>= λ p. k p.0 p.1) (λ one. with_rates r n (rs ++ one ∷ [])) (λ one. with_tail r n (rs ++ one ∷ []) tails) (λ one. with_reads k r tails reads n (rs ++ one ∷ [])) ws))
       (reads rs) ws
 
-  rating_reads : (k : Goes Op) (r : Op → Rule Text Line) → AreTails r → Reads (tests m) k r → (ws : List Text) → (rating_at ws >>= λ p. k p.0 p.1) ≡ run (tests m) (rating_body r) ws
+  rating_reads : (k : Goes Op) (r : Op → Rule Text Line) → AreTails r → Reads (tests m) k r → (ws : List Text) → (rating_at scope ws >>= λ p. k p.0 p.1) ≡ run (tests m) (rating_body scope r) ws
   unfolding rating_at
   rating_reads k r tails reads =
       let last = λ (a : Term) (one : Rate) (ws : List Text). with_at 31 (one ∷ []) ws >>= λ rs. Ok (rating_op a rs.0, rs.1) in
@@ -193,20 +193,20 @@ module _ (m : Manner) where
       assoc (with_at 31 (one ∷ []) ws) (λ rs. Ok (rating_op a rs.0, rs.1)) (λ p. k p.0 p.1)
       ∙ with_reads (λ rs. k (rating_op a rs)) (λ rs. r (rating_op a rs)) (λ rs. tails (rating_op a rs)) (λ rs. reads (rating_op a rs)) 31 (one ∷ []) ws) ws))
 
-  single_reads : (make : Term → Op) (k : Goes Op) (r : Op → Rule Text Line) → AreTails r → Reads (tests m) k r → (ws : List Text) → (term_after_at (codes "of") ws >>= λ a. k (make a.0) a.1) ≡ run (tests m) (single_body make r) ws
+  single_reads : (make : Term → Op) (k : Goes Op) (r : Op → Rule Text Line) → AreTails r → Reads (tests m) k r → (ws : List Text) → (term_after_at scope (codes "of") ws >>= λ a. k (make a.0) a.1) ≡ run (tests m) (single_body scope make r) ws
   single_reads make k r tails reads ws = after_reads (codes "of") (λ a. k (make a)) (λ a. r (make a)) of_place (λ a. (tails (make a)).node) (λ a. reads (make a)) ws
 
-  region_reads : (k : Goes Op) (r : Op → Rule Text Line) → AreTails r → Reads (tests m) k r → (ws : List Text) → (region_at ws >>= λ p. k p.0 p.1) ≡ run (tests m) (single_body region_op r) ws
+  region_reads : (k : Goes Op) (r : Op → Rule Text Line) → AreTails r → Reads (tests m) k r → (ws : List Text) → (region_at scope ws >>= λ p. k p.0 p.1) ≡ run (tests m) (single_body scope region_op r) ws
   unfolding region_at
-  region_reads k r tails reads ws = assoc (term_after_at (codes "of") ws) (λ a. Ok (region_op a.0, a.1)) (λ p. k p.0 p.1) ∙ single_reads region_op k r tails reads ws
+  region_reads k r tails reads ws = assoc (term_after_at scope (codes "of") ws) (λ a. Ok (region_op a.0, a.1)) (λ p. k p.0 p.1) ∙ single_reads region_op k r tails reads ws
 
-  incremental_reads : (form : Form) (k : Goes Op) (r : Op → Rule Text Line) → AreTails r → Reads (tests m) k r → (ws : List Text) → (incremental_at form ws >>= λ p. k p.0 p.1) ≡ run (tests m) (single_body (form_op (form_of form)) r) ws
+  incremental_reads : (form : Form) (k : Goes Op) (r : Op → Rule Text Line) → AreTails r → Reads (tests m) k r → (ws : List Text) → (incremental_at scope form ws >>= λ p. k p.0 p.1) ≡ run (tests m) (single_body scope (form_op (form_of form)) r) ws
   unfolding incremental_at
-  incremental_reads form k r tails reads ws = assoc (term_after_at (codes "of") ws) (λ a. Ok (form_op (form_of form) a.0, a.1)) (λ p. k p.0 p.1) ∙ single_reads (form_op (form_of form)) k r tails reads ws
+  incremental_reads form k r tails reads ws = assoc (term_after_at scope (codes "of") ws) (λ a. Ok (form_op (form_of form) a.0, a.1)) (λ p. k p.0 p.1) ∙ single_reads (form_op (form_of form)) k r tails reads ws
 
-  zonal_reads : (s : Stat) (k : Goes Op) (r : Op → Rule Text Line) → AreTails r → Reads (tests m) k r → (ws : List Text) → (zonal_at s ws >>= λ p. k p.0 p.1) ≡ run (tests m) (pair_body (codes "within") (zonal_op s) r) ws
+  zonal_reads : (s : Stat) (k : Goes Op) (r : Op → Rule Text Line) → AreTails r → Reads (tests m) k r → (ws : List Text) → (zonal_at scope s ws >>= λ p. k p.0 p.1) ≡ run (tests m) (pair_body scope (codes "within") (zonal_op s) r) ws
   unfolding zonal_at
-  zonal_reads s k r tails reads ws = assoc (pair_at (codes "within") ws) (λ p. Ok (zonal_op s p.0.0 p.0.1, p.1)) (λ p. k p.0 p.1) ∙ pair_reads (codes "within") (zonal_op s) k r within_place tails reads ws
+  zonal_reads s k r tails reads ws = assoc (pair_at scope (codes "within") ws) (λ p. Ok (zonal_op s p.0.0 p.0.1, p.1)) (λ p. k p.0 p.1) ∙ pair_reads (codes "within") (zonal_op s) k r within_place tails reads ws
 
   -- a part that may be left out, and then k
   optional_tail : {A : Type 0} (word : Text) (f : Text → Option A) (default : A) (r : A → Rule Text Line) → IsPlace (tests m) (the word) false → IsTail (tests m) (r default) → IsTail (tests m) (optional_part word f default r)
@@ -237,61 +237,61 @@ module _ (m : Manner) where
     to_tail : (surface : Term) (from : ℤ) → IsTail (tests m) (to_rule surface from)
     to_tail surface from = optional_tail (codes "to") value_of (pos 0) (λ to. reach_rule surface from to) to_place (reach_tail surface from (pos 0))
 
-    sight_reads : (ws : List Text) → (sight_at a ws >>= λ p. k p.0 p.1) ≡ run (tests m) (next (the (codes "radiating")) (λ _. sight_part a r)) ws
+    sight_reads : (ws : List Text) → (sight_at scope a ws >>= λ p. k p.0 p.1) ≡ run (tests m) (next (the (codes "radiating")) (λ _. sight_part scope a r)) ws
     unfolding sight_at
     sight_reads =
         let made = λ (surface : Term) (from to : ℤ) (reach : ℕ). let x : Op = sight_op (record { from = from; to = to; reach = reach }) a surface in x in
         let at_reach = λ (surface : Term) (from to : ℤ) (ws : List Text). optional_at (codes "within") reach_of 64 ws >>= λ reach. Ok (made surface from to reach.0, reach.1) in
         let at_to = λ (surface : Term) (from : ℤ) (ws : List Text). optional_at (codes "to") value_of (pos 0) ws >>= λ to. at_reach surface from to.0 to.1 in
         let at_from = λ (surface : Term) (ws : List Text). optional_at (codes "from") value_of (pos 0) ws >>= λ from. at_to surface from.0 from.1 in
-        placed_k m (the (codes "radiating")) false (λ u ws. term_after_at (codes "on") ws >>= λ surface. at_from surface.0 surface.1) k _ radiating_place (λ u. refl) (λ u.
+        placed_k m (the (codes "radiating")) false (λ u ws. term_after_at scope (codes "on") ws >>= λ surface. at_from surface.0 surface.1) k _ radiating_place (λ u. refl) (λ u.
         after_reads_k (codes "on") at_from k _ on_place (λ surface. refl) (λ surface.
         optional_reads_k (codes "from") value_of (pos 0) (at_to surface) k (λ from. to_rule surface from) from_place (value_place m) (λ from. to_tail surface from) (λ from.
         optional_reads_k (codes "to") value_of (pos 0) (at_reach surface from) k (λ to. reach_rule surface from to) to_place (value_place m) (λ to. reach_tail surface from to) (λ to.
         optional_reads_k (codes "within") reach_of 64 (λ reach ws. Ok (made surface from to reach, ws)) k (λ reach. r (made surface from to reach)) within_place (reach_place m) (λ reach. tails (made surface from to reach)) (λ reach. reads (made surface from to reach))))))
 
   reaching_reads : (s : Stat) (a : Term) (k : Goes Op) (r : Op → Rule Text Line) → AreTails r → Reads (tests m) k r → (ws : List Text)
-      → (reaching_at m s a ws >>= λ p. k p.0 p.1) ≡ run (tests m) (also (on (maybe (radiates m s) (the (codes "radiating"))) (λ _. sight_part a r)) (radius_part s a r)) ws
+      → (reaching_at scope m s a ws >>= λ p. k p.0 p.1) ≡ run (tests m) (also (on (maybe (radiates m s) (the (codes "radiating"))) (λ _. sight_part scope a r)) (radius_part s a r)) ws
   unfolding reaching_at
   reaching_reads s a k r tails reads ws =
-      cond_k (starts (maybe (radiates m s) (the (codes "radiating"))) ws) (sight_at a ws) (radius_at s a ws) (λ p. k p.0 p.1)
-      ∙ maybe_reads m (radiates m s) (the (codes "radiating")) (λ _. sight_part a r) (radius_part s a r) (λ ws. sight_at a ws >>= λ p. k p.0 p.1) (λ ws. radius_at s a ws >>= λ p. k p.0 p.1) radiating_place (λ u. refl)
+      cond_k (starts (maybe (radiates m s) (the (codes "radiating"))) ws) (sight_at scope a ws) (radius_at s a ws) (λ p. k p.0 p.1)
+      ∙ maybe_reads m (radiates m s) (the (codes "radiating")) (λ _. sight_part scope a r) (radius_part s a r) (λ ws. sight_at scope a ws >>= λ p. k p.0 p.1) (λ ws. radius_at s a ws >>= λ p. k p.0 p.1) radiating_place (λ u. refl)
       (optional_tail (codes "at") disc_of None (λ d. r (focal_op s d a)) at_place (tails (focal_op s None a)))
       (sight_reads a k r tails reads) (radius_reads s a k r tails reads) ws
 
-  focal_reads : (s : Stat) (k : Goes Op) (r : Op → Rule Text Line) → AreTails r → Reads (tests m) k r → (ws : List Text) → (focal_at m s ws >>= λ p. k p.0 p.1) ≡ run (tests m) (focal_body m s r) ws
+  focal_reads : (s : Stat) (k : Goes Op) (r : Op → Rule Text Line) → AreTails r → Reads (tests m) k r → (ws : List Text) → (focal_at scope m s ws >>= λ p. k p.0 p.1) ≡ run (tests m) (focal_body scope m s r) ws
   unfolding focal_at
-  focal_reads s k r tails reads = after_reads_k (codes "of") (λ a ws. reaching_at m s a ws) k _ of_place (λ a. refl) (λ a. reaching_reads s a k r tails reads)
+  focal_reads s k r tails reads = after_reads_k (codes "of") (λ a ws. reaching_at scope m s a ws) k _ of_place (λ a. refl) (λ a. reaching_reads s a k r tails reads)
 
   -- the friction, what is read after it, and then k
-  friction_reads : (k : Goes Term) (r : Term → Rule Text Line) → AreTails r → Reads (tests m) k r → (ws : List Text) → (friction_at ws >>= λ p. k p.0 p.1) ≡ run (tests m) (friction_part r) ws
+  friction_reads : (k : Goes Term) (r : Term → Rule Text Line) → AreTails r → Reads (tests m) k r → (ws : List Text) → (friction_at scope ws >>= λ p. k p.0 p.1) ≡ run (tests m) (friction_part scope r) ws
   unfolding friction_at
   friction_reads k r tails reads ws =
-      let part = λ (ws : List Text). one_at reading (the (codes "spreading")) false ws >>= λ u. term_after_at (codes "in") u.1 in
+      let part = λ (ws : List Text). one_at reading (the (codes "spreading")) false ws >>= λ u. term_after_at scope (codes "in") u.1 in
       cond_k (starts (the (codes "spreading")) ws) (part ws) (Ok (number_term (pos 1), ws)) (λ p. k p.0 p.1)
-      ∙ also_reads (tests m) (the (codes "spreading")) (λ _. term_after (codes "in") r) (r (number_term (pos 1))) (λ ws. part ws >>= λ p. k p.0 p.1) (k (number_term (pos 1))) spreading_place (λ u. refl) (tails (number_term (pos 1)))
-      (placed_k m (the (codes "spreading")) false (λ u ws. term_after_at (codes "in") ws) k _ spreading_place (λ u. refl) (λ u. after_reads (codes "in") k r in_place (λ t. (tails t).node) reads))
+      ∙ also_reads (tests m) (the (codes "spreading")) (λ _. term_after scope (codes "in") r) (r (number_term (pos 1))) (λ ws. part ws >>= λ p. k p.0 p.1) (k (number_term (pos 1))) spreading_place (λ u. refl) (tails (number_term (pos 1)))
+      (placed_k m (the (codes "spreading")) false (λ u ws. term_after_at scope (codes "in") ws) k _ spreading_place (λ u. refl) (λ u. after_reads (codes "in") k r in_place (λ t. (tails t).node) reads))
       (reads (number_term (pos 1))) ws
 
-  spread_reads : (k : Goes Op) (r : Op → Rule Text Line) → AreTails r → Reads (tests m) k r → (ws : List Text) → (spread_at ws >>= λ p. k p.0 p.1) ≡ run (tests m) (spread_body r) ws
+  spread_reads : (k : Goes Op) (r : Op → Rule Text Line) → AreTails r → Reads (tests m) k r → (ws : List Text) → (spread_at scope ws >>= λ p. k p.0 p.1) ≡ run (tests m) (spread_body scope r) ws
   unfolding spread_at
   spread_reads k r tails reads =
       let last = λ (a friction : Term) (ws : List Text). optional_at (codes "within") limit_of greatest_value ws >>= λ limit. Ok (spread_op limit.0 a friction, limit.1) in
-      let second = λ (a : Term) (ws : List Text). friction_at ws >>= λ friction. last a friction.0 friction.1 in
+      let second = λ (a : Term) (ws : List Text). friction_at scope ws >>= λ friction. last a friction.0 friction.1 in
       let rule = λ (a friction : Term). optional_part (codes "within") limit_of greatest_value (λ limit. r (spread_op limit a friction)) in
       after_reads_k (codes "of") second k _ of_place (λ a. refl) (λ a ws.
-      assoc (friction_at ws) (λ friction. last a friction.0 friction.1) (λ p. k p.0 p.1)
+      assoc (friction_at scope ws) (λ friction. last a friction.0 friction.1) (λ p. k p.0 p.1)
       ∙ friction_reads (λ friction ws. last a friction ws >>= λ p. k p.0 p.1) (λ friction. rule a friction) (λ friction. optional_tail (codes "within") limit_of greatest_value (λ limit. r (spread_op limit a friction)) within_place (tails (spread_op greatest_value a friction))) (λ friction.
       optional_reads_k (codes "within") limit_of greatest_value (λ limit ws. Ok (spread_op limit a friction, ws)) k (λ limit. r (spread_op limit a friction)) within_place (limit_place m) (λ limit. tails (spread_op limit a friction)) (λ limit. reads (spread_op limit a friction))) ws)
 
-  drainage_reads : (k : Goes Op) (r : Op → Rule Text Line) → AreTails r → Reads (tests m) k r → (ws : List Text) → (drainage_at ws >>= λ p. k p.0 p.1) ≡ run (tests m) (drainage_body r) ws
+  drainage_reads : (k : Goes Op) (r : Op → Rule Text Line) → AreTails r → Reads (tests m) k r → (ws : List Text) → (drainage_at scope ws >>= λ p. k p.0 p.1) ≡ run (tests m) (drainage_body scope r) ws
   unfolding drainage_at
   drainage_reads k r tails reads =
-      let last = λ (a : Term) (ws : List Text). optional_at (codes "carrying") weights_of None ws >>= λ w. Ok (drainage_op a w.0, w.1) in
+      let last = λ (a : Term) (ws : List Text). optional_at (codes "carrying") (weights_of scope) None ws >>= λ w. Ok (drainage_op a w.0, w.1) in
       after_reads_k (codes "of") last k _ of_place (λ a. refl) (λ a.
-      optional_reads_k (codes "carrying") weights_of None (λ w ws. Ok (drainage_op a w, ws)) k (λ w. r (drainage_op a w)) carrying_place (weights_place m) (λ w. tails (drainage_op a w)) (λ w. reads (drainage_op a w)))
+      optional_reads_k (codes "carrying") (weights_of scope) None (λ w ws. Ok (drainage_op a w, ws)) k (λ w. r (drainage_op a w)) carrying_place (weights_place m scope) (λ w. tails (drainage_op a w)) (λ w. reads (drainage_op a w)))
 
-  operation_reads : (k : Goes Op) (r : Op → Rule Text Line) → AreTails r → Reads (tests m) k r → (o : Operation) (ws : List Text) → (operation_at m o ws >>= λ p. k p.0 p.1) ≡ run (tests m) (operation_body m r o) ws
+  operation_reads : (k : Goes Op) (r : Op → Rule Text Line) → AreTails r → Reads (tests m) k r → (o : Operation) (ws : List Text) → (operation_at scope m o ws >>= λ p. k p.0 p.1) ≡ run (tests m) (operation_body scope m r o) ws
   operation_reads k r tails reads (Local s) = statistic_reads s k r tails reads
   operation_reads k r tails reads Difference = difference_reads k r tails reads
   operation_reads k r tails reads Ratio = ratio_reads k r tails reads
@@ -303,7 +303,7 @@ module _ (m : Manner) where
   operation_reads k r tails reads (Incremental form) = incremental_reads form k r tails reads
   operation_reads k r tails reads Drainage = drainage_reads k r tails reads
 
-  operation_node : (r : Op → Rule Text Line) (o : Operation) → is_node (operation_body m r o) ≡ true
+  operation_node : (r : Op → Rule Text Line) (o : Operation) → is_node (operation_body scope m r o) ≡ true
   operation_node r (Local s) = refl
   operation_node r Difference = refl
   operation_node r Ratio = refl
@@ -317,36 +317,36 @@ module _ (m : Manner) where
 
   -- ---- calls
 
-  call_reads : (p : Text) (k : Goes Written) (r : Written → Rule Text Line) → AreTails r → Reads (tests m) k r → (ws : List Text) → (call_at p ws >>= λ w. k w.0 w.1) ≡ run (tests m) (call_body (λ ts. r (call p ts))) ws
+  call_reads : (p : Text) (k : Goes Written) (r : Written → Rule Text Line) → AreTails r → Reads (tests m) k r → (ws : List Text) → (call_at scope p ws >>= λ w. k w.0 w.1) ≡ run (tests m) (call_body scope (λ ts. r (call p ts))) ws
   unfolding call_at given_at
   call_reads p k r tails reads ws =
       let goes : Goes (List Term) = λ ts ws. k (call p ts) ws in
       let close = λ (ts : List Term) (ws : List Text). one_at reading (the (codes ")")) false ws >>= λ u. Ok (ts, u.1) in
-      let more = λ (a : Term) (ws : List Text). further_at (codes ",") 7 (a ∷ []) ws >>= λ ts. close ts.0 ts.1 in
+      let more = λ (a : Term) (ws : List Text). further_at scope (codes ",") 7 (a ∷ []) ws >>= λ ts. close ts.0 ts.1 in
       let ended = λ (ts : List Term). next (the (codes ")")) (λ _. r (call p ts)) in
-      assoc (given_at ws) (λ ts. Ok (call p ts.0, ts.1)) (λ w. k w.0 w.1)
+      assoc (given_at scope ws) (λ ts. Ok (call p ts.0, ts.1)) (λ w. k w.0 w.1)
       ∙ after_reads_k (codes "(") more goes _ open_place (λ a. refl) (λ a ws.
-      assoc (further_at (codes ",") 7 (a ∷ []) ws) (λ ts. close ts.0 ts.1) (λ w. goes w.0 w.1)
+      assoc (further_at scope (codes ",") 7 (a ∷ []) ws) (λ ts. close ts.0 ts.1) (λ w. goes w.0 w.1)
       ∙ further_reads (codes ",") (λ ts ws. close ts ws >>= λ w. goes w.0 w.1) ended comma_place (λ ts. next_tail (tests m) (the (codes ")")) (λ _. r (call p ts)) close_place.free)
       (λ ts. placed_k m (the (codes ")")) false (λ u ws. Ok (ts, ws)) goes (λ _. r (call p ts)) close_place (λ u. (tails (call p ts)).node) (λ u. reads (call p ts))) 7 (a ∷ []) ws) ws
 
   -- ---- bodies
 
-  plain_reads : (k : Goes Written) (r : Written → Rule Text Line) → AreTails r → Reads (tests m) k r → (o : Operation) (ws : List Text) → (plain_at m o ws >>= λ w. k w.0 w.1) ≡ run (tests m) (operation_body m (λ op. r (plain op)) o) ws
+  plain_reads : (k : Goes Written) (r : Written → Rule Text Line) → AreTails r → Reads (tests m) k r → (o : Operation) (ws : List Text) → (plain_at scope m o ws >>= λ w. k w.0 w.1) ≡ run (tests m) (operation_body scope m (λ op. r (plain op)) o) ws
   unfolding plain_at
   plain_reads k r tails reads o ws =
-      assoc (operation_at m o ws) (λ op. Ok (plain op.0, op.1)) (λ w. k w.0 w.1) ∙ operation_reads (λ op. k (plain op)) (λ op. r (plain op)) (λ op. tails (plain op)) (λ op. reads (plain op)) o ws
+      assoc (operation_at scope m o ws) (λ op. Ok (plain op.0, op.1)) (λ w. k w.0 w.1) ∙ operation_reads (λ op. k (plain op)) (λ op. r (plain op)) (λ op. tails (plain op)) (λ op. reads (plain op)) o ws
 
   named_then : (o : Option Operation) (p : Option Text) (k : Goes Written) (ws : List Text)
-      → (named_at m o p ws >>= λ w. k w.0 w.1) ≡ or_else (tests m) o (or_refused (tests m) p (suc (length ws)) (λ p. call_at p ws >>= λ w. k w.0 w.1)) (λ o. plain_at m o ws >>= λ w. k w.0 w.1)
+      → (named_at scope m o p ws >>= λ w. k w.0 w.1) ≡ or_else (tests m) o (or_refused (tests m) p (suc (length ws)) (λ p. call_at scope p ws >>= λ w. k w.0 w.1)) (λ o. plain_at scope m o ws >>= λ w. k w.0 w.1)
   named_then None None k ws = refl
   named_then None (Some p) k ws = refl
   named_then (Some o) p k ws = refl
 
-  pub body_reads : (k : Goes Written) (r : Written → Rule Text Line) → AreTails r → Reads (tests m) k r → (ws : List Text) → (body_at m ws >>= λ w. k w.0 w.1) ≡ run (tests m) (body_rule m r) ws
+  pub body_reads : (k : Goes Written) (r : Written → Rule Text Line) → AreTails r → Reads (tests m) k r → (ws : List Text) → (body_at scope m ws >>= λ w. k w.0 w.1) ≡ run (tests m) (body_rule scope m r) ws
   unfolding body_at run
   body_reads k r tails reads [] = refl
   body_reads k r tails reads (w ∷ ws) =
-      pick (is_unknown (tests m) (w ∷ ws)) (suc (length ws)) (named_at m (operation_named m w) (call_of m w) ws) _ (λ w. k w.0 w.1) (named_then (operation_named m w) (call_of m w) k ws)
-      ∙ either_place m (operation_named m) (call_of m) (λ o ws. plain_at m o ws >>= λ w. k w.0 w.1) (λ p ws. call_at p ws >>= λ w. k w.0 w.1) (operation_body m (λ op. r (plain op))) (λ p. call_body (λ ts. r (call p ts)))
+      pick (is_unknown (tests m) (w ∷ ws)) (suc (length ws)) (named_at scope m (operation_named m w) (call_of m w) ws) _ (λ w. k w.0 w.1) (named_then (operation_named m w) (call_of m w) k ws)
+      ∙ either_place m (operation_named m) (call_of m) (λ o ws. plain_at scope m o ws >>= λ w. k w.0 w.1) (λ p ws. call_at scope p ws >>= λ w. k w.0 w.1) (operation_body scope m (λ op. r (plain op))) (λ p. call_body scope (λ ts. r (call p ts)))
       (ap is_some (operation_takes m)) (operation_number m) (call_place m) (operation_node (λ op. r (plain op))) (λ p. refl) (plain_reads k r tails reads) (λ p. call_reads p k r tails reads) w ws

@@ -8,6 +8,7 @@ use Rattle.grammar_core.specs.Readers.{◌>>=◌, one_at, end_at}
 use Rattle.grammar_core.proofs.Reading.{end_reads, ends_tail, or_else, or_refused, start_place}
 use Rattle.map_defs.specs.Statements.{Written}
 use Rattle.statement_parser.specs.Lines.{Manner, define, paint, new_layer, drop, ask_value, ask_grid, ask_show, ask_legend, ask_table, ask_stamps, ask_list, Line, blank, edit, ask, quit}
+use Rattle.statement_parser.specs.Scopes.{anywhere}
 use Rattle.statement_parser.specs.Places.{the, name_of, any_of, side_of, cell_of, tests, reading}
 use Rattle.statement_parser.specs.Commands.{command_named}
 use Rattle.statement_parser.specs.Grammar.{define_rule, paint_rule, new_rule, drop_rule, value_rule, any_rule, table_rule, command_rule, line_rule}
@@ -15,8 +16,10 @@ use Rattle.statement_parser.specs.ReadBodies.{body_at}
 use Rattle.statement_parser.specs.ReadLine.{define_at, command_at, statement_at, started_at, line_at, quit_at}
 use Rattle.statement_parser.specs.ReadCommands.{corners_at, paint_at, new_at, drop_at, value_at, any_line_at, table_at, list_at}
 use Rattle.statement_parser.specs.declared.command.Command.{Command}
-use Rattle.statement_parser.specs.declared.command.Command.TheVariants.{Paint, New, Drop, Value, Grid, Show, Legend, Table, Stamps, List as Listing, Quit}
+use Rattle.statement_parser.specs.declared.command.Command.TheVariants.{Procedure, Paint, New, Drop, Label, Symbol, Value, Grid, Show, Legend, Table, Stamps, List as Listing, Quit}
 use Rattle.statement_parser.proofs.PlaceFacts.{the_place, name_place, any_place, side_place, cell_place, command_place}
+use Rattle.statement_parser.proofs.ProcedureReads.{procedure_reads}
+use Rattle.statement_parser.proofs.LabelRules.{label_reads, symbol_reads}
 use Rattle.statement_parser.proofs.ReadsBodies.{body_reads}
 use Rattle.statement_parser.proofs.Placing.{placed, placed_k}
 
@@ -25,8 +28,8 @@ module _ (m : Manner) where
   unfolding define_at
   define_reads n =
       let done = λ (w : Written). edit (define n w) in
-      placed m (the (codes "=")) false (λ u ws. body_at m ws >>= λ w. end_at w.1 >>= λ e. Ok (done w.0)) _ (the_place m (codes "=") refl refl) (λ u. refl) (λ u.
-      body_reads m (λ w ws. end_at ws >>= λ e. Ok (done w)) (λ w. ends (done w)) (λ w. ends_tail (tests m) (done w)) (λ w. end_reads (tests m) (done w)))
+      placed m (the (codes "=")) false (λ u ws. body_at anywhere m ws >>= λ w. end_at w.1 >>= λ e. Ok (done w.0)) _ (the_place m (codes "=") refl refl) (λ u. refl) (λ u.
+      body_reads m anywhere (λ w ws. end_at ws >>= λ e. Ok (done w)) (λ w. ends (done w)) (λ w. ends_tail (tests m) (done w)) (λ w. end_reads (tests m) (done w)))
 
   paint_reads : (ws : List Text) → paint_at ws ≡ run (tests m) paint_rule ws
   unfolding paint_at corners_at
@@ -74,10 +77,13 @@ module _ (m : Manner) where
   unfolding quit_at
   quit_reads = end_reads (tests m) quit
 
-  command_reads : (c : Command) (ws : List Text) → command_at c ws ≡ run (tests m) (command_rule c) ws
+  command_reads : (c : Command) (ws : List Text) → command_at m c ws ≡ run (tests m) (command_rule m c) ws
+  command_reads Procedure = procedure_reads m
   command_reads Paint = paint_reads
   command_reads New = new_reads
   command_reads Drop = drop_reads
+  command_reads Label = label_reads m
+  command_reads Symbol = symbol_reads m
   command_reads Value = value_reads
   command_reads Grid = any_reads (λ n. ask (ask_grid n))
   command_reads Show = any_reads (λ n. ask (ask_show n))
@@ -87,10 +93,13 @@ module _ (m : Manner) where
   command_reads Listing = list_reads
   command_reads Quit = quit_reads
 
-  command_node : (c : Command) → is_node (command_rule c) ≡ true
+  command_node : (c : Command) → is_node (command_rule m c) ≡ true
+  command_node Procedure = refl
   command_node Paint = refl
   command_node New = refl
   command_node Drop = refl
+  command_node Label = refl
+  command_node Symbol = refl
   command_node Value = refl
   command_node Grid = refl
   command_node Show = refl
@@ -107,12 +116,12 @@ module _ (m : Manner) where
   unfolding line_at run
   line_reads [] = refl
   line_reads (w ∷ ws) = started (command_named m w)
-      ∙ start_place (tests m) (Some blank) (command_named m) name_of (λ c ws. command_at c ws) (define_at m) command_rule (define_rule m) (command_place m) (name_place m) command_node define_node command_reads define_reads w ws
+      ∙ start_place (tests m) (Some blank) (command_named m) name_of (λ c ws. command_at m c ws) (define_at m) (command_rule m) (define_rule m) (command_place m) (name_place m) command_node define_node command_reads define_reads w ws
     where
       both : (o : Option Text) → statement_at m o ws ≡ or_refused (tests m) o (suc (length ws)) (λ n. define_at m n ws)
       both None = refl
       both (Some n) = refl
 
-      started : (c : Option Command) → started_at m c w ws ≡ or_else (tests m) c (or_refused (tests m) (name_of w) (suc (length ws)) (λ n. define_at m n ws)) (λ c. command_at c ws)
+      started : (c : Option Command) → started_at m c w ws ≡ or_else (tests m) c (or_refused (tests m) (name_of w) (suc (length ws)) (λ n. define_at m n ws)) (λ c. command_at m c ws)
       started None = both (name_of w)
       started (Some c) = refl

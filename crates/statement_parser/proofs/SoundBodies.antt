@@ -1,5 +1,5 @@
 -- The rules of operations are sound, whatever may follow them.
-use Rattle.std.proofs.Common.{◌≡◌, ℕ, zero, suc, ℤ, pos, Bool, true, false, cond, not, ◌&&◌, List, [], ◌∷◌, ◌++◌, Option, Some, None, refl, sym, subst, bytes_eq}
+use Rattle.std.proofs.Common.{◌≡◌, ℕ, zero, suc, ℤ, pos, Bool, true, false, not, ◌&&◌, List, [], ◌∷◌, ◌++◌, Option, Some, None, refl, sym, subst}
 use Rattle.std.specs.Prelude.{codes, is_some}
 use Rattle.map_nums.specs.declared.Stat.{Stat}
 use Rattle.map_nums.specs.declared.Rate.{Rate}
@@ -15,16 +15,16 @@ use Rattle.map_defs.specs.Ops.{Term, number_term, Op, local_op, difference_op, r
 use Rattle.map_defs.specs.Statements.{Written, plain, call}
 use Rattle.map_nums.specs.Numbers.{greatest_value}
 use Rattle.statement_parser.specs.Forms.{form_of}
-use Rattle.statement_parser.specs.Grammar.{body_rule}
 use Rattle.statement_parser.specs.Lines.{Manner, Line}
+use Rattle.statement_parser.specs.Scopes.{Scope}
 use Rattle.statement_parser.specs.Operations.{operation_named}
 use Rattle.statement_parser.specs.Places.{the, maybe, value_of, disc_of, reach_of, limit_of, term_of, weights_of, cell_of, call_of, tests}
-use Rattle.statement_parser.specs.Bodies.{term_after, further_terms, optional_part, statistic_body, pair_body, single_body, rate_part, with_rates, rating_body, radius_part, sight_part, radiates, focal_body, friction_part, spread_body, drainage_op, drainage_body, operation_body, call_body}
+use Rattle.statement_parser.specs.Bodies.{term_after, further_terms, optional_part, statistic_body, pair_body, single_body, rate_part, with_rates, rating_body, radius_part, sight_part, radiates, focal_body, friction_part, spread_body, drainage_op, drainage_body, operation_body, call_body, body_rule}
 use Rattle.statement_parser.specs.declared.operation.Operation.{Operation}
 use Rattle.statement_parser.specs.declared.operation.Operation.TheVariants.{Local, Difference, Ratio, Rating, Focal, Proximity, Insularity, Zonal, Incremental, Drainage}
 use Rattle.statement_parser.proofs.PlaceFacts.{term_takes, term_place, weights_takes, weights_place, value_takes, value_place, disc_takes, disc_place, reach_takes, reach_place, limit_takes, limit_place, cell_takes, cell_place, operation_takes}
 
-module _ (m : Manner) where
+module _ (m : Manner) (scope : Scope) where
   abbrev pub Tails : {A : Type 0} → (A → Rule Text Line) → Type 0
   Tails {A} f = (v : A) → Tail (tests m) (f v)
 
@@ -33,8 +33,8 @@ module _ (m : Manner) where
   pub the_tail : (word : Text) (r : Unit {0} → Rule Text Line) → the word word ≡ Some tt → the word (codes "LocalSum") ≡ None → Healthy (tests m) (r tt) → Tail (tests m) (next (the word) r)
   the_tail word r same free h = tail_next (tests m) (the word) r word tt same free (λ u. h)
 
-  pub term_tail : (r : Term → Rule Text Line) → ((t : Term) → Healthy (tests m) (r t)) → Tail (tests m) (next term_of r)
-  term_tail r h = tail_next (tests m) term_of r (codes "1") _ term_takes (term_place m).free h
+  pub term_tail : (r : Term → Rule Text Line) → ((t : Term) → Healthy (tests m) (r t)) → Tail (tests m) (next (term_of scope) r)
+  term_tail r h = tail_next (tests m) (term_of scope) r (codes "1") _ (term_takes scope) (term_place m scope).free h
 
   pub value_tail : (r : ℤ → Rule Text Line) → ((z : ℤ) → Healthy (tests m) (r z)) → Tail (tests m) (next value_of r)
   value_tail r h = tail_next (tests m) value_of r (codes "1") _ value_takes (value_place m).free h
@@ -48,25 +48,25 @@ module _ (m : Manner) where
   abbrev IsFree : Text → Type 0
   IsFree word = the word (codes "LocalSum") ≡ None
 
-  tail_after : (word : Text) (f : Term → Rule Text Line) → the word word ≡ Some tt → IsFree word → ((t : Term) → Healthy (tests m) (f t)) → Tail (tests m) (term_after word f)
+  tail_after : (word : Text) (f : Term → Rule Text Line) → the word word ≡ Some tt → IsFree word → ((t : Term) → Healthy (tests m) (f t)) → Tail (tests m) (term_after scope word f)
   tail_after word f same free h = the_tail word _ same free (term_tail f h).healthy
 
-  tail_further : (word : Text) (f : List Term → Rule Text Line) (n : ℕ) (ts : List Term) → the word word ≡ Some tt → IsFree word → Tails f → Tail (tests m) (further_terms word f n ts)
+  tail_further : (word : Text) (f : List Term → Rule Text Line) (n : ℕ) (ts : List Term) → the word word ≡ Some tt → IsFree word → Tails f → Tail (tests m) (further_terms scope word f n ts)
   tail_further word f zero ts same free h = h ts
   tail_further word f (suc n) ts same free h =
-      tail_also (tests m) (the word) (λ _. next term_of (λ t. further_terms word f n (ts ++ t ∷ []))) (f ts) word tt same free
-      (λ u. term_tail (λ t. further_terms word f n (ts ++ t ∷ [])) (λ t. (tail_further word f n (ts ++ t ∷ []) same free h).healthy)) (h ts)
+      tail_also (tests m) (the word) (λ _. next (term_of scope) (λ t. further_terms scope word f n (ts ++ t ∷ []))) (f ts) word tt same free
+      (λ u. term_tail (λ t. further_terms scope word f n (ts ++ t ∷ [])) (λ t. (tail_further word f n (ts ++ t ∷ []) same free h).healthy)) (h ts)
 
   tail_optional : {A : Type 0} (word : Text) (place : Text → Option A) (default : A) (f : A → Rule Text Line) → the word word ≡ Some tt → IsFree word → Tail (tests m) (next place f) → Tail (tests m) (f default)
       → Tail (tests m) (optional_part word place default f)
   tail_optional word place default f same free there left_out = tail_also (tests m) (the word) (λ _. next place f) (f default) word tt same free (λ u. there) left_out
 
-  tail_statistic : (s : Stat) (f : Op → Rule Text Line) → Tails f → Tail (tests m) (statistic_body s f)
+  tail_statistic : (s : Stat) (f : Op → Rule Text Line) → Tails f → Tail (tests m) (statistic_body scope s f)
   tail_statistic s f h =
       tail_after (codes "of") _ refl refl (λ a. (tail_after (codes "and") _ refl refl (λ b.
       (tail_further (codes "and") (λ ts. f (local_op s ts)) 6 (a ∷ b ∷ []) refl refl (λ ts. h (local_op s ts))).healthy)).healthy)
 
-  tail_pair : (word : Text) (make : Term → Term → Op) (f : Op → Rule Text Line) → the word word ≡ Some tt → IsFree word → Tails f → Tail (tests m) (pair_body word make f)
+  tail_pair : (word : Text) (make : Term → Term → Op) (f : Op → Rule Text Line) → the word word ≡ Some tt → IsFree word → Tails f → Tail (tests m) (pair_body scope word make f)
   tail_pair word make f same free h = tail_after (codes "of") _ refl refl (λ a. (tail_after word _ same free (λ b. (h (make a b)).healthy)).healthy)
 
   tail_rate : (f : Rate → Rule Text Line) → Tails f → Tail (tests m) (rate_part f)
@@ -81,12 +81,12 @@ module _ (m : Manner) where
       tail_also (tests m) (the (codes "with")) (λ _. rate_part (λ r. with_rates f n (rs ++ r ∷ []))) (f rs) (codes "with") tt refl refl
       (λ u. tail_rate (λ r. with_rates f n (rs ++ r ∷ [])) (λ r. tail_with f n (rs ++ r ∷ []) h)) (h rs)
 
-  tail_rating : (f : Op → Rule Text Line) → Tails f → Tail (tests m) (rating_body f)
+  tail_rating : (f : Op → Rule Text Line) → Tails f → Tail (tests m) (rating_body scope f)
   tail_rating f h =
       tail_after (codes "of") _ refl refl (λ a. (the_tail (codes "with") _ refl refl (tail_rate _ (λ r.
       tail_with (λ rs. f (rating_op a rs)) 31 (r ∷ []) (λ rs. h (rating_op a rs)))).healthy).healthy)
 
-  tail_single : (make : Term → Op) (f : Op → Rule Text Line) → Tails f → Tail (tests m) (single_body make f)
+  tail_single : (make : Term → Op) (f : Op → Rule Text Line) → Tails f → Tail (tests m) (single_body scope make f)
   tail_single make f h = tail_after (codes "of") _ refl refl (λ a. (h (make a)).healthy)
 
   -- a part that may be left out, of one place
@@ -96,7 +96,7 @@ module _ (m : Manner) where
   tail_radius : (s : Stat) (a : Term) (f : Op → Rule Text Line) → Tails f → Tail (tests m) (radius_part s a f)
   tail_radius s a f h = tail_part (codes "at") disc_of (Some 1) None (λ r. f (focal_op s r a)) refl refl disc_takes (disc_place m).free (λ r. h (focal_op s r a))
 
-  tail_sight : (a : Term) (f : Op → Rule Text Line) → Tails f → Tail (tests m) (sight_part a f)
+  tail_sight : (a : Term) (f : Op → Rule Text Line) → Tails f → Tail (tests m) (sight_part scope a f)
   tail_sight a f h =
       let made = λ (surface : Term) (from to : ℤ) (reach : ℕ). let x : Op = sight_op (record { from = from; to = to; reach = reach }) a surface in x in
       let reaches = λ (surface : Term) (from to : ℤ). tail_part (codes "within") reach_of 1 64 (λ reach. f (made surface from to reach)) refl refl reach_takes (reach_place m).free (λ reach. h (made surface from to reach)) in
@@ -114,24 +114,24 @@ module _ (m : Manner) where
       after_each : (r : Rule Text Line) → Sound (tests m) r → (w : Text) → Sound (tests m) (step r w)
       after_each r s w = next_sound (tests m) r w s
 
-  tail_focal : (s : Stat) (f : Op → Rule Text Line) → Tails f → Tail (tests m) (focal_body m s f)
+  tail_focal : (s : Stat) (f : Op → Rule Text Line) → Tails f → Tail (tests m) (focal_body scope m s f)
   tail_focal s f h =
-      tail_after (codes "of") _ refl refl (λ a. (tail_maybe (radiates m s) (codes "radiating") (λ _. sight_part a f) (radius_part s a f) refl refl (λ u. tail_sight a f h) (tail_radius s a f h)).healthy)
+      tail_after (codes "of") _ refl refl (λ a. (tail_maybe (radiates m s) (codes "radiating") (λ _. sight_part scope a f) (radius_part s a f) refl refl (λ u. tail_sight a f h) (tail_radius s a f h)).healthy)
 
-  tail_friction : (f : Term → Rule Text Line) → Tails f → Tail (tests m) (friction_part f)
+  tail_friction : (f : Term → Rule Text Line) → Tails f → Tail (tests m) (friction_part scope f)
   tail_friction f h =
-      tail_also (tests m) (the (codes "spreading")) (λ _. term_after (codes "in") f) (f (number_term (pos 1))) (codes "spreading") tt refl refl (λ u. tail_after (codes "in") f refl refl (λ t. (h t).healthy)) (h (number_term (pos 1)))
+      tail_also (tests m) (the (codes "spreading")) (λ _. term_after scope (codes "in") f) (f (number_term (pos 1))) (codes "spreading") tt refl refl (λ u. tail_after (codes "in") f refl refl (λ t. (h t).healthy)) (h (number_term (pos 1)))
 
-  tail_spread : (f : Op → Rule Text Line) → Tails f → Tail (tests m) (spread_body f)
+  tail_spread : (f : Op → Rule Text Line) → Tails f → Tail (tests m) (spread_body scope f)
   tail_spread f h =
       tail_after (codes "of") _ refl refl (λ a. (tail_friction (λ friction. optional_part (codes "within") limit_of greatest_value (λ limit. f (spread_op limit a friction))) (λ friction.
       tail_part (codes "within") limit_of 1 greatest_value (λ limit. f (spread_op limit a friction)) refl refl limit_takes (limit_place m).free (λ limit. h (spread_op limit a friction)))).healthy)
 
-  tail_drainage : (f : Op → Rule Text Line) → Tails f → Tail (tests m) (drainage_body f)
+  tail_drainage : (f : Op → Rule Text Line) → Tails f → Tail (tests m) (drainage_body scope f)
   tail_drainage f h =
-      tail_after (codes "of") _ refl refl (λ a. (tail_part (codes "carrying") weights_of (Some (number_term (pos 1))) None (λ w. f (drainage_op a w)) refl refl weights_takes (weights_place m).free (λ w. h (drainage_op a w))).healthy)
+      tail_after (codes "of") _ refl refl (λ a. (tail_part (codes "carrying") (weights_of scope) (Some (number_term (pos 1))) None (λ w. f (drainage_op a w)) refl refl (weights_takes scope) (weights_place m scope).free (λ w. h (drainage_op a w))).healthy)
 
-  pub tail_operation : (f : Op → Rule Text Line) → Tails f → (o : Operation) → Tail (tests m) (operation_body m f o)
+  pub tail_operation : (f : Op → Rule Text Line) → Tails f → (o : Operation) → Tail (tests m) (operation_body scope m f o)
   tail_operation f h (Local s) = tail_statistic s f h
   tail_operation f h Difference = tail_pair (codes "and") difference_op f refl refl h
   tail_operation f h Ratio = tail_pair (codes "and") ratio_op f refl refl h
@@ -143,7 +143,7 @@ module _ (m : Manner) where
   tail_operation f h (Incremental form) = tail_single (form_op (form_of form)) f h
   tail_operation f h Drainage = tail_drainage f h
 
-  tail_call : (f : List Term → Rule Text Line) → Tails f → Tail (tests m) (call_body f)
+  tail_call : (f : List Term → Rule Text Line) → Tails f → Tail (tests m) (call_body scope f)
   tail_call f h =
       tail_after (codes "(") _ refl refl (λ a. (tail_further (codes ",") (λ ts. next (the (codes ")")) (λ _. f ts)) 7 (a ∷ []) refl refl (λ ts.
       the_tail (codes ")") (λ _. f ts) refl refl (h ts).healthy)).healthy)
@@ -165,31 +165,31 @@ module _ (m : Manner) where
   is_false false e = refl
 
   -- a call doesn't go on without its sign
-  not_called : (f : List Term → Rule Text Line) (ws : List Text) (x : Line) → opens_next (tests m) ws ≡ false → Derives (call_body f) ws x → ⊥
+  not_called : (f : List Term → Rule Text Line) (ws : List Text) (x : Line) → opens_next (tests m) ws ≡ false → Derives (call_body scope f) ws x → ⊥
   not_called f [] x e d = absurd cc
   not_called f (w ∷ ws) x e d = go (the (codes "(") w) (rw e refl) d
     where
-      go : (o : Option (Unit {0})) → o ≡ None → Derives (after o (λ _. next term_of (λ a. further_terms (codes ",") (λ ts. next (the (codes ")")) (λ _. f ts)) 7 (a ∷ [])))) ws x → ⊥
+      go : (o : Option (Unit {0})) → o ≡ None → Derives (after o (λ _. next (term_of scope) (λ a. further_terms scope (codes ",") (λ ts. next (the (codes ")")) (λ _. f ts)) 7 (a ∷ [])))) ws x → ⊥
       go None e d = nothing fail ws x refl d
       go (Some u) e d = absurd cc
 
   -- no unknown word begins a body
-  known_body : (r : Operation → Rule Text Line) (f : Text → List Term → Rule Text Line) → KnownBodies (tests m) (on (operation_named m) r <|> on (call_of m) (λ p. call_body (f p)))
+  known_body : (r : Operation → Rule Text Line) (f : Text → List Term → Rule Text Line) → KnownBodies (tests m) (on (operation_named m) r <|> on (call_of m) (λ p. call_body scope (f p)))
   known_body r f b w ws x u d =
       let stranger = both_true (has_name_form w && not (is_some (operation_named m w))) (not (opens_next (tests m) ws)) u in
       go (operation_named m w) (call_of m w) (no_operation (has_name_form w) (operation_named m w) stranger.0) (is_false (opens_next (tests m) ws) stranger.1) d
     where
-      go : (o : Option Operation) (p : Option Text) → o ≡ None → opens_next (tests m) ws ≡ false → Derives (or_rule (after o r) (after p (λ p. call_body (f p)))) ws x → ⊥
+      go : (o : Option Operation) (p : Option Text) → o ≡ None → opens_next (tests m) ws ≡ false → Derives (or_rule (after o r) (after p (λ p. call_body scope (f p)))) ws x → ⊥
       go None None e n d = nothing fail ws x refl d
       go None (Some p) e n d = not_called (f p) ws x n d
       go (Some o) p e n d = absurd cc
 
-  pub healthy_body : (f : Written → Rule Text Line) → Tails f → Healthy (tests m) (body_rule m f)
+  pub healthy_body : (f : Written → Rule Text Line) → Tails f → Healthy (tests m) (body_rule scope m f)
   healthy_body f h =
-      let operations = operation_body m (λ op. f (plain op)) in
-      let calls = λ (p : Text). call_body (λ ts. f (call p ts)) in
+      let operations = operation_body scope m (λ op. f (plain op)) in
+      let calls = λ (p : Text). call_body scope (λ ts. f (call p ts)) in
       let sum = tail_statistic stats.Sum (λ op. f (plain op)) (λ op. h (plain op)) in
-      let begins : Begins (body_rule m f) [] = through None (on (operation_named m) operations <|> on (call_of m) calls) (codes "LocalSum") (subst (λ o. Begins (or_rule (after o operations) (after (call_of m (codes "LocalSum")) calls)) []) (sym (operation_takes m)) sum.healthy.begins) in
+      let begins : Begins (body_rule scope m f) [] = through None (on (operation_named m) operations <|> on (call_of m) calls) (codes "LocalSum") (subst (λ o. Begins (or_rule (after o operations) (after (call_of m (codes "LocalSum")) calls)) []) (sym (operation_takes m)) sum.healthy.begins) in
       record {
         begins = begins;
         sound = (

@@ -3,7 +3,8 @@ use Rattle.std.proofs.Common.{◌≡◌, ◌⊎◌, inl, inr, ℕ, ◌-◌, ◌<
 use Rattle.std.specs.Prelude.{nat_le, IfSome}
 use Rattle.std.proofs.lemmas.Bool.Decides.{nat_tests}
 use Rattle.map_words.specs.Bytes.{Text, first_bad, is_silent}
-use Rattle.map_words.specs.Words.{Placed, words_of, text_of}
+use Rattle.map_words.specs.Words.{Placed, text_of}
+use Rattle.statement_parser.specs.Tails.{line_words}
 use Rattle.std.proofs.Math.Seq.{take-length}
 use Rattle.std.proofs.lemmas.List.{drop-map, length-map}
 use Rattle.map_words.specs.Cut.{placed, placed_all}
@@ -54,7 +55,7 @@ texts_placed : (ws : List Word) → texts_of ws ≡ map text_of (placed_all ws)
 texts_placed [] = refl
 texts_placed (w ∷ ws) = ap (λ ts. w.text.now ∷ ts) (texts_placed ws)
 
-module _ (m : Manner) (bytes : Text) (ws : List Word) (short : is_short bytes ≡ true) (spoken : is_silent bytes ≡ false) (good : first_bad bytes ≡ None) (cut : placed_all ws ≡ words_of bytes) where
+module _ (m : Manner) (bytes : Text) (ws : List Word) (short : is_short bytes ≡ true) (spoken : is_silent bytes ≡ false) (good : first_bad bytes ≡ None) (cut : placed_all ws ≡ line_words bytes) where
   same : texts_of ws ≡ seen bytes
   same = texts_placed ws ∙ ap (map text_of) cut
 

@@ -1,42 +1,45 @@
 -- What follows an operation's name; f is what may follow the operation.
-use Rattle.std.specs.Prelude.{ℕ, zero, suc, pos, Bool, false, ◌&&◌, List, [], ◌∷◌, ◌++◌, Option, Some, None, codes}
+use Rattle.std.specs.Prelude.{ℕ, zero, suc, pos, Bool, false, List, [], ◌∷◌, ◌++◌, Option, Some, None, codes}
 use Rattle.map_nums.specs.declared.Stat.{Stat}
 use Rattle.map_nums.specs.declared.Stat.TheVariants.{Sum}
 use Rattle.map_nums.specs.declared.Rate.{Rate}
 use Rattle.map_nums.specs.Numbers.{greatest_value}
 use Rattle.map_words.specs.Bytes.{Text}
 use Rattle.map_defs.specs.Ops.{Term, number_term, Op, local_op, difference_op, ratio_op, rating_op, focal_op, zonal_op, form_op, direction_op, flow_op, spread_op, sight_op, region_op}
-use Rattle.grammar_core.specs.Rules.{Rule, on, next, also}
+use Rattle.grammar_core.specs.Rules.{Rule, node, on, next, also, ◌<|>◌}
+use Rattle.map_defs.specs.Statements.{Written, plain, call}
 use Rattle.statement_parser.specs.Lines.{Manner, Line}
+use Rattle.statement_parser.specs.Scopes.{Scope}
 use Rattle.statement_parser.specs.Forms.{form_of}
-use Rattle.statement_parser.specs.Places.{the, maybe, value_of, disc_of, reach_of, limit_of, term_of, weights_of, cell_of}
+use Rattle.statement_parser.specs.Operations.{operation_named}
+use Rattle.statement_parser.specs.Places.{the, maybe, value_of, disc_of, reach_of, limit_of, term_of, weights_of, cell_of, call_of}
 use Rattle.statement_parser.specs.declared.operation.Operation.{Operation}
 use Rattle.statement_parser.specs.declared.operation.Operation.TheVariants.{Local, Difference, Ratio, Rating, Focal, Proximity, Insularity, Zonal, Incremental, Drainage}
 
 -- word term
-abbrev pub term_after : Text → (Term → Rule Text Line) → Rule Text Line
-term_after word f = next (the word) (λ _. next term_of f)
+abbrev pub term_after : Scope → Text → (Term → Rule Text Line) → Rule Text Line
+term_after scope word f = next (the word) (λ _. next (term_of scope) f)
 
 -- {word term}, at most n times
-abbrev pub further_terms : Text → (List Term → Rule Text Line) → ℕ → List Term → Rule Text Line
-further_terms word f zero ts = f ts
-further_terms word f (suc n) ts = also (on (the word) (λ _. next term_of (λ t. further_terms word f n (ts ++ t ∷ [])))) (f ts)
+abbrev pub further_terms : Scope → Text → (List Term → Rule Text Line) → ℕ → List Term → Rule Text Line
+further_terms scope word f zero ts = f ts
+further_terms scope word f (suc n) ts = also (on (the word) (λ _. next (term_of scope) (λ t. further_terms scope word f n (ts ++ t ∷ [])))) (f ts)
 
 -- [word place]; left out, it is the default
 abbrev pub optional_part : {A : Type 0} → Text → (Text → Option A) → A → (A → Rule Text Line) → Rule Text Line
 optional_part word place default f = also (on (the word) (λ _. next place f)) (f default)
 
 -- "of" term "and" term {"and" term}, 2 to 8 terms
-abbrev pub statistic_body : Stat → (Op → Rule Text Line) → Rule Text Line
-statistic_body s f = term_after (codes "of") (λ a. term_after (codes "and") (λ b. further_terms (codes "and") (λ ts. f (local_op s ts)) 6 (a ∷ b ∷ [])))
+abbrev pub statistic_body : Scope → Stat → (Op → Rule Text Line) → Rule Text Line
+statistic_body scope s f = term_after scope (codes "of") (λ a. term_after scope (codes "and") (λ b. further_terms scope (codes "and") (λ ts. f (local_op s ts)) 6 (a ∷ b ∷ [])))
 
 -- "of" term
-abbrev pub single_body : (Term → Op) → (Op → Rule Text Line) → Rule Text Line
-single_body make f = term_after (codes "of") (λ a. f (make a))
+abbrev pub single_body : Scope → (Term → Op) → (Op → Rule Text Line) → Rule Text Line
+single_body scope make f = term_after scope (codes "of") (λ a. f (make a))
 
 -- "of" term word term
-abbrev pub pair_body : Text → (Term → Term → Op) → (Op → Rule Text Line) → Rule Text Line
-pair_body word make f = term_after (codes "of") (λ a. term_after word (λ b. f (make a b)))
+abbrev pub pair_body : Scope → Text → (Term → Term → Op) → (Op → Rule Text Line) → Rule Text Line
+pair_body scope word make f = term_after scope (codes "of") (λ a. term_after scope word (λ b. f (make a b)))
 
 -- cell "for" VALUE ["to" VALUE]
 abbrev pub rate_part : (Rate → Rule Text Line) → Rule Text Line
@@ -50,9 +53,9 @@ with_rates f zero rs = f rs
 with_rates f (suc n) rs = also (on (the (codes "with")) (λ _. rate_part (λ r. with_rates f n (rs ++ r ∷ [])))) (f rs)
 
 -- "of" term "with" cell "for" VALUE ["to" VALUE] .., 1 to 32 clauses
-abbrev pub rating_body : (Op → Rule Text Line) → Rule Text Line
-rating_body f =
-    term_after (codes "of") (λ a. next (the (codes "with")) (λ _. rate_part (λ r.
+abbrev pub rating_body : Scope → (Op → Rule Text Line) → Rule Text Line
+rating_body scope f =
+    term_after scope (codes "of") (λ a. next (the (codes "with")) (λ _. rate_part (λ r.
     with_rates (λ rs. f (rating_op a rs)) 31 (r ∷ []))))
 
 -- ["at" RADIUS]
@@ -60,9 +63,9 @@ abbrev pub radius_part : Stat → Term → (Op → Rule Text Line) → Rule Text
 radius_part s a f = optional_part (codes "at") disc_of None (λ r. f (focal_op s r a))
 
 -- "on" term ["from" VALUE] ["to" VALUE] ["within" REACH]
-abbrev pub sight_part : Term → (Op → Rule Text Line) → Rule Text Line
-sight_part a f =
-    term_after (codes "on") (λ surface.
+abbrev pub sight_part : Scope → Term → (Op → Rule Text Line) → Rule Text Line
+sight_part scope a f =
+    term_after scope (codes "on") (λ surface.
     optional_part (codes "from") value_of (pos 0) (λ from.
     optional_part (codes "to") value_of (pos 0) (λ to.
     optional_part (codes "within") reach_of 64 (λ reach. f (sight_op (record { from = from; to = to; reach = reach }) a surface)))))
@@ -73,17 +76,17 @@ radiates m Sum = m.sight
 radiates m s = false
 
 -- "of" term, and then what radiates or a radius
-abbrev pub focal_body : Manner → Stat → (Op → Rule Text Line) → Rule Text Line
-focal_body m s f = term_after (codes "of") (λ a. also (on (maybe (radiates m s) (the (codes "radiating"))) (λ _. sight_part a f)) (radius_part s a f))
+abbrev pub focal_body : Scope → Manner → Stat → (Op → Rule Text Line) → Rule Text Line
+focal_body scope m s f = term_after scope (codes "of") (λ a. also (on (maybe (radiates m s) (the (codes "radiating"))) (λ _. sight_part scope a f)) (radius_part s a f))
 
 -- ["spreading" "in" term]
-abbrev pub friction_part : (Term → Rule Text Line) → Rule Text Line
-friction_part f = also (on (the (codes "spreading")) (λ _. term_after (codes "in") f)) (f (number_term (pos 1)))
+abbrev pub friction_part : Scope → (Term → Rule Text Line) → Rule Text Line
+friction_part scope f = also (on (the (codes "spreading")) (λ _. term_after scope (codes "in") f)) (f (number_term (pos 1)))
 
 -- "of" term ["spreading" "in" term] ["within" LIMIT]
-abbrev pub spread_body : (Op → Rule Text Line) → Rule Text Line
-spread_body f =
-    term_after (codes "of") (λ a. friction_part (λ friction. optional_part (codes "within") limit_of greatest_value (λ limit. f (spread_op limit a friction))))
+abbrev pub spread_body : Scope → (Op → Rule Text Line) → Rule Text Line
+spread_body scope f =
+    term_after scope (codes "of") (λ a. friction_part scope (λ friction. optional_part (codes "within") limit_of greatest_value (λ limit. f (spread_op limit a friction))))
 
 -- the flow that carries weights, or else the direction
 abbrev pub drainage_op : Term → Option Term → Op
@@ -91,22 +94,26 @@ drainage_op a None = direction_op a
 drainage_op a (Some weights) = flow_op a weights
 
 -- "of" term ["carrying" term]
-abbrev pub drainage_body : (Op → Rule Text Line) → Rule Text Line
-drainage_body f = term_after (codes "of") (λ a. optional_part (codes "carrying") weights_of None (λ w. f (drainage_op a w)))
+abbrev pub drainage_body : Scope → (Op → Rule Text Line) → Rule Text Line
+drainage_body scope f = term_after scope (codes "of") (λ a. optional_part (codes "carrying") (weights_of scope) None (λ w. f (drainage_op a w)))
 
 -- what follows the name of each operation
-abbrev pub operation_body : Manner → (Op → Rule Text Line) → Operation → Rule Text Line
-operation_body m f (Local s) = statistic_body s f
-operation_body m f Difference = pair_body (codes "and") difference_op f
-operation_body m f Ratio = pair_body (codes "and") ratio_op f
-operation_body m f Rating = rating_body f
-operation_body m f (Focal s) = focal_body m s f
-operation_body m f Proximity = spread_body f
-operation_body m f Insularity = single_body region_op f
-operation_body m f (Zonal s) = pair_body (codes "within") (zonal_op s) f
-operation_body m f (Incremental form) = single_body (form_op (form_of form)) f
-operation_body m f Drainage = drainage_body f
+abbrev pub operation_body : Scope → Manner → (Op → Rule Text Line) → Operation → Rule Text Line
+operation_body scope m f (Local s) = statistic_body scope s f
+operation_body scope m f Difference = pair_body scope (codes "and") difference_op f
+operation_body scope m f Ratio = pair_body scope (codes "and") ratio_op f
+operation_body scope m f Rating = rating_body scope f
+operation_body scope m f (Focal s) = focal_body scope m s f
+operation_body scope m f Proximity = spread_body scope f
+operation_body scope m f Insularity = single_body scope region_op f
+operation_body scope m f (Zonal s) = pair_body scope (codes "within") (zonal_op s) f
+operation_body scope m f (Incremental form) = single_body scope (form_op (form_of form)) f
+operation_body scope m f Drainage = drainage_body scope f
 
 -- "(" term {"," term} ")", 1 to 8 terms
-abbrev pub call_body : (List Term → Rule Text Line) → Rule Text Line
-call_body f = term_after (codes "(") (λ a. further_terms (codes ",") (λ ts. next (the (codes ")")) (λ _. f ts)) 7 (a ∷ []))
+abbrev pub call_body : Scope → (List Term → Rule Text Line) → Rule Text Line
+call_body scope f = term_after scope (codes "(") (λ a. further_terms scope (codes ",") (λ ts. next (the (codes ")")) (λ _. f ts)) 7 (a ∷ []))
+
+-- an operation or a call, and then what f allows
+abbrev pub body_rule : Scope → Manner → (Written → Rule Text Line) → Rule Text Line
+body_rule scope m f = node None (on (operation_named m) (operation_body scope m (λ op. f (plain op))) <|> on (call_of m) (λ p. call_body scope (λ ts. f (call p ts))))

@@ -1,7 +1,8 @@
 -- The columns of a line's words, from 1.
 use Rattle.std.specs.Prelude.{ℕ, suc, ◌-◌, List, [], ◌∷◌, length, drop}
 use Rattle.map_words.specs.Bytes.{Text}
-use Rattle.map_words.specs.Words.{Placed, words_of}
+use Rattle.map_words.specs.Words.{Placed}
+use Rattle.statement_parser.specs.Tails.{line_words}
 
 -- the column of the first word, or the one after the line's last byte
 abbrev pub first_column : ℕ → List Placed → ℕ
@@ -13,4 +14,4 @@ abbrev pub column_among : ℕ → List Placed → ℕ → ℕ
 column_among len ws n = first_column len (drop (length ws - n) ws)
 
 abbrev pub column : Text → ℕ → ℕ
-column bytes n = column_among (length bytes) (words_of bytes) n
+column bytes n = column_among (length bytes) (line_words bytes) n

@@ -4,12 +4,15 @@ use Rattle.std.specs.List.{list_any}
 use Rattle.map_words.specs.Bytes.{Text}
 use Rattle.statement_parser.specs.Lines.{Manner}
 use Rattle.statement_parser.specs.declared.command.Command.{Command}
-use Rattle.statement_parser.specs.declared.command.Command.TheVariants.{Paint, New, Drop, Value, Grid, Show, Legend, Table, Stamps, List as Listing, Quit}
+use Rattle.statement_parser.specs.declared.command.Command.TheVariants.{Procedure, Paint, New, Drop, Label, Symbol, Value, Grid, Show, Legend, Table, Stamps, List as Listing, Quit}
 
 abbrev pub command_text : Command → Text
+command_text Procedure = codes "procedure"
 command_text Paint = codes "paint"
 command_text New = codes "new"
 command_text Drop = codes "drop"
+command_text Label = codes "label"
+command_text Symbol = codes "symbol"
 command_text Value = codes "value"
 command_text Grid = codes "grid"
 command_text Show = codes "show"
@@ -21,7 +24,7 @@ command_text Quit = codes "quit"
 
 -- all commands
 abbrev pub commands : List Command
-commands = Paint ∷ New ∷ Drop ∷ Value ∷ Grid ∷ Show ∷ Legend ∷ Table ∷ Stamps ∷ Listing ∷ Quit ∷ []
+commands = Procedure ∷ Paint ∷ New ∷ Drop ∷ Label ∷ Symbol ∷ Value ∷ Grid ∷ Show ∷ Legend ∷ Table ∷ Stamps ∷ Listing ∷ Quit ∷ []
 
 -- the command with this word
 unfoldable pub find_command : Text → Option Command

@@ -1,16 +1,18 @@
 -- What every line keeps: names, ranges and counts.
-use Rattle.std.specs.Prelude.{ℕ, ◌≤◌, ◌||◌, List, [], ◌∷◌, length, Option, Some, None, IsTrue}
+use Rattle.std.specs.Prelude.{◌≡◌, ℕ, ◌≤◌, ◌||◌, List, [], ◌∷◌, ◌++◌, length, codes, Option, Some, None, IsTrue, IsFalse}
 use Rattle.map_nums.specs.declared.Stat.{Stat}
 use Rattle.map_nums.specs.declared.Stat.TheVariants.{Product}
 use Rattle.map_nums.specs.declared.Rate.{Rate}
 use Rattle.map_nums.specs.Numbers.{is_value, greatest_value}
 use Rattle.layer_tiles.specs.Cells.{IsCell}
-use Rattle.map_words.specs.Bytes.{Text}
+use Rattle.map_words.specs.Bytes.{Text, is_good}
 use Rattle.map_words.specs.Names.{is_plain, is_dotted}
 use Rattle.map_defs.specs.Sight.{Sighting}
-use Rattle.map_defs.specs.Ops.{Term, layer_term, number_term, Op, local_op, difference_op, ratio_op, rating_op, focal_op, zonal_op, form_op, direction_op, flow_op, spread_op, sight_op, region_op}
-use Rattle.map_defs.specs.Statements.{Written, plain, call}
-use Rattle.statement_parser.specs.Lines.{Edit, define, paint, new_layer, drop, Request, ask_value, ask_grid, ask_show, ask_legend, ask_table, ask_stamps, ask_list, Line, blank, edit, ask, quit}
+use Rattle.map_defs.specs.Ops.{Term, layer_term, number_term, terms_of, Op, local_op, difference_op, ratio_op, rating_op, focal_op, zonal_op, form_op, direction_op, flow_op, spread_op, sight_op, region_op}
+use Rattle.map_defs.specs.Statements.{Written, plain, call, Inner, Procedure}
+use Rattle.statement_parser.specs.Signs.{is_sign}
+use Rattle.statement_parser.specs.Scopes.{Scope, has_name, names_before}
+use Rattle.statement_parser.specs.Lines.{Edit, define, paint, new_layer, drop, define_procedure, put_label, put_symbol, Request, ask_value, ask_grid, ask_show, ask_legend, ask_table, ask_stamps, ask_list, Line, blank, edit, ask, quit}
 
 abbrev pub Each : {A : Type 0} → (A → Type 0) → List A → Type 0
 Each P [] = Unit {0}
@@ -64,11 +66,60 @@ IsWritten (call p ts) = IsTrue (is_plain p) × (1 ≤ length ts) × (length ts �
 abbrev pub IsSide : ℕ → Type 0
 IsSide n = IsBetween 1 4096 n
 
+-- a number, or a name of the scope
+abbrev pub InScope : Scope → Term → Type 0
+InScope scope (layer_term n) = IsTrue (scope n)
+InScope scope (number_term z) = Unit {0}
+
+abbrev pub AreInScope : Scope → Written → Type 0
+AreInScope scope (plain o) = Each (InScope scope) (terms_of o)
+AreInScope scope (call p ts) = Each (InScope scope) ts
+
+-- the name is new after these
+abbrev pub IsFresh : List Text → Text → Type 0
+IsFresh ns n = IsTrue (is_plain n) × IsFalse (has_name ns n)
+
+-- each name is new after these and those before it
+abbrev pub AreFresh : List Text → List Text → Type 0
+AreFresh ns [] = Unit {0}
+AreFresh ns (p ∷ ps) = IsFresh ns p × AreFresh (ns ++ p ∷ []) ps
+
+-- a body whose terms are numbers or of these names
+abbrev pub IsInner : List Text → Written → Type 0
+IsInner ns w = IsWritten w × AreInScope (has_name ns) w
+
+-- statements whose names are new, and whose terms are numbers or of names that stand before
+abbrev pub AreInner : List Text → List Inner → Type 0
+AreInner ns [] = Unit {0}
+AreInner ns (i ∷ is) = IsFresh ns i.name × IsInner ns i.written × AreInner (ns ++ i.name ∷ []) is
+
+-- the last statement of a body is result, and no other
+pub record IsBody (ps : List Text) (body : List Inner) : Type 0 where
+  pub before : List Inner
+  pub last : Written
+  pub whole : body ≡ before ++ record { name = codes "result"; written = last } ∷ []
+  pub inner : AreInner ps before
+  pub result : IsInner (names_before ps before) last
+
+pub record IsProcedure (p : Procedure) : Type 0 where
+  pub name : IsTrue (is_plain p.name)
+  pub some : IsBetween 1 8 (length p.takes)
+  pub takes : AreFresh [] p.takes
+  pub few : length p.body ≤ 16
+  pub body : IsBody p.takes p.body
+
+-- the text of a label
+abbrev pub IsText : Text → Type 0
+IsText t = (1 ≤ length t) × (length t ≤ 64) × Each (λ b. IsTrue (is_good b)) t
+
 abbrev pub IsEdit : Edit → Type 0
 IsEdit (define n w) = IsTrue (is_plain n) × IsWritten w
+IsEdit (define_procedure p) = IsProcedure p
 IsEdit (paint n r1 c1 r2 c2 v) = IsTrue (is_plain n) × IsSide r1 × IsSide c1 × IsSide r2 × IsSide c2 × IsCell v
 IsEdit (new_layer n v) = IsTrue (is_plain n) × IsCell v
 IsEdit (drop n) = IsTrue (is_plain n)
+IsEdit (put_label n z t) = IsTrue (is_plain n) × IsTrue (is_value z) × IsText t
+IsEdit (put_symbol n z b) = IsTrue (is_plain n) × IsTrue (is_value z) × IsTrue (is_sign b)
 
 -- a plain or a dotted name
 abbrev pub IsAny : Text → Type 0

@@ -1,7 +1,7 @@
 -- What lines are.
 use Rattle.std.specs.Prelude.{ℕ, ℤ, Bool, List, Option}
 use Rattle.map_words.specs.Bytes.{Text}
-use Rattle.map_defs.specs.Statements.{Written}
+use Rattle.map_defs.specs.Statements.{Written, Procedure}
 use Rattle.statement_parser.specs.declared.operation.Operation.{Operation}
 use Rattle.statement_parser.specs.declared.command.Command.{Command}
 
@@ -18,11 +18,16 @@ pub record Manner : Type 0 where
 -- a line that changes the map
 pub data Edit : Type 0 where
   define : Text → Written → Edit
+  define_procedure : Procedure → Edit
   -- the first row and column, the last row and column, and the cell
   paint : Text → ℕ → ℕ → ℕ → ℕ → Option ℤ → Edit
   -- a layer that has this cell everywhere
   new_layer : Text → Option ℤ → Edit
   drop : Text → Edit
+  -- the text that stands for a value of a layer
+  put_label : Text → ℤ → Text → Edit
+  -- the byte that stands for a value of a layer
+  put_symbol : Text → ℤ → ℕ → Edit
 
 -- a line that asks for something
 pub data Request : Type 0 where

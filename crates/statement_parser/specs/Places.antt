@@ -7,6 +7,7 @@ use Rattle.map_words.specs.Numbers.{is_number, number_in}
 use Rattle.grammar_core.specs.Refusals.{Tests}
 use Rattle.map_defs.specs.Ops.{Term, layer_term, number_term}
 use Rattle.statement_parser.specs.Lines.{Manner}
+use Rattle.statement_parser.specs.Scopes.{Scope}
 use Rattle.statement_parser.specs.Operations.{is_operation}
 
 -- this very word
@@ -45,12 +46,13 @@ reach_of t = count_of (pos 1) (pos 64) t
 abbrev pub limit_of : Text → Option ℕ
 limit_of t = count_of (pos 0) vmax t
 
-abbrev pub term_of : Text → Option Term
-term_of t = if is_plain t then Some (layer_term t) else option_map number_term (value_of t)
+-- a name of the scope, or a number
+abbrev pub term_of : Scope → Text → Option Term
+term_of scope t = if is_plain t && scope t then Some (layer_term t) else option_map number_term (value_of t)
 
 -- the term of a part that may be left out
-abbrev pub weights_of : Text → Option (Option Term)
-weights_of t = option_map Some (term_of t)
+abbrev pub weights_of : Scope → Text → Option (Option Term)
+weights_of scope t = option_map Some (term_of scope t)
 
 abbrev pub cell_of : Text → Option (Option ℤ)
 cell_of t = if bytes_eq t (codes "null") then Some None else option_map Some (value_of t)
@@ -66,7 +68,7 @@ call_of m t = maybe m.calls name_of t
 -- what refusals ask of a word
 abbrev pub tests : Manner → Tests Text
 tests m = record {
-  number = codes "1";
+  number = codes "10";
   operation = codes "LocalSum";
   is_number = is_number;
   is_stranger = λ t. has_name_form t && not (is_operation m t);
@@ -76,7 +78,7 @@ tests m = record {
 -- what the reading of one word asks: whether it is a number
 abbrev pub reading : Tests Text
 reading = record {
-  number = codes "1";
+  number = codes "10";
   operation = codes "LocalSum";
   is_number = is_number;
   is_stranger = λ t. false;

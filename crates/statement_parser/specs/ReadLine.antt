@@ -6,17 +6,20 @@ use Rattle.grammar_core.specs.declared.Fault.{Fault}
 use Rattle.grammar_core.specs.Run.{refused}
 use Rattle.grammar_core.specs.Readers.{◌>>=◌, one_at, end_at}
 use Rattle.statement_parser.specs.Lines.{Manner, Line, define, ask_grid, ask_show, ask_legend, ask_stamps, blank, edit, ask, quit}
+use Rattle.statement_parser.specs.Scopes.{anywhere}
 use Rattle.statement_parser.specs.Places.{the, name_of, reading}
 use Rattle.statement_parser.specs.Commands.{command_named}
 use Rattle.statement_parser.specs.ReadBodies.{body_at}
+use Rattle.statement_parser.specs.ReadLabels.{label_at, symbol_at}
+use Rattle.statement_parser.specs.ReadProcedures.{procedure_at}
 use Rattle.statement_parser.specs.ReadCommands.{paint_at, new_at, drop_at, value_at, any_line_at, table_at, list_at}
 use Rattle.statement_parser.specs.declared.command.Command.{Command}
-use Rattle.statement_parser.specs.declared.command.Command.TheVariants.{Paint, New, Drop, Value, Grid, Show, Legend, Table, Stamps, List as Listing, Quit}
+use Rattle.statement_parser.specs.declared.command.Command.TheVariants.{Procedure, Paint, New, Drop, Label, Symbol, Value, Grid, Show, Legend, Table, Stamps, List as Listing, Quit}
 
 unfoldable pub define_at : Manner → Text → List Text → Result Line Fault
 define_at m n ws = do
   u ← one_at reading (the (codes "=")) false ws
-  w ← body_at m u.1
+  w ← body_at anywhere m u.1
   e ← end_at w.1
   Ok (edit (define n w.0))
 
@@ -25,18 +28,21 @@ quit_at ws = do
   e ← end_at ws
   Ok quit
 
-abbrev pub command_at : Command → List Text → Result Line Fault
-command_at Paint ws = paint_at ws
-command_at New ws = new_at ws
-command_at Drop ws = drop_at ws
-command_at Value ws = value_at ws
-command_at Grid ws = any_line_at (λ n. ask (ask_grid n)) ws
-command_at Show ws = any_line_at (λ n. ask (ask_show n)) ws
-command_at Legend ws = any_line_at (λ n. ask (ask_legend n)) ws
-command_at Table ws = table_at ws
-command_at Stamps ws = any_line_at (λ n. ask (ask_stamps n)) ws
-command_at Listing ws = list_at ws
-command_at Quit ws = quit_at ws
+abbrev pub command_at : Manner → Command → List Text → Result Line Fault
+command_at m Procedure ws = procedure_at m ws
+command_at m Paint ws = paint_at ws
+command_at m New ws = new_at ws
+command_at m Drop ws = drop_at ws
+command_at m Label ws = label_at ws
+command_at m Symbol ws = symbol_at ws
+command_at m Value ws = value_at ws
+command_at m Grid ws = any_line_at (λ n. ask (ask_grid n)) ws
+command_at m Show ws = any_line_at (λ n. ask (ask_show n)) ws
+command_at m Legend ws = any_line_at (λ n. ask (ask_legend n)) ws
+command_at m Table ws = table_at ws
+command_at m Stamps ws = any_line_at (λ n. ask (ask_stamps n)) ws
+command_at m Listing ws = list_at ws
+command_at m Quit ws = quit_at ws
 
 -- what a word that is no command begins
 abbrev pub statement_at : Manner → Option Text → List Text → Result Line Fault
@@ -44,7 +50,7 @@ statement_at m None ws = refused Syntax (suc (length ws))
 statement_at m (Some n) ws = define_at m n ws
 
 abbrev pub started_at : Manner → Option Command → Text → List Text → Result Line Fault
-started_at m (Some c) w ws = command_at c ws
+started_at m (Some c) w ws = command_at m c ws
 started_at m None w ws = statement_at m (name_of w) ws
 
 unfoldable pub line_at : Manner → List Text → Result Line Fault

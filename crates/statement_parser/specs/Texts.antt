@@ -1,7 +1,8 @@
 -- The bytes of lines: which line they are, or how they are refused.
 use Rattle.std.specs.Prelude.{◌≡◌, ◌⊎◌, ℕ, nat_le, Bool, true, false, List, map, length, Some, None}
 use Rattle.map_words.specs.Bytes.{Text, first_bad, is_silent}
-use Rattle.map_words.specs.Words.{words_of, text_of}
+use Rattle.map_words.specs.Words.{text_of}
+use Rattle.statement_parser.specs.Tails.{line_words}
 use Rattle.grammar_core.specs.declared.Kind.{Kind}
 use Rattle.grammar_core.specs.declared.Kind.TheVariants.{Syntax, Number, Operation}
 use Rattle.grammar_core.specs.Refusals.{IsRefusedAt}
@@ -12,7 +13,7 @@ use Rattle.statement_parser.specs.Grammar.{line_rule, IsLine}
 
 -- the texts of a line's words
 abbrev pub seen : Text → List Text
-seen bytes = map text_of (words_of bytes)
+seen bytes = map text_of (line_words bytes)
 
 -- a line has at most 4,096 bytes
 abbrev pub is_short : Text → Bool

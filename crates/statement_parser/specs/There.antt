@@ -1,16 +1,17 @@
 -- Which lines are there: those whose rows are.
-use Rattle.std.specs.Prelude.{◌∷◌, IsTrue}
+use Rattle.std.specs.Prelude.{◌∷◌, List, IsTrue}
 use Rattle.map_nums.specs.declared.Stat.TheVariants.{Sum}
 use Rattle.map_defs.specs.Ops.{Op, local_op, difference_op, ratio_op, rating_op, focal_op, zonal_op, form_op, direction_op, flow_op, spread_op, sight_op, region_op}
-use Rattle.map_defs.specs.Statements.{Written, plain, call}
-use Rattle.statement_parser.specs.Lines.{Manner, Edit, define, paint, new_layer, drop, Request, ask_value, ask_grid, ask_show, ask_legend, ask_table, ask_stamps, ask_list, Line, blank, edit, ask, quit}
+use Rattle.map_defs.specs.Statements.{Written, plain, call, Inner}
+use Rattle.statement_parser.specs.Lines.{Manner, Edit, define, paint, new_layer, drop, define_procedure, put_label, put_symbol, Request, ask_value, ask_grid, ask_show, ask_legend, ask_table, ask_stamps, ask_list, Line, blank, edit, ask, quit}
+use Rattle.statement_parser.specs.Formed.{Each}
 use Rattle.statement_parser.specs.Forms.{form_row}
 use Rattle.statement_parser.specs.Operations.{operation_text, has_row}
 use Rattle.statement_parser.specs.Commands.{command_text, has_command}
 use Rattle.statement_parser.specs.declared.operation.Operation.{Operation}
 use Rattle.statement_parser.specs.declared.operation.Operation.TheVariants.{Local, Difference, Ratio, Rating, Focal, Proximity, Insularity, Zonal, Incremental, Drainage}
 use Rattle.statement_parser.specs.declared.command.Command.{Command}
-use Rattle.statement_parser.specs.declared.command.Command.TheVariants.{Paint, New, Drop, Value, Grid, Show, Legend, Table, Stamps, List as Listing, Quit}
+use Rattle.statement_parser.specs.declared.command.Command.TheVariants.{Procedure, Paint, New, Drop, Label, Symbol, Value, Grid, Show, Legend, Table, Stamps, List as Listing, Quit}
 
 -- the operation's row is there
 abbrev pub HasRow : Manner → Operation → Type 0
@@ -38,11 +39,18 @@ abbrev pub IsWrittenThere : Manner → Written → Type 0
 IsWrittenThere m (plain o) = IsOpThere m o
 IsWrittenThere m (call p ts) = IsTrue m.calls
 
+-- the rows of each statement of a body
+abbrev pub AreInnerThere : Manner → List Inner → Type 0
+AreInnerThere m is = Each (λ (i : Inner). IsWrittenThere m i.written) is
+
 abbrev pub IsEditThere : Manner → Edit → Type 0
 IsEditThere m (define n w) = IsWrittenThere m w
+IsEditThere m (define_procedure p) = HasCommand m Procedure × AreInnerThere m p.body
 IsEditThere m (paint n r1 c1 r2 c2 v) = HasCommand m Paint
 IsEditThere m (new_layer n v) = HasCommand m New
 IsEditThere m (drop n) = HasCommand m Drop
+IsEditThere m (put_label n z t) = HasCommand m Label
+IsEditThere m (put_symbol n z b) = HasCommand m Symbol
 
 abbrev pub IsRequestThere : Manner → Request → Type 0
 IsRequestThere m (ask_value n r c) = HasCommand m Value

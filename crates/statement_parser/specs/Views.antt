@@ -10,6 +10,7 @@ use Rattle.statement_parser.specs.declared.op.Op as ops
 use Rattle.statement_parser.specs.declared.op.Op.TheVariants as an_op
 use Rattle.statement_parser.specs.declared.line.Written as writtens
 use Rattle.statement_parser.specs.declared.line.Written.TheVariants as a_written
+use Rattle.statement_parser.specs.declared.procedure.Procedure.{Procedure}
 use Rattle.statement_parser.specs.declared.line.LineEdit as edits
 use Rattle.statement_parser.specs.declared.line.LineEdit.TheVariants as an_edit
 use Rattle.statement_parser.specs.declared.line.Request as requests
@@ -17,10 +18,11 @@ use Rattle.statement_parser.specs.declared.line.Request.TheVariants as a_request
 use Rattle.statement_parser.specs.declared.line.Line as lines
 use Rattle.statement_parser.specs.declared.line.Line.TheVariants as a_line
 use Rattle.map_defs.specs.Ops.{Term, layer_term, number_term, Op, local_op, difference_op, ratio_op, rating_op, focal_op, zonal_op, form_op, direction_op, flow_op, spread_op, sight_op, region_op}
+use Rattle.map_defs.specs.Statements as meant
 use Rattle.map_defs.specs.Statements.{Written, plain, call}
 use Rattle.statement_parser.specs.Forms.{form_of}
 use Rattle.statement_parser.specs.declared.rows.Rows.{Rows}
-use Rattle.statement_parser.specs.Lines.{Manner, Edit, define, paint, new_layer, drop, Request, ask_value, ask_grid, ask_show, ask_legend, ask_table, ask_stamps, ask_list, Line, blank, edit, ask, quit}
+use Rattle.statement_parser.specs.Lines.{Manner, Edit, define, paint, new_layer, drop, define_procedure, put_label, put_symbol, Request, ask_value, ask_grid, ask_show, ask_legend, ask_table, ask_stamps, ask_list, Line, blank, edit, ask, quit}
 
 -- the texts of words
 abbrev pub texts_of : List Word → List Text
@@ -59,11 +61,24 @@ abbrev pub written_view : writtens.Written → Written
 written_view (a_written.Plain o) = plain (op_view o)
 written_view (a_written.Call p ts) = call p (terms_view ts.items)
 
+-- a statement of a procedure
+abbrev pub inner_view : Text × writtens.Written → meant.Inner
+inner_view i = record { name = i.0; written = written_view i.1 }
+
+abbrev pub body_view : List (Text × writtens.Written) → List meant.Inner
+body_view is = map inner_view is
+
+abbrev pub procedure_view : Procedure → meant.Procedure
+procedure_view p = record { name = p.name; takes = p.takes.items; body = body_view p.body.items }
+
 abbrev pub edit_view : edits.LineEdit → Edit
 edit_view (an_edit.Define n w) = define n (written_view w)
+edit_view (an_edit.Procedure p) = define_procedure (procedure_view p)
 edit_view (an_edit.Paint n r1 c1 r2 c2 v) = paint n r1 c1 r2 c2 v
 edit_view (an_edit.New n v) = new_layer n v
 edit_view (an_edit.Drop n) = drop n
+edit_view (an_edit.Label n z t) = put_label n z t
+edit_view (an_edit.Symbol n z b) = put_symbol n z b
 
 abbrev pub request_view : requests.Request → Request
 request_view (a_request.Value n r c) = ask_value n r c

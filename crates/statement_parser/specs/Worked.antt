@@ -4,10 +4,10 @@ use Rattle.map_nums.specs.declared.Stat.TheVariants as stats
 use Rattle.map_words.specs.Bytes.{Text}
 use Rattle.map_defs.specs.Ops.{layer_term, number_term, local_op, rating_op, focal_op, spread_op, sight_op}
 use Rattle.map_defs.specs.Statements.{plain, call}
-use Rattle.statement_parser.specs.Lines.{Manner, define, paint, new_layer, ask_grid, ask_table, Line, blank, edit, ask}
+use Rattle.statement_parser.specs.Lines.{Manner, define, define_procedure, paint, new_layer, put_label, put_symbol, ask_grid, ask_table, Line, blank, edit, ask}
 use Rattle.statement_parser.specs.Operations.{operations}
 use Rattle.statement_parser.specs.Commands.{commands}
-use Rattle.statement_parser.specs.declared.operation.Operation.TheVariants.{Local, Rating}
+use Rattle.statement_parser.specs.declared.operation.Operation.TheVariants.{Rating}
 use Rattle.statement_parser.specs.declared.command.Command.TheVariants.{Paint, New, Grid}
 use Rattle.statement_parser.specs.Texts.{LineText, Refusal, syntax, operation, number, RefusedText}
 
@@ -28,6 +28,21 @@ IsOfAll bytes x = LineText all_rows bytes x
 
 abbrev pub IsRefusedOfAll : Text → Refusal → Type 0
 IsRefusedOfAll bytes r = RefusedText all_rows bytes r
+
+-- lines of procedures
+pub record WorkedProcedures : Type 0 where
+  pub made : IsOfAll (codes "procedure Twice(P, K): x = LocalSum of P and K; result = LocalProduct of x and 2") (edit (define_procedure (record {
+    name = codes "Twice";
+    takes = codes "P" ∷ codes "K" ∷ [];
+    body = record { name = codes "x"; written = plain (local_op stats.Sum (layer_term (codes "P") ∷ layer_term (codes "K") ∷ [])) }
+        ∷ record { name = codes "result"; written = plain (local_op stats.Product (layer_term (codes "x") ∷ number_term (pos 2) ∷ [])) } ∷ [];
+  })))
+  pub no_result : IsRefusedOfAll (codes "procedure Q(P): x = LocalSum of P and 1") (syntax 40)
+  pub no_result_yet : IsRefusedOfAll (codes "procedure Q(P): x = LocalSum of P and 1; ") (syntax 42)
+  pub later_name : IsRefusedOfAll (codes "procedure Q(P): x = LocalSum of P and y; y = LocalSum of x and 1") (syntax 39)
+  pub after_result : IsRefusedOfAll (codes "procedure Q(P): result = LocalSum of P and 1; y = LocalSum of P and 1") (syntax 45)
+  pub same_parameter : IsRefusedOfAll (codes "procedure Q(P, P): result = LocalSum of P and 1") (syntax 16)
+  pub same_inner : IsRefusedOfAll (codes "procedure Q(P): P = LocalSum of P and 1") (syntax 17)
 
 pub record Worked : Type 0 where
   pub empty : Is [] blank
@@ -61,6 +76,14 @@ pub record Worked : Type 0 where
   pub spread : IsOfAll (codes "C = FocalProximity of A spreading in 2 within 7") (edit (define (codes "C") (plain (spread_op 7 (layer_term (codes "A")) (number_term (pos 2))))))
   pub called : IsOfAll (codes "C=Twice(A,3)") (edit (define (codes "C") (call (codes "Twice") (layer_term (codes "A") ∷ number_term (pos 3) ∷ []))))
   pub tabled : IsOfAll (codes "table A.b C") (ask (ask_table (codes "A.b") (codes "C")))
+  pub labelled : IsOfAll (codes "label A 5=x  y ") (edit (put_label (codes "A") (pos 5) (codes "=x  y")))
+  pub signed : IsOfAll (codes "symbol A -1; ") (edit (put_symbol (codes "A") (negsuc 0) 59))
+  pub joined_label : IsRefusedOfAll (codes "label A 5x") (syntax 9)
+  pub no_text : IsRefusedOfAll (codes "label A 5 ") (syntax 11)
+  pub longest_label : IsRefusedOfAll (codes "label A 5 0123456789012345678901234567890123456789012345678901234567890123 " ++ codes "4") (syntax 75)
+  pub two_signs : IsRefusedOfAll (codes "symbol A 1 a b") (syntax 14)
+  pub no_sign : IsRefusedOfAll (codes "symbol A 1") (syntax 11)
+  pub procedures : WorkedProcedures
   pub far : IsRefusedOfAll (codes "C = FocalMean of A at 33") (number 23)
   pub no_mean : IsRefusedOfAll (codes "C = FocalMean of A radiating on B") (syntax 20)
   pub no_product : IsRefusedOfAll (codes "C = FocalProduct of A") (operation 5)

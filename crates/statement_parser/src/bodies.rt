@@ -8,6 +8,7 @@ ghost use Rattle.map_nums.specs.Numbers.{greatest_value};
 ghost use Rattle.statement_parser.specs.Bodies.{radiates, drainage_op};
 ghost use Rattle.statement_parser.specs.Places.{the as word_of, maybe, call_of, value_of, disc_of, reach_of, limit_of, weights_of};
 ghost use Rattle.statement_parser.specs.ReadBodies.{statistic_at, pair_at, difference_at, ratio_at, rating_at, radius_at, sight_at, reaching_at, focal_at, spread_at, region_at, zonal_at, incremental_at, drainage_at, operation_at, given_at, call_at, plain_at, called_at, body_at};
+ghost use Rattle.statement_parser.specs.ScopeViews.{scope_of};
 ghost use Rattle.statement_parser.specs.ReadParts.{term_after_at, further_at, optional_at, range_at, rate_at, with_at, friction_at};
 
 use crate::fault::ReadError;
@@ -18,6 +19,7 @@ use crate::places::{
     cell, is_next, is_unknown_operation, limit, misfit, radius, reach, term, the, value, weights,
 };
 use crate::rows::Rows;
+use crate::scope::Scope;
 use grammar_core::{Fault, Kind};
 use map_nums::{Rate, Stat, VMAX, Value};
 use map_words::{Name, NameRefusal, Word};
@@ -27,25 +29,27 @@ use std::alloc::Global;
 #[tactic(auto, unfolding(crate::specs::ReadParts::term_after_at))]
 fn term_after<'t, 'a>(
     alloc: Global,
+    scope: &Scope<'_>,
     word: &[u8],
     words: &'t [Word<'a>],
 ) -> Result<(Term, &'t [Word<'a>]), ReadError>
-    ensures { Gives (λ x. (term_view x.0, texts_of x.1.now)) result (term_after_at word.now (texts_of words.now)) }
+    ensures { Gives (λ x. (term_view x.0, texts_of x.1.now)) result (term_after_at (scope_of scope.now) word.now (texts_of words.now)) }
 {
     let rest = the(word, words)?;
-    term(alloc, rest)
+    term(alloc, scope, rest)
 }
 
 /// Further terms, each after this word, at most so many.
 #[tactic(auto, unfolding(crate::specs::ReadParts::further_at))]
 fn further_terms<'t, 'a>(
     alloc: Global,
+    scope: &Scope<'_>,
     word: &[u8],
     most: u32,
     front: Vec<Term>,
     words: &'t [Word<'a>],
 ) -> Result<(Vec<Term>, &'t [Word<'a>]), ReadError>
-    ensures { Gives (λ x. (terms_view x.0.items, texts_of x.1.now)) result (further_at word.now most (terms_view front.items) (texts_of words.now)) }
+    ensures { Gives (λ x. (terms_view x.0.items, texts_of x.1.now)) result (further_at (scope_of scope.now) word.now most (terms_view front.items) (texts_of words.now)) }
 {
     if most == 0 {
         return Ok((front, words));
@@ -53,10 +57,10 @@ fn further_terms<'t, 'a>(
     if !is_next(word, words) {
         return Ok((front, words));
     }
-    let (one, rest) = term_after(alloc, word, words)?;
+    let (one, rest) = term_after(alloc, scope, word, words)?;
     let mut terms = front;
     terms.push(one)?;
-    further_terms(alloc, word, most - 1, terms, rest)
+    further_terms(alloc, scope, word, most - 1, terms, rest)
 }
 
 /// A number after this word; the default where the word doesn't follow.
@@ -78,17 +82,18 @@ fn optional_value<'t, 'a>(
 #[tactic(auto, unfolding(crate::specs::ReadBodies::statistic_at))]
 fn statistic<'t, 'a>(
     alloc: Global,
+    scope: &Scope<'_>,
     stat: Stat,
     words: &'t [Word<'a>],
 ) -> Result<(Op, &'t [Word<'a>]), ReadError>
-    ensures { Gives (λ x. (op_view x.0, texts_of x.1.now)) result (statistic_at stat (texts_of words.now)) }
+    ensures { Gives (λ x. (op_view x.0, texts_of x.1.now)) result (statistic_at (scope_of scope.now) stat (texts_of words.now)) }
 {
-    let (first, rest) = term_after(alloc, b"of", words)?;
-    let (second, rest) = term_after(alloc, b"and", rest)?;
+    let (first, rest) = term_after(alloc, scope, b"of", words)?;
+    let (second, rest) = term_after(alloc, scope, b"and", rest)?;
     let mut terms = Vec::new(alloc);
     terms.push(first)?;
     terms.push(second)?;
-    let (terms, rest) = further_terms(alloc, b"and", 6, terms, rest)?;
+    let (terms, rest) = further_terms(alloc, scope, b"and", 6, terms, rest)?;
     Ok((Op::Local { stat, terms }, rest))
 }
 
@@ -96,32 +101,38 @@ fn statistic<'t, 'a>(
 #[tactic(auto, unfolding(crate::specs::ReadBodies::pair_at))]
 fn pair<'t, 'a>(
     alloc: Global,
+    scope: &Scope<'_>,
     word: &[u8],
     words: &'t [Word<'a>],
 ) -> Result<((Term, Term), &'t [Word<'a>]), ReadError>
-    ensures { Gives (λ x. ((term_view x.0.0, term_view x.0.1), texts_of x.1.now)) result (pair_at word.now (texts_of words.now)) }
+    ensures { Gives (λ x. ((term_view x.0.0, term_view x.0.1), texts_of x.1.now)) result (pair_at (scope_of scope.now) word.now (texts_of words.now)) }
 {
-    let (left, rest) = term_after(alloc, b"of", words)?;
-    let (right, rest) = term_after(alloc, word, rest)?;
+    let (left, rest) = term_after(alloc, scope, b"of", words)?;
+    let (right, rest) = term_after(alloc, scope, word, rest)?;
     Ok(((left, right), rest))
 }
 
 #[tactic(auto, unfolding(crate::specs::ReadBodies::difference_at))]
 fn difference<'t, 'a>(
     alloc: Global,
+    scope: &Scope<'_>,
     words: &'t [Word<'a>],
 ) -> Result<(Op, &'t [Word<'a>]), ReadError>
-    ensures { Gives (λ x. (op_view x.0, texts_of x.1.now)) result (difference_at (texts_of words.now)) }
+    ensures { Gives (λ x. (op_view x.0, texts_of x.1.now)) result (difference_at (scope_of scope.now) (texts_of words.now)) }
 {
-    let ((left, right), rest) = pair(alloc, b"and", words)?;
+    let ((left, right), rest) = pair(alloc, scope, b"and", words)?;
     Ok((Op::Difference { left, right }, rest))
 }
 
 #[tactic(auto, unfolding(crate::specs::ReadBodies::ratio_at))]
-fn ratio<'t, 'a>(alloc: Global, words: &'t [Word<'a>]) -> Result<(Op, &'t [Word<'a>]), ReadError>
-    ensures { Gives (λ x. (op_view x.0, texts_of x.1.now)) result (ratio_at (texts_of words.now)) }
+fn ratio<'t, 'a>(
+    alloc: Global,
+    scope: &Scope<'_>,
+    words: &'t [Word<'a>],
+) -> Result<(Op, &'t [Word<'a>]), ReadError>
+    ensures { Gives (λ x. (op_view x.0, texts_of x.1.now)) result (ratio_at (scope_of scope.now) (texts_of words.now)) }
 {
-    let ((left, right), rest) = pair(alloc, b"and", words)?;
+    let ((left, right), rest) = pair(alloc, scope, b"and", words)?;
     Ok((Op::Ratio { left, right }, rest))
 }
 
@@ -172,10 +183,14 @@ fn with_rates<'t, 'a>(
 }
 
 #[tactic(auto, unfolding(crate::specs::ReadBodies::rating_at))]
-fn rating<'t, 'a>(alloc: Global, words: &'t [Word<'a>]) -> Result<(Op, &'t [Word<'a>]), ReadError>
-    ensures { Gives (λ x. (op_view x.0, texts_of x.1.now)) result (rating_at (texts_of words.now)) }
+fn rating<'t, 'a>(
+    alloc: Global,
+    scope: &Scope<'_>,
+    words: &'t [Word<'a>],
+) -> Result<(Op, &'t [Word<'a>]), ReadError>
+    ensures { Gives (λ x. (op_view x.0, texts_of x.1.now)) result (rating_at (scope_of scope.now) (texts_of words.now)) }
 {
-    let (of, rest) = term_after(alloc, b"of", words)?;
+    let (of, rest) = term_after(alloc, scope, b"of", words)?;
     let rest = the(b"with", rest)?;
     let (first, rest) = rate(rest)?;
     let mut rates = Vec::new(alloc);
@@ -224,13 +239,14 @@ fn sight_reach<'t, 'a>(words: &'t [Word<'a>]) -> Result<(u32, &'t [Word<'a>]), R
 #[tactic(auto, unfolding(crate::specs::ReadBodies::sight_at))]
 fn sight<'t, 'a>(
     alloc: Global,
+    scope: &Scope<'_>,
     of: Term,
     words: &'t [Word<'a>],
 ) -> Result<(Op, &'t [Word<'a>]), ReadError>
-    ensures { Gives (λ x. (op_view x.0, texts_of x.1.now)) result (sight_at (term_view of) (texts_of words.now)) }
+    ensures { Gives (λ x. (op_view x.0, texts_of x.1.now)) result (sight_at (scope_of scope.now) (term_view of) (texts_of words.now)) }
 {
     let rest = the(b"radiating", words)?;
-    let (surface, rest) = term_after(alloc, b"on", rest)?;
+    let (surface, rest) = term_after(alloc, scope, b"on", rest)?;
     let (from, rest) = optional_value(b"from", 0, rest)?;
     let (to, rest) = optional_value(b"to", 0, rest)?;
     let (reach, rest) = sight_reach(rest)?;
@@ -269,15 +285,16 @@ fn is_radiating(rows: &Rows<'_>, stat: Stat, words: &[Word<'_>]) -> bool
 #[tactic(auto, unfolding(crate::specs::ReadBodies::reaching_at))]
 fn reaching<'t, 'a>(
     alloc: Global,
+    scope: &Scope<'_>,
     rows: &Rows<'_>,
     stat: Stat,
     of: Term,
     words: &'t [Word<'a>],
 ) -> Result<(Op, &'t [Word<'a>]), ReadError>
-    ensures { Gives (λ x. (op_view x.0, texts_of x.1.now)) result (reaching_at (manner_of rows.now) stat (term_view of) (texts_of words.now)) }
+    ensures { Gives (λ x. (op_view x.0, texts_of x.1.now)) result (reaching_at (scope_of scope.now) (manner_of rows.now) stat (term_view of) (texts_of words.now)) }
 {
     if is_radiating(rows, stat, words) {
-        return sight(alloc, of, words);
+        return sight(alloc, scope, of, words);
     }
     near(stat, of, words)
 }
@@ -285,29 +302,31 @@ fn reaching<'t, 'a>(
 #[tactic(auto, unfolding(crate::specs::ReadBodies::focal_at))]
 fn focal<'t, 'a>(
     alloc: Global,
+    scope: &Scope<'_>,
     rows: &Rows<'_>,
     stat: Stat,
     words: &'t [Word<'a>],
 ) -> Result<(Op, &'t [Word<'a>]), ReadError>
-    ensures { Gives (λ x. (op_view x.0, texts_of x.1.now)) result (focal_at (manner_of rows.now) stat (texts_of words.now)) }
+    ensures { Gives (λ x. (op_view x.0, texts_of x.1.now)) result (focal_at (scope_of scope.now) (manner_of rows.now) stat (texts_of words.now)) }
 {
-    let (of, rest) = term_after(alloc, b"of", words)?;
-    reaching(alloc, rows, stat, of, rest)
+    let (of, rest) = term_after(alloc, scope, b"of", words)?;
+    reaching(alloc, scope, rows, stat, of, rest)
 }
 
 /// The friction after `spreading in`, or 1.
 #[tactic(auto, unfolding(crate::specs::ReadParts::friction_at))]
 fn friction_part<'t, 'a>(
     alloc: Global,
+    scope: &Scope<'_>,
     words: &'t [Word<'a>],
 ) -> Result<(Term, &'t [Word<'a>]), ReadError>
-    ensures { Gives (λ x. (term_view x.0, texts_of x.1.now)) result (friction_at (texts_of words.now)) }
+    ensures { Gives (λ x. (term_view x.0, texts_of x.1.now)) result (friction_at (scope_of scope.now) (texts_of words.now)) }
 {
     if !is_next(b"spreading", words) {
         return Ok((Term::Number(1), words));
     }
     let rest = the(b"spreading", words)?;
-    term_after(alloc, b"in", rest)
+    term_after(alloc, scope, b"in", rest)
 }
 
 /// The limit after `within`, or the greatest value.
@@ -323,11 +342,15 @@ fn limit_part<'t, 'a>(words: &'t [Word<'a>]) -> Result<(Value, &'t [Word<'a>]), 
 }
 
 #[tactic(auto, unfolding(crate::specs::ReadBodies::spread_at))]
-fn spread<'t, 'a>(alloc: Global, words: &'t [Word<'a>]) -> Result<(Op, &'t [Word<'a>]), ReadError>
-    ensures { Gives (λ x. (op_view x.0, texts_of x.1.now)) result (spread_at (texts_of words.now)) }
+fn spread<'t, 'a>(
+    alloc: Global,
+    scope: &Scope<'_>,
+    words: &'t [Word<'a>],
+) -> Result<(Op, &'t [Word<'a>]), ReadError>
+    ensures { Gives (λ x. (op_view x.0, texts_of x.1.now)) result (spread_at (scope_of scope.now) (texts_of words.now)) }
 {
-    let (of, rest) = term_after(alloc, b"of", words)?;
-    let (friction, rest) = friction_part(alloc, rest)?;
+    let (of, rest) = term_after(alloc, scope, b"of", words)?;
+    let (friction, rest) = friction_part(alloc, scope, rest)?;
     let (limit, rest) = limit_part(rest)?;
     Ok((
         Op::Spread {
@@ -340,34 +363,40 @@ fn spread<'t, 'a>(alloc: Global, words: &'t [Word<'a>]) -> Result<(Op, &'t [Word
 }
 
 #[tactic(auto, unfolding(crate::specs::ReadBodies::region_at))]
-fn region<'t, 'a>(alloc: Global, words: &'t [Word<'a>]) -> Result<(Op, &'t [Word<'a>]), ReadError>
-    ensures { Gives (λ x. (op_view x.0, texts_of x.1.now)) result (region_at (texts_of words.now)) }
+fn region<'t, 'a>(
+    alloc: Global,
+    scope: &Scope<'_>,
+    words: &'t [Word<'a>],
+) -> Result<(Op, &'t [Word<'a>]), ReadError>
+    ensures { Gives (λ x. (op_view x.0, texts_of x.1.now)) result (region_at (scope_of scope.now) (texts_of words.now)) }
 {
-    let (of, rest) = term_after(alloc, b"of", words)?;
+    let (of, rest) = term_after(alloc, scope, b"of", words)?;
     Ok((Op::Region { of }, rest))
 }
 
 #[tactic(auto, unfolding(crate::specs::ReadBodies::zonal_at))]
 fn zonal<'t, 'a>(
     alloc: Global,
+    scope: &Scope<'_>,
     stat: Stat,
     words: &'t [Word<'a>],
 ) -> Result<(Op, &'t [Word<'a>]), ReadError>
-    ensures { Gives (λ x. (op_view x.0, texts_of x.1.now)) result (zonal_at stat (texts_of words.now)) }
+    ensures { Gives (λ x. (op_view x.0, texts_of x.1.now)) result (zonal_at (scope_of scope.now) stat (texts_of words.now)) }
 {
-    let ((of, zones), rest) = pair(alloc, b"within", words)?;
+    let ((of, zones), rest) = pair(alloc, scope, b"within", words)?;
     Ok((Op::Zonal { stat, of, zones }, rest))
 }
 
 #[tactic(auto, unfolding(crate::specs::ReadBodies::incremental_at))]
 fn incremental<'t, 'a>(
     alloc: Global,
+    scope: &Scope<'_>,
     form: Form,
     words: &'t [Word<'a>],
 ) -> Result<(Op, &'t [Word<'a>]), ReadError>
-    ensures { Gives (λ x. (op_view x.0, texts_of x.1.now)) result (incremental_at form (texts_of words.now)) }
+    ensures { Gives (λ x. (op_view x.0, texts_of x.1.now)) result (incremental_at (scope_of scope.now) form (texts_of words.now)) }
 {
-    let (of, rest) = term_after(alloc, b"of", words)?;
+    let (of, rest) = term_after(alloc, scope, b"of", words)?;
     Ok((Op::Incremental { form, of }, rest))
 }
 
@@ -375,15 +404,16 @@ fn incremental<'t, 'a>(
 #[tactic(auto, unfolding(crate::specs::ReadParts::optional_at))]
 fn weights_part<'t, 'a>(
     alloc: Global,
+    scope: &Scope<'_>,
     words: &'t [Word<'a>],
 ) -> Result<(Option<Term>, &'t [Word<'a>]), ReadError>
-    ensures { Gives (λ x. (option_map term_view x.0, texts_of x.1.now)) result (optional_at (codes "carrying") weights_of None (texts_of words.now)) }
+    ensures { Gives (λ x. (option_map term_view x.0, texts_of x.1.now)) result (optional_at (codes "carrying") (weights_of (scope_of scope.now)) None (texts_of words.now)) }
 {
     if !is_next(b"carrying", words) {
         return Ok((None, words));
     }
     let rest = the(b"carrying", words)?;
-    weights(alloc, rest)
+    weights(alloc, scope, rest)
 }
 
 /// The operation of a surface, with weights or without.
@@ -397,47 +427,53 @@ fn drained(of: Term, weights: Option<Term>) -> Op
 }
 
 #[tactic(auto, unfolding(crate::specs::ReadBodies::drainage_at))]
-fn drainage<'t, 'a>(alloc: Global, words: &'t [Word<'a>]) -> Result<(Op, &'t [Word<'a>]), ReadError>
-    ensures { Gives (λ x. (op_view x.0, texts_of x.1.now)) result (drainage_at (texts_of words.now)) }
+fn drainage<'t, 'a>(
+    alloc: Global,
+    scope: &Scope<'_>,
+    words: &'t [Word<'a>],
+) -> Result<(Op, &'t [Word<'a>]), ReadError>
+    ensures { Gives (λ x. (op_view x.0, texts_of x.1.now)) result (drainage_at (scope_of scope.now) (texts_of words.now)) }
 {
-    let (of, rest) = term_after(alloc, b"of", words)?;
-    let (weights, rest) = weights_part(alloc, rest)?;
+    let (of, rest) = term_after(alloc, scope, b"of", words)?;
+    let (weights, rest) = weights_part(alloc, scope, rest)?;
     Ok((drained(of, weights), rest))
 }
 
 /// What follows an operation's name.
 fn operation<'t, 'a>(
     alloc: Global,
+    scope: &Scope<'_>,
     rows: &Rows<'_>,
     operation: Operation,
     words: &'t [Word<'a>],
 ) -> Result<(Op, &'t [Word<'a>]), ReadError>
-    ensures { Gives (λ x. (op_view x.0, texts_of x.1.now)) result (operation_at (manner_of rows.now) operation (texts_of words.now)) }
+    ensures { Gives (λ x. (op_view x.0, texts_of x.1.now)) result (operation_at (scope_of scope.now) (manner_of rows.now) operation (texts_of words.now)) }
 {
     match operation {
-        Operation::Local(stat) => statistic(alloc, stat, words),
-        Operation::Difference => difference(alloc, words),
-        Operation::Ratio => ratio(alloc, words),
-        Operation::Rating => rating(alloc, words),
-        Operation::Focal(stat) => focal(alloc, rows, stat, words),
-        Operation::Proximity => spread(alloc, words),
-        Operation::Insularity => region(alloc, words),
-        Operation::Zonal(stat) => zonal(alloc, stat, words),
-        Operation::Incremental(form) => incremental(alloc, form, words),
-        Operation::Drainage => drainage(alloc, words),
+        Operation::Local(stat) => statistic(alloc, scope, stat, words),
+        Operation::Difference => difference(alloc, scope, words),
+        Operation::Ratio => ratio(alloc, scope, words),
+        Operation::Rating => rating(alloc, scope, words),
+        Operation::Focal(stat) => focal(alloc, scope, rows, stat, words),
+        Operation::Proximity => spread(alloc, scope, words),
+        Operation::Insularity => region(alloc, scope, words),
+        Operation::Zonal(stat) => zonal(alloc, scope, stat, words),
+        Operation::Incremental(form) => incremental(alloc, scope, form, words),
+        Operation::Drainage => drainage(alloc, scope, words),
     }
 }
 
 #[tactic(auto, unfolding(crate::specs::ReadBodies::plain_at))]
 fn plain<'t, 'a>(
     alloc: Global,
+    scope: &Scope<'_>,
     rows: &Rows<'_>,
     named: Operation,
     words: &'t [Word<'a>],
 ) -> Result<(Written, &'t [Word<'a>]), ReadError>
-    ensures { Gives (λ x. (written_view x.0, texts_of x.1.now)) result (plain_at (manner_of rows.now) named (texts_of words.now)) }
+    ensures { Gives (λ x. (written_view x.0, texts_of x.1.now)) result (plain_at (scope_of scope.now) (manner_of rows.now) named (texts_of words.now)) }
 {
-    let (op, rest) = operation(alloc, rows, named, words)?;
+    let (op, rest) = operation(alloc, scope, rows, named, words)?;
     Ok((Written::Plain(op), rest))
 }
 
@@ -445,14 +481,15 @@ fn plain<'t, 'a>(
 #[tactic(auto, unfolding(crate::specs::ReadBodies::given_at))]
 fn given<'t, 'a>(
     alloc: Global,
+    scope: &Scope<'_>,
     words: &'t [Word<'a>],
 ) -> Result<(Vec<Term>, &'t [Word<'a>]), ReadError>
-    ensures { Gives (λ x. (terms_view x.0.items, texts_of x.1.now)) result (given_at (texts_of words.now)) }
+    ensures { Gives (λ x. (terms_view x.0.items, texts_of x.1.now)) result (given_at (scope_of scope.now) (texts_of words.now)) }
 {
-    let (first, rest) = term_after(alloc, b"(", words)?;
+    let (first, rest) = term_after(alloc, scope, b"(", words)?;
     let mut terms = Vec::new(alloc);
     terms.push(first)?;
-    let (terms, rest) = further_terms(alloc, b",", 7, terms, rest)?;
+    let (terms, rest) = further_terms(alloc, scope, b",", 7, terms, rest)?;
     let rest = the(b")", rest)?;
     Ok((terms, rest))
 }
@@ -460,31 +497,33 @@ fn given<'t, 'a>(
 #[tactic(auto, unfolding(crate::specs::ReadBodies::call_at))]
 fn call<'t, 'a>(
     alloc: Global,
+    scope: &Scope<'_>,
     procedure: Name,
     words: &'t [Word<'a>],
 ) -> Result<(Written, &'t [Word<'a>]), ReadError>
-    ensures { Gives (λ x. (written_view x.0, texts_of x.1.now)) result (call_at procedure (texts_of words.now)) }
+    ensures { Gives (λ x. (written_view x.0, texts_of x.1.now)) result (call_at (scope_of scope.now) procedure (texts_of words.now)) }
 {
-    let (given, rest) = given(alloc, words)?;
+    let (given, rest) = given(alloc, scope, words)?;
     Ok((Written::Call { procedure, given }, rest))
 }
 
 /// What follows a word that is no operation.
 fn called<'t, 'a>(
     alloc: Global,
+    scope: &Scope<'_>,
     rows: &Rows<'_>,
     word: &[u8],
     words: &'t [Word<'a>],
     rest: &'t [Word<'a>],
 ) -> Result<(Written, &'t [Word<'a>]), ReadError>
     requires { length words.now ≡ suc (length rest.now) }
-    ensures { Gives (λ x. (written_view x.0, texts_of x.1.now)) result (called_at (call_of (manner_of rows.now) word.now) (texts_of rest.now)) }
+    ensures { Gives (λ x. (written_view x.0, texts_of x.1.now)) result (called_at (scope_of scope.now) (call_of (manner_of rows.now) word.now) (texts_of rest.now)) }
 {
     if !rows.calls {
         return Err(ReadError::Fault(misfit(false, words)));
     }
     match Name::plain(alloc, word) {
-        Ok(name) => call(alloc, name, rest),
+        Ok(name) => call(alloc, scope, name, rest),
         Err(NameRefusal::Form) => Err(ReadError::Fault(misfit(false, words))),
         Err(NameRefusal::NoMemory) => Err(ReadError::NoMemory),
     }
@@ -494,10 +533,11 @@ fn called<'t, 'a>(
 #[tactic(auto, unfolding(crate::specs::ReadBodies::body_at))]
 pub fn body<'t, 'a>(
     alloc: Global,
+    scope: &Scope<'_>,
     rows: &Rows<'_>,
     words: &'t [Word<'a>],
 ) -> Result<(Written, &'t [Word<'a>]), ReadError>
-    ensures { Gives (λ x. (written_view x.0, texts_of x.1.now)) result (body_at (manner_of rows.now) (texts_of words.now)) }
+    ensures { Gives (λ x. (written_view x.0, texts_of x.1.now)) result (body_at (scope_of scope.now) (manner_of rows.now) (texts_of words.now)) }
 {
     if is_unknown_operation(rows, words) {
         return Err(ReadError::Fault(Fault {
@@ -508,8 +548,8 @@ pub fn body<'t, 'a>(
     match words {
         [] => Err(ReadError::Fault(misfit(false, words))),
         [first, rest @ ..] => match operation_named(rows, first.text) {
-            Some(named) => plain(alloc, rows, named, rest),
-            None => called(alloc, rows, first.text, words, rest),
+            Some(named) => plain(alloc, scope, rows, named, rest),
+            None => called(alloc, scope, rows, first.text, words, rest),
         },
     }
 }

@@ -9,9 +9,12 @@ use crate::rows::Rows;
 /// A line that begins with a word of its own.
 #[derive(Clone, Copy, Debug, PartialEq, Eq)]
 pub enum Command {
+    Procedure,
     Paint,
     New,
     Drop,
+    Label,
+    Symbol,
     Value,
     Grid,
     Show,
@@ -23,10 +26,13 @@ pub enum Command {
 }
 
 /// All commands.
-const COMMANDS: [Command; 11] = [
+const COMMANDS: [Command; 14] = [
+    Command::Procedure,
     Command::Paint,
     Command::New,
     Command::Drop,
+    Command::Label,
+    Command::Symbol,
     Command::Value,
     Command::Grid,
     Command::Show,
@@ -42,9 +48,12 @@ fn command_word(command: Command) -> &'static [u8]
     ensures { result.now ≡ command_text command }
 {
     match command {
+        Command::Procedure => b"procedure",
         Command::Paint => b"paint",
         Command::New => b"new",
         Command::Drop => b"drop",
+        Command::Label => b"label",
+        Command::Symbol => b"symbol",
         Command::Value => b"value",
         Command::Grid => b"grid",
         Command::Show => b"show",

@@ -1,7 +1,9 @@
 //! Lines, as reading gives them.
 
 use crate::op::{Op, Term};
-use layer_tiles::Cell;
+use crate::procedure::Procedure;
+use layer_tiles::{Cell, Text};
+use map_nums::Value;
 use map_words::Name;
 
 /// A statement's body.
@@ -19,6 +21,7 @@ pub enum LineEdit {
         name: Name,
         written: Written,
     },
+    Procedure(Procedure),
     Paint {
         name: Name,
         r1: u32,
@@ -34,6 +37,18 @@ pub enum LineEdit {
     },
     Drop {
         name: Name,
+    },
+    /// The text that stands for a value of a layer, of 1 to 64 bytes.
+    Label {
+        name: Name,
+        value: Value,
+        text: Text,
+    },
+    /// The printed byte that stands for a value of a layer.
+    Symbol {
+        name: Name,
+        value: Value,
+        sign: u8,
     },
 }
 

@@ -2,7 +2,8 @@
 
 ghost use Rattle.std.specs.Prelude.{◌≡◌, ◌<◌, ◌≤◌, ◌^◌, true, false, None, Some, IfOk};
 ghost use Rattle.map_words.specs.Bytes.{first_bad, is_silent as is_silent_text};
-ghost use Rattle.map_words.specs.Words.{words_of};
+ghost use Rattle.map_words.specs.Words.{words_of, AreSlices};
+ghost use Rattle.statement_parser.specs.Tails.{line_words};
 ghost use Rattle.map_words.specs.Cut.{placed_all};
 ghost use Rattle.statement_parser.specs.LineOf.{line_of, IsLineRead};
 ghost use Rattle.statement_parser.specs.Texts.{is_short, refusal_of};
@@ -17,6 +18,7 @@ use crate::line::Line;
 use crate::parsing::parse_words;
 use crate::refusal::LineRefusal;
 use crate::rows::Rows;
+use crate::tails::with_tail;
 use grammar_core::{Fault, Kind};
 use map_words::{Word, WordRefusal, is_silent, words};
 use std::alloc::Global;
@@ -67,13 +69,33 @@ fn of_words(
     requires short { is_short line.now ≡ true }
     requires spoken { is_silent_text line.now ≡ false }
     requires good { first_bad line.now ≡ None }
-    requires words { placed_all words.now ≡ words_of line.now }
+    requires words { placed_all words.now ≡ line_words line.now }
     ensures { IsParsed (manner_of rows.now) line_view line.now result }
 {
     match parse_words(alloc, rows, words) {
         Ok(read) => Ok(read),
         Err(ReadError::NoMemory) => Err(LineRefusal::NoMemory),
         Err(ReadError::Fault(fault)) => Err(refusal(line.len(), words, fault)),
+    }
+}
+
+/// The line that these words of it are, each as those of any line.
+fn of_cut(
+    alloc: Global,
+    rows: &Rows<'_>,
+    line: &[u8],
+    words: Vec<Word<'_>>,
+) -> Result<Line, LineRefusal>
+    requires short { is_short line.now ≡ true }
+    requires spoken { is_silent_text line.now ≡ false }
+    requires good { first_bad line.now ≡ None }
+    requires words { placed_all words.items ≡ words_of line.now }
+    requires slices { AreSlices line.now 1 (placed_all words.items) }
+    ensures { IsParsed (manner_of rows.now) line_view line.now result }
+{
+    match with_tail(line, words) {
+        Ok(words) => of_words(alloc, rows, line, words.as_slice()),
+        Err(_) => Err(LineRefusal::NoMemory),
     }
 }
 
@@ -88,7 +110,7 @@ fn read_line(alloc: Global, rows: &Rows<'_>, line: &[u8]) -> Result<Line, LineRe
         return Ok(Line::Blank);
     }
     match words(alloc, line) {
-        Ok(words) => of_words(alloc, rows, line, words.as_slice()),
+        Ok(words) => of_cut(alloc, rows, line, words),
         Err(WordRefusal::Byte(at)) => Err(LineRefusal::Syntax(at)),
         Err(WordRefusal::NoMemory) => Err(LineRefusal::NoMemory),
     }

@@ -11,9 +11,12 @@ ghost use Rattle.statement_parser.specs.ReadCommands.{corners_at, paint_at, new_
 use crate::bodies::body;
 use crate::command::{Command, command_named};
 use crate::fault::ReadError;
+use crate::labels::{label, symbol};
 use crate::line::{Line, LineEdit, Request};
 use crate::places::{any, cell, end, misfit, name, side, the};
+use crate::procedures::procedure;
 use crate::rows::Rows;
+use crate::scope::Scope;
 use map_words::{Name, NameRefusal, Word};
 use std::alloc::Global;
 
@@ -22,7 +25,7 @@ fn define(alloc: Global, rows: &Rows<'_>, name: Name, words: &[Word<'_>]) -> Res
     ensures { Gives line_view result (define_at (manner_of rows.now) name (texts_of words.now)) }
 {
     let rest = the(b"=", words)?;
-    let (written, rest) = body(alloc, rows, rest)?;
+    let (written, rest) = body(alloc, &Scope::Anywhere, rows, rest)?;
     end(rest)?;
     Ok(Line::Edit(LineEdit::Define { name, written }))
 }
@@ -166,13 +169,21 @@ fn quit(words: &[Word<'_>]) -> Result<Line, ReadError>
 }
 
 /// What follows a command's word.
-fn commanded(alloc: Global, command: Command, words: &[Word<'_>]) -> Result<Line, ReadError>
-    ensures { Gives line_view result (command_at command (texts_of words.now)) }
+fn commanded(
+    alloc: Global,
+    rows: &Rows<'_>,
+    command: Command,
+    words: &[Word<'_>],
+) -> Result<Line, ReadError>
+    ensures { Gives line_view result (command_at (manner_of rows.now) command (texts_of words.now)) }
 {
     match command {
+        Command::Procedure => procedure(alloc, rows, words),
         Command::Paint => paint(alloc, words),
         Command::New => new_layer(alloc, words),
         Command::Drop => drop_line(alloc, words),
+        Command::Label => label(alloc, words),
+        Command::Symbol => symbol(alloc, words),
         Command::Value => value(alloc, words),
         Command::Grid => grid(alloc, words),
         Command::Show => show(alloc, words),
@@ -192,7 +203,7 @@ fn line(alloc: Global, rows: &Rows<'_>, words: &[Word<'_>]) -> Result<Line, Read
     match words {
         [] => Ok(Line::Blank),
         [first, rest @ ..] => match command_named(rows, first.text) {
-            Some(command) => commanded(alloc, command, rest),
+            Some(command) => commanded(alloc, rows, command, rest),
             None => match Name::plain(alloc, first.text) {
                 Ok(name) => define(alloc, rows, name, rest),
                 Err(NameRefusal::Form) => Err(ReadError::Fault(misfit(false, words))),

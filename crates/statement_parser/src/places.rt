@@ -7,7 +7,9 @@ ghost use Rattle.grammar_core.specs.Refusals.{is_unknown};
 ghost use Rattle.statement_parser.specs.Views.{texts_of, term_view, manner_of};
 ghost use Rattle.statement_parser.specs.Gives.{Gives};
 ghost use Rattle.statement_parser.specs.Places as place;
-ghost use Rattle.std.specs.Prelude.{◌||◌, IfSome};
+ghost use Rattle.std.specs.Prelude.{◌||◌, IfSome, IfOk};
+ghost use Rattle.map_defs.specs.Ops.{number_term};
+ghost use Rattle.statement_parser.specs.ScopeViews.{scope_of};
 ghost use Rattle.map_words.specs.Names.{is_plain, is_dotted};
 ghost use Rattle.map_words.specs.Named.{IsNamed};
 
@@ -15,9 +17,10 @@ use crate::fault::ReadError;
 use crate::op::Term;
 use crate::operation::operation_named;
 use crate::rows::Rows;
+use crate::scope::Scope;
 use grammar_core::{Fault, Kind};
 use layer_tiles::Cell;
-use map_nums::{VMAX, Value};
+use map_nums::{NoMemory, VMAX, Value};
 use map_words::{Name, NameRefusal, Word, has_name_form, is_number, number_in};
 use std::alloc::Global;
 
@@ -236,22 +239,45 @@ pub fn cell<'t, 'a>(words: &'t [Word<'a>]) -> Result<(Cell, &'t [Word<'a>]), Rea
     }
 }
 
-/// A layer's name or a number.
+fn number_word(text: &[u8]) -> Option<Term>
+    ensures { option_map term_view result ≡ option_map number_term (place.value_of text.now) }
+{
+    match value_word(text) {
+        None => None,
+        Some(value) => Some(Term::Number(value)),
+    }
+}
+
+/// The term that a word is.
+fn term_word(alloc: Global, scope: &Scope<'_>, text: &[u8]) -> Result<Option<Term>, NoMemory>
+    ensures { IfOk result (λ t. option_map term_view t ≡ place.term_of (scope_of scope.now) text.now) }
+{
+    match Name::plain(alloc, text) {
+        Ok(name) => {
+            if scope.holds(text) {
+                return Ok(Some(Term::Layer(name)));
+            }
+            Ok(number_word(text))
+        }
+        Err(NameRefusal::Form) => Ok(number_word(text)),
+        Err(NameRefusal::NoMemory) => Err(NoMemory),
+    }
+}
+
+/// A layer's name, one that the scope holds, or a number.
 pub fn term<'t, 'a>(
     alloc: Global,
+    scope: &Scope<'_>,
     words: &'t [Word<'a>],
 ) -> Result<(Term, &'t [Word<'a>]), ReadError>
-    ensures { Gives (λ x. (term_view x.0, texts_of x.1.now)) result (one_at place.reading place.term_of true (texts_of words.now)) }
+    ensures { Gives (λ x. (term_view x.0, texts_of x.1.now)) result (one_at place.reading (place.term_of (scope_of scope.now)) true (texts_of words.now)) }
 {
     match words {
         [] => Err(ReadError::Fault(misfit(true, words))),
-        [first, rest @ ..] => match Name::plain(alloc, first.text) {
-            Ok(name) => Ok((Term::Layer(name), rest)),
-            Err(NameRefusal::Form) => match value_word(first.text) {
-                Some(value) => Ok((Term::Number(value), rest)),
-                None => Err(ReadError::Fault(misfit(true, words))),
-            },
-            Err(NameRefusal::NoMemory) => Err(ReadError::NoMemory),
+        [first, rest @ ..] => match term_word(alloc, scope, first.text) {
+            Ok(Some(term)) => Ok((term, rest)),
+            Ok(None) => Err(ReadError::Fault(misfit(true, words))),
+            Err(_) => Err(ReadError::NoMemory),
         },
     }
 }
@@ -259,19 +285,17 @@ pub fn term<'t, 'a>(
 /// The weights of a flow.
 pub fn weights<'t, 'a>(
     alloc: Global,
+    scope: &Scope<'_>,
     words: &'t [Word<'a>],
 ) -> Result<(Option<Term>, &'t [Word<'a>]), ReadError>
-    ensures { Gives (λ x. (option_map term_view x.0, texts_of x.1.now)) result (one_at place.reading place.weights_of true (texts_of words.now)) }
+    ensures { Gives (λ x. (option_map term_view x.0, texts_of x.1.now)) result (one_at place.reading (place.weights_of (scope_of scope.now)) true (texts_of words.now)) }
 {
     match words {
         [] => Err(ReadError::Fault(misfit(true, words))),
-        [first, rest @ ..] => match Name::plain(alloc, first.text) {
-            Ok(name) => Ok((Some(Term::Layer(name)), rest)),
-            Err(NameRefusal::Form) => match value_word(first.text) {
-                Some(value) => Ok((Some(Term::Number(value)), rest)),
-                None => Err(ReadError::Fault(misfit(true, words))),
-            },
-            Err(NameRefusal::NoMemory) => Err(ReadError::NoMemory),
+        [first, rest @ ..] => match term_word(alloc, scope, first.text) {
+            Ok(Some(term)) => Ok((Some(term), rest)),
+            Ok(None) => Err(ReadError::Fault(misfit(true, words))),
+            Err(_) => Err(ReadError::NoMemory),
         },
     }
 }

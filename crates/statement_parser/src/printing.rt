@@ -353,7 +353,7 @@ fn op(text: &mut Vec<u8>, op: &Op) -> Result<(), AllocError>
 }
 
 /// Appends bytes, with no space before them.
-fn glued(text: &mut Vec<u8>, bytes: &[u8]) -> Result<(), AllocError>
+pub fn glued(text: &mut Vec<u8>, bytes: &[u8]) -> Result<(), AllocError>
     ensures { IfOk result (λ _. Grows text.old.items text.new.items bytes.now) }
 {
     text.extend_from_slice(bytes)?;
@@ -413,7 +413,7 @@ fn call(text: &mut Vec<u8>, procedure: &Name, given: &[Term]) -> Result<(), Allo
 }
 
 /// What follows a statement's name and `=`.
-fn body(text: &mut Vec<u8>, written: &Written) -> Result<(), AllocError>
+pub fn body(text: &mut Vec<u8>, written: &Written) -> Result<(), AllocError>
     ensures { IfOk result (λ _. Grows text.old.items text.new.items (tail_text (written_view written.now))) }
 {
     match written {

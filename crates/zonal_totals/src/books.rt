@@ -62,6 +62,20 @@ impl BookPatch {
     {
         self.zones.get(k as usize).copied()
     }
+
+    /// All of these zones.
+    pub fn zones(&self) -> &[Value]
+        ensures { result.now ≡ self.now.zones }
+    {
+        &self.zones
+    }
+
+    /// The book after the edit.
+    pub fn into_book(self) -> Book
+        ensures { result ≡ self.after }
+    {
+        self.after
+    }
 }
 
 impl Book {

@@ -7,6 +7,8 @@ use Rattle.std.specs.Option.{option_copied}
 use Rattle.std.specs.Map.{lookup}
 use Rattle.map_nums.specs.Counts.{raised}
 use Rattle.map_nums.specs.Grids.{Size}
+use Rattle.layer_tiles.specs.Changes.{patched_change}
+use Rattle.map_waves.specs.Operands.{IsOperand}
 use Rattle.map_edits.specs.Entries.{source, put_entry}
 use Rattle.statement_parser.specs.Views.{written_view}
 use Rattle.live_engine.specs.Held.{flats_of}
@@ -17,7 +19,7 @@ use Rattle.live_engine.proofs.Groupings.{groups_repaint}
 use Rattle.live_engine.proofs.Lawful.{lawful_repaint}
 use Rattle.live_engine.proofs.Accepting.{accept_err, halted}
 use Rattle.live_engine.proofs.Editing.{accepts_after, kept_after, paint_unknown, paint_derived, paint_size, size_refused, paint_tiles, tiles_grid, def_there, item_def, painted_entries, painted_held}
-use Rattle.live_engine.proofs.Valuing.{parts_kept, parts_twice}
+use Rattle.live_engine.proofs.Valuing.{parts_twice}
 use Rattle.live_engine.proofs.repainting.paint.Goals as goal
 
 pub returns-in-None-clause-accepts : goal.returns-in-None-clause-accepts
@@ -53,8 +55,8 @@ returns-then-not-is_within-clause-accepts g c =
       refl,
     )
 
-pub painted_tiles-requires : goal.painted_tiles-requires
-painted_tiles-requires g c =
+pub changed_by_paint-requires : goal.changed_by_paint-requires
+changed_by_paint-requires g c =
     let old = c.args.held.now in
     let n = c.args.name in
     let r = rectangle_of c.args.rectangle in
@@ -71,7 +73,7 @@ evaluated-requires-clause-shift g c =
     let layer = c.in-Some-Source.layer in
     let there : lookup (bytes_eq n) old.names.entries ≡ Some (Source layer) = sym c.get.ensures.value ∙ ap option_copied c.in-Some-Source.is ∙ ap Some c.in-Some-Source.field-0-is in
     let size : layer.size ≡ old.extent = held_item old.extent old.names.entries n c.requires.held (Source layer) there in
-    (size, c.in_ok-patch-in-Some-Source.ensures.size ∙ size)
+    (size, c.in_ok-patch-in-Some-Source.ensures.size ∙ size, subst (λ (z : Size). IsOperand z (patched_change layer c.in_ok-patch-in-Some-Source.patch)) size c.in_ok-patch-in-Some-Source.ensures.operand)
 
 pub evaluated-requires-clause-graph : goal.evaluated-requires-clause-graph
 evaluated-requires-clause-graph g c =
@@ -139,10 +141,10 @@ returns-clause-accepts g c =
 
 pub returns-in-Ok-clause-parts : goal.returns-in-Ok-clause-parts
 returns-in-Ok-clause-parts g c =
-    parts_twice (g.M.Tally.counts c.args.tally.now) (g.M.Tally.counts c.painted_tiles.new.tally) (g.M.Tally.counts c.evaluated.new.tally)
-    (parts_kept _ 0 (g.M.Tally.counts c.args.tally.now) (g.M.Tally.counts c.painted_tiles.new.tally) c.painted_tiles.ensures.tally) c.evaluated.ensures.parts
+    parts_twice (g.M.Tally.counts c.args.tally.now) (g.M.Tally.counts c.changed_by_paint.new.tally) (g.M.Tally.counts c.evaluated.new.tally)
+    c.changed_by_paint.ensures.parts c.evaluated.ensures.parts
 
 pub returns-clause-parts : goal.returns-clause-parts
 returns-clause-parts g c =
-    parts_twice (g.M.Tally.counts c.args.tally.now) (g.M.Tally.counts c.painted_tiles.new.tally) (g.M.Tally.counts c.evaluated.new.tally)
-    (parts_kept _ 0 (g.M.Tally.counts c.args.tally.now) (g.M.Tally.counts c.painted_tiles.new.tally) c.painted_tiles.ensures.tally) c.evaluated.ensures.parts
+    parts_twice (g.M.Tally.counts c.args.tally.now) (g.M.Tally.counts c.changed_by_paint.new.tally) (g.M.Tally.counts c.evaluated.new.tally)
+    c.changed_by_paint.ensures.parts c.evaluated.ensures.parts

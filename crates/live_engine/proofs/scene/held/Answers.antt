@@ -2,6 +2,7 @@ use Rattle.std.proofs.Common.{Some, sym, ap, ◌∙◌}
 use Rattle.map_edits.specs.Entries.{source}
 use Rattle.layer_tiles.specs.Changes.{ChangeState}
 use Rattle.live_engine.specs.declared.held.Item.TheVariants.{Source, Statement}
+use Rattle.op_jobs.proofs.Standing.{same_operand}
 use Rattle.live_engine.proofs.Lookups.{held_none, held_some, held_item}
 use Rattle.live_engine.proofs.scene.held.Goals as goal
 
@@ -17,8 +18,7 @@ returns-in-Some-Source-clause-def c =
 pub returns-in-Some-Source-clause-found : goal.returns-in-Some-Source-clause-found
 returns-in-Some-Source-clause-found c =
     let a = c.in-Some-Source in
-    ap (λ (s : ChangeState). s.size) c.same.ensures
-    ∙ held_item c.args.extent c.args.names.now.entries c.args.name.now c.get.result a.field-0 (Source a.layer) c.requires c.get.ensures.value a.is a.field-0-is
+    same_operand c.args.extent a.layer _ (held_item c.args.extent c.args.names.now.entries c.args.name.now c.get.result a.field-0 (Source a.layer) c.requires c.get.ensures.value a.is a.field-0-is) c.same.ensures
 
 pub returns-in-Some-Statement-clause-def : goal.returns-in-Some-Statement-clause-def
 returns-in-Some-Statement-clause-def c =

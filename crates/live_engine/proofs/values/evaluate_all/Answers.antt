@@ -75,7 +75,7 @@ returns-in_err-valued-clause-values g c =
     let here = given_at ns nodes k c.node.result c.in-Some.node c.node.ensures c.requires.graph c.in-Some.is in
     let n = c.in-Some.node.now.name in
     let halt = c.in_err-valued.field-0.0 in
-    let valued = subst (λ (vs : List Valued). IsValued scene.extent n (made scene.extent (at_hand (state_of scene) vs) (find_making (layers (after_scene scene)) n)) (Err halt)) c.deref.ensures.value c.in_err-valued.ensures.value in
+    let valued = subst (λ (vs : List Valued). IsValued scene.extent (at_hand (state_of scene) vs) (find_making (layers (after_scene scene)) n) n (Err halt)) c.deref.ensures.value c.in_err-valued.ensures.value in
     rw (p.1, p.2)
     (step_halted (state_of scene) c.args.stamp (settled_scene scene c.requires.scene c.requires.acyclic c.len-count.ensures.unique) k c.loop-node.values.items c.loop-node.invariant.up (flat_node c.in-Some.node.now) here halt valued)
 
@@ -97,7 +97,7 @@ loop-node-preserved g c =
     let here = given_at ns nodes k c.node.result c.in-Some.node c.node.ensures c.requires.graph c.in-Some.is in
     let n = c.in-Some.node.now.name in
     let v = c.in_ok-valued.valued in
-    let valued = subst (λ (vs : List Valued). IsValued scene.extent n (made scene.extent (at_hand (state_of scene) vs) (find_making (layers (after_scene scene)) n)) (Ok v)) c.deref.ensures.value c.in_ok-valued.ensures.value in
+    let valued = subst (λ (vs : List Valued). IsValued scene.extent (at_hand (state_of scene) vs) (find_making (layers (after_scene scene)) n) n (Ok v)) c.deref.ensures.value c.in_ok-valued.ensures.value in
     record {
       up = step_pushed (state_of scene) c.args.stamp (settled_scene scene c.requires.scene c.requires.acyclic c.len-count.ensures.unique) k c.loop-node.values.items c.loop-node.invariant.up (flat_node c.in-Some.node.now) here
           v c.push.new.self.items valued c.in_ok-valued.ensures.stamped c.in-Ok.ensures.items;

@@ -4,8 +4,7 @@ use Rattle.map_defs.specs.Ops.{terms_of}
 use Rattle.statement_parser.specs.Views.{op_view, term_view}
 use Rattle.live_engine.specs.Scenes.{state_of}
 use Rattle.live_engine.specs.Values.{at_hand}
-use Rattle.map_lines.proofs.Terms.{term_formed}
-use Rattle.statement_parser.proofs.TermLemmas.{past_last}
+use Rattle.statement_parser.proofs.TermLemmas.{past_last, term_formed}
 use Rattle.live_engine.proofs.Hand.{operand_there, operands_more, operands_all}
 use Rattle.live_engine.proofs.values.operands_of.Goals as goal
 
@@ -29,7 +28,7 @@ pub loop-term-preserved : goal.loop-term-preserved
 loop-term-preserved c =
     let here : slice_get (terms_of (op_view c.args.op.now)) c.loop-term.k ≡ Some (term_view c.in-Some.term.now) = sym c.term.ensures ∙ ap (option_map (λ t. term_view t.now)) c.in-Some.is in
     operands_more c.args.scene.now.extent (at_hand (state_of c.args.scene.now) c.args.values.now) (terms_of (op_view c.args.op.now)) c.loop-term.k c.loop-term.operands c.push.new.self
-    (term_view c.in-Some.term.now) c.operand_of.result c.loop-term.invariant here c.operand_of.ensures.cells c.operand_of.ensures.size c.push.ensures
+    (term_view c.in-Some.term.now) c.operand_of.result c.loop-term.invariant here c.operand_of.ensures.cells c.operand_of.ensures.operand c.push.ensures
 
 pub returns-clause-count : goal.returns-clause-count
 returns-clause-count c =

@@ -1,0 +1,9 @@
+pub mod RowsOfTiles
+pub mod Looks
+pub mod Compared
+pub mod KindLists
+pub mod Counting
+pub mod Runs
+pub mod Ascending
+pub mod PairLists
+pub mod PairRuns

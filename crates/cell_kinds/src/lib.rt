@@ -1,0 +1,13 @@
+//! The different cells of a layer with the number of their places, and the pairs of a zone and a value that stand at one place of
+//! two layers. [`kinds_of`] and [`combinations_of`] sort the cells once and go over their runs; [`push_row`] gathers a row of a layer
+//! from the tiles that it crosses.
+#![tactic(auto)]
+
+mod combinations;
+mod kinds;
+mod order;
+mod rows;
+
+pub use combinations::{Combination, combinations_of};
+pub use kinds::{Kind, kinds_of};
+pub use rows::push_row;

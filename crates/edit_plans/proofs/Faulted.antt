@@ -1,0 +1,112 @@
+-- The first fault of a state is the first fault of its plan.
+use Rattle.std.proofs.Common.{◌≡◌, ℕ, zero, suc, ◌<◌, ◌≤◌, ◌&&◌, nat_lt, Bool, true, false, cond, List, [], ◌∷◌, map, filter, length, position, Option, Some, None, is_some, option_map, slice_get, get_or, if◌then◌else◌, ◌↔◌, refl, sym, ap, ◌∙◌, arith}
+use Rattle.std.proofs.lemmas.Option.{none-some, slice_get_within, slice_get-get_or}
+use Rattle.map_nums.specs.Grids.{Size, Cells, Grid}
+use Rattle.map_nums.specs.Answers.{is_wide}
+use Rattle.map_nums.specs.Options.{first_some}
+use Rattle.map_defs.specs.Ops.{Name, Term, terms_of, Op, local_op, difference_op, ratio_op, rating_op, focal_op, zonal_op, form_op, direction_op, flow_op, spread_op, sight_op, region_op}
+use Rattle.map_defs.specs.Nodes.{Node}
+use Rattle.map_defs.specs.Depths.{by_depth}
+use Rattle.map_defs.specs.Sight.{most_viewers}
+use Rattle.layer_tiles.specs.Operands.{cells_after}
+use Rattle.map_edits.specs.LayerDefs.{Making, by_op, layers, find_making, nodes_of}
+use Rattle.map_edits.specs.EngineStates.{EngineState, value_of}
+use Rattle.map_edits.specs.Faults.{Fault, too_many_viewers, viewers_among, viewers_of, wide_place, overflow_at, fault_of_layer, fault_of}
+use Rattle.map_edits.specs.Laws.{HasNoCycle}
+use Rattle.map_edits.specs.Touches.{Touch}
+use Rattle.map_waves.specs.Statements.{made, viewers_in, fault_in, wide_at, too_many}
+use Rattle.map_waves.specs.Statements as waves
+use Rattle.map_waves.specs.Plans.{Plan, operand_in, changes_to, operands_at, fault_at, change_at}
+use Rattle.edit_plans.specs.PlansFor.{IsPlanFor, AreRefsFor, defined_names}
+use Rattle.edit_plans.specs.PlanLaws.{FirstFaultIsTold, NoFaultIsNone}
+use Rattle.edit_plans.specs.Telling.{fault_told}
+use Rattle.map_waves.specs.declared.plans.Ref.{Ref}
+use Rattle.edit_plans.proofs.Valued.{terms_after, all_made}
+use Rattle.edit_plans.proofs.LayerFaults.{undefined_faultless, layer_fault}
+
+-- ---- the first of a list
+
+module _ {X : Type 0} (f : Name → Option X) where
+  pub first_at : (names : List Name) (k : ℕ) (n : Name) (x : X) → slice_get names k ≡ Some n → f n ≡ Some x → ((j : ℕ) (m : Name) → j < k → slice_get names j ≡ Some m → f m ≡ None) → first_some (map f names) ≡ Some x
+  first_at [] k n x at is none = absurd (none-some n at)
+  first_at (m ∷ names) zero n x at is none = let same : m ≡ n = cc in ap (λ o. first_some (o ∷ map f names)) (ap f same ∙ is)
+  first_at (m ∷ names) (suc k) n x at is none =
+      ap (λ o. first_some (o ∷ map f names)) (none 0 m (omega arith) refl) ∙ first_at names k n x at is (λ j q less here. none (suc j) q (omega arith) here)
+
+  pub first_none : (names : List Name) → ((j : ℕ) (m : Name) → slice_get names j ≡ Some m → f m ≡ None) → first_some (map f names) ≡ None
+  first_none [] none = refl
+  first_none (m ∷ names) none = ap (λ o. first_some (o ∷ map f names)) (none 0 m refl) ∙ first_none names (λ j q here. none (suc j) q here)
+
+  pub none_first : (names : List Name) → first_some (map f names) ≡ None → (j : ℕ) (m : Name) → slice_get names j ≡ Some m → f m ≡ None
+  none_first [] is j m at = absurd (none-some m at)
+  none_first (n ∷ names) is j m at = go (f n) refl is (none_first names)
+    where
+      rest : f n ≡ None → ((i : ℕ) (q : Name) → slice_get names i ≡ Some q → f q ≡ None) → (i : ℕ) → slice_get (n ∷ names) i ≡ Some m → f m ≡ None
+      rest here later zero e = let same : n ≡ m = cc in ap f (sym same) ∙ here
+      rest here later (suc i) e = later i m e
+
+      go : (o : Option X) → f n ≡ o → first_some (o ∷ map f names) ≡ None → (first_some (map f names) ≡ None → (i : ℕ) (q : Name) → slice_get names i ≡ Some q → f q ≡ None) → f m ≡ None
+      go None here later more = rest here (more later) j at
+      go (Some x) here later more = absurd (none-some x (sym later))
+
+-- ---- undefined layers have no fault
+
+defined_faults : (t : EngineState) (nodes : List Node) → first_some (map (λ (node : Node). fault_of_layer t node.name) nodes)
+    ≡ first_some (map (fault_of_layer t) (map (λ (node : Node). node.name) (filter (λ (node : Node). is_some (value_of t node.name)) nodes)))
+defined_faults t [] = refl
+defined_faults t (x ∷ xs) = go (is_some (value_of t x.name)) refl (fault_of_layer t x.name) refl (defined_faults t xs)
+  where
+    go : (b : Bool) → is_some (value_of t x.name) ≡ b → (o : Option Fault) → fault_of_layer t x.name ≡ o
+        → first_some (map (λ (node : Node). fault_of_layer t node.name) xs) ≡ first_some (map (fault_of_layer t) (map (λ (node : Node). node.name) (filter (λ (node : Node). is_some (value_of t node.name)) xs)))
+        → first_some (o ∷ map (λ (node : Node). fault_of_layer t node.name) xs)
+        ≡ first_some (map (fault_of_layer t) (map (λ (node : Node). node.name) (cond b (x ∷ filter (λ (node : Node). is_some (value_of t node.name)) xs) (filter (λ (node : Node). is_some (value_of t node.name)) xs))))
+    go true e None is rest = rw is rest
+    go true e (Some f) is rest = rw is refl
+    go false e None is rest = rest
+    go false e (Some f) is rest = absurd (none-some f (sym (undefined_faultless t x.name e) ∙ is))
+
+-- ---- the fault of one statement
+
+module _ (touch : Touch) (s t : EngineState) (p : Plan) (sources names : List Name) (plan : IsPlanFor touch s t p sources names) (none : HasNoCycle (nodes_of t.entries)) where
+  faults_listed : fault_of t ≡ first_some (map (fault_of_layer t) names)
+  unfolding fault_of
+  faults_listed = defined_faults t (by_depth (nodes_of t.entries)) ∙ ap (λ ns. first_some (map (fault_of_layer t) ns)) (sym plan.names_are)
+
+  -- a statement's fault is told with its name
+  pub fault_is_told : (k : ℕ) (n : Name) → slice_get names k ≡ Some n → fault_of_layer t n ≡ option_map (fault_told t.size n) (fault_at p k)
+  fault_is_told k n at =
+      let step = plan.steps k n at in
+      let all = terms_after touch s t p sources names plan k (all_made touch s t p sources names plan none k) (terms_of (p.step k).op) (p.step k).refs step.refs in
+      layer_fault t none n (p.step k).op (cells_after (operands_at p k)) step.making all
+      ∙ ap (λ q. option_map (fault_told t.size n) (fault_in q (p.step k).op (cells_after (operands_at p k)))) (sym plan.size)
+
+  none_told : (k : ℕ) (n : Name) → slice_get names k ≡ Some n → fault_at p k ≡ None → fault_of_layer t n ≡ None
+  none_told k n at e = fault_is_told k n at ∙ ap (option_map (fault_told t.size n)) e
+
+  pub first_is_told : (k : ℕ) (n : Name) (f : waves.Fault) → slice_get names k ≡ Some n → fault_at p k ≡ Some f → ((j : ℕ) → j < k → fault_at p j ≡ None) → fault_of t ≡ Some (fault_told t.size n f)
+  first_is_told k n f at is earlier =
+      faults_listed ∙ first_at (fault_of_layer t) names k n (fault_told t.size n f) at (fault_is_told k n at ∙ ap (option_map (fault_told t.size n)) is)
+      (λ j m less here. none_told j m here (earlier j less))
+
+  untold : (k : ℕ) (n : Name) → slice_get names k ≡ Some n → fault_of_layer t n ≡ None → fault_at p k ≡ None
+  untold k n at e = go (fault_at p k) refl
+    where
+      go : (o : Option waves.Fault) → fault_at p k ≡ o → o ≡ None
+      go None h = refl
+      go (Some f) h = absurd (none-some (fault_told t.size n f) (sym e ∙ fault_is_told k n at ∙ ap (option_map (fault_told t.size n)) h))
+
+  pub none_where_none : (fault_of t ≡ None) ↔ ((k : ℕ) → k < length names → fault_at p k ≡ None)
+  none_where_none = (
+    λ e k below. there k (slice_get names k) refl below e,
+    λ each. faults_listed ∙ first_none (fault_of_layer t) names (λ j m at. none_told j m at (each j (slice_get_within names j m at))),
+  )
+    where
+      there : (k : ℕ) (o : Option Name) → slice_get names k ≡ o → k < length names → fault_of t ≡ None → fault_at p k ≡ None
+      there k None at below e = absurd (none-some (get_or names k []) (sym at ∙ slice_get-get_or names k [] below))
+      there k (Some n) at below e = untold k n at (none_first (fault_of_layer t) names (sym faults_listed ∙ e) k n at)
+
+pub first_fault_is_told : FirstFaultIsTold
+first_fault_is_told touch s t p sources names k n f plan none at is earlier = first_is_told touch s t p sources names plan none k n f at is earlier
+
+pub no_fault_is_none : NoFaultIsNone
+no_fault_is_none touch s t p sources names plan none = none_where_none touch s t p sources names plan none

@@ -1,0 +1,240 @@
+-- The operands of a statement that is planned.
+use Rattle.std.proofs.Common.{◌≡◌, ℕ, zero, suc, ◌+◌, ◌<◌, ◌≤◌, max, Bool, true, false, cond, not, ◌||◌, ◌&&◌, List, [], ◌∷◌, ◌++◌, map, filter, flat_map, fold, take, length, get_or, position, Option, Some, None, is_some, option_map, slice_get, bytes_eq, refl, sym, ap, subst, ◌∙◌, arith, if◌then◌else◌}
+use Rattle.std.specs.List.{list_any}
+use Rattle.std.specs.Option.{option_or}
+use Rattle.std.proofs.lemmas.Bool.{true≢false, or_left, or_right}
+use Rattle.std.proofs.lemmas.Option.{none-some, same_Some, slice_get_within, slice_get-get_or}
+use Rattle.map_nums.specs.Options.{all_some, first_some}
+use Rattle.map_defs.specs.Ops.{Name, Term, layer_term, number_term, terms_of, term_names}
+use Rattle.map_defs.specs.Nodes.{Node, find_node, needs_in, lacks}
+use Rattle.map_defs.specs.Depths.{depth_in}
+use Rattle.map_edits.specs.Laws.{is_among, is_named_in, HasNoCycle}
+use Rattle.map_edits.proofs.Among.{same_name, bytes_eq-self, bytes_eq-turned}
+use Rattle.map_edits.proofs.Looks.{find_node-name}
+use Rattle.map_edits.proofs.Unfolds.{lacks_unfolds, depth_unfolds, depth_by}
+use Rattle.statement_parser.specs.declared.op.Op.{Op as Given}
+use Rattle.map_waves.specs.declared.plans.Ref.{Ref}
+use Rattle.map_waves.specs.declared.plans.Ref.TheVariants.{Source, Statement, Number}
+use Rattle.map_waves.specs.declared.plans.Step.{Step}
+use Rattle.edit_plans.specs.PlansFor.{IsRefFor, AreRefsFor}
+use Rattle.edit_plans.specs.Planned.{place_for, ref_for, ref_depth, is_source_node, AreSources, whole_names}
+use Rattle.edit_plans.proofs.Depths.{taken_to}
+use Rattle.std.proofs.lemmas.List.{map-append}
+use Rattle.edit_plans.proofs.Positions.{some_position, position_at, any_at_place, get_more}
+
+-- ---- operands by name
+
+module _ (sources names : List Name) where
+  one_ref : (k : ℕ) → k ≡ length names → (u : Term) (r : Ref) → ref_for sources names u ≡ Some r → IsRefFor sources names k u r
+  one_ref k end (number_term z) r e = subst (IsRefFor sources names k (number_term z)) (same_Some (Number (Some z)) r e) refl
+  one_ref k end (layer_term n) r e = go (position (bytes_eq n) sources) refl (position (bytes_eq n) names) refl e
+    where
+      go : (o : Option ℕ) → position (bytes_eq n) sources ≡ o → (q : Option ℕ) → position (bytes_eq n) names ≡ q → option_or (option_map (λ i. Source i) o) (option_map (λ j. Statement j) q) ≡ Some r → IsRefFor sources names k (layer_term n) r
+      go (Some i) is q at e = subst (IsRefFor sources names k (layer_term n)) (same_Some (Source i) r e) (position_at n sources i is)
+      go None is (Some j) at e =
+          let here = position_at n names j at in
+          let within : j < k = let h = slice_get_within names j n here in omega arith in
+          subst (IsRefFor sources names k (layer_term n)) (same_Some (Statement j) r e) (here, within)
+      go None is None at e = absurd (none-some r e)
+
+  pub refs_are : (k : ℕ) → k ≡ length names → (us : List Term) (rs : List Ref) → all_some (map (ref_for sources names) us) ≡ Some rs → AreRefsFor sources names k us rs
+  refs_are k end [] [] e = tt
+  refs_are k end [] (r ∷ rs) e = absurd cc
+  refs_are k end (u ∷ us) rs e = go (ref_for sources names u) refl (all_some (map (ref_for sources names) us)) refl e (λ rest h. refs_are k end us rest h)
+    where
+      go : (o : Option Ref) → ref_for sources names u ≡ o → (q : Option (List Ref)) → all_some (map (ref_for sources names) us) ≡ q → all_some (o ∷ map (ref_for sources names) us) ≡ Some rs
+          → ((rest : List Ref) → all_some (map (ref_for sources names) us) ≡ Some rest → AreRefsFor sources names k us rest) → AreRefsFor sources names k (u ∷ us) rs
+      go None is q more f later = absurd (none-some rs f)
+      go (Some r) is None more f later = absurd (none-some rs (sym (ap (option_map (λ rest. r ∷ rest)) more) ∙ f))
+      go (Some r) is (Some rest) more f later =
+          let same : r ∷ rest ≡ rs = same_Some (r ∷ rest) rs (sym (ap (option_map (λ rest. r ∷ rest)) more) ∙ f) in
+          subst (AreRefsFor sources names k (u ∷ us)) same (one_ref k end u r is, later rest more)
+
+  ref_more : (more : List Name) (k : ℕ) (u : Term) (r : Ref) → IsRefFor sources names k u r → IsRefFor sources (names ++ more) k u r
+  ref_more more k (layer_term n) (Source i) is = is
+  ref_more more k (layer_term n) (Statement j) is = (get_more names more j n is.0, is.1)
+  ref_more more k (number_term z) (Number c) is = is
+  ref_more more k (layer_term n) (Number c) is = absurd is
+  ref_more more k (number_term z) (Source i) is = absurd is
+  ref_more more k (number_term z) (Statement j) is = absurd is
+
+  -- they stay as more names follow
+  pub refs_more : (more : List Name) (k : ℕ) (us : List Term) (rs : List Ref) → AreRefsFor sources names k us rs → AreRefsFor sources (names ++ more) k us rs
+  refs_more more k [] [] are = tt
+  refs_more more k [] (r ∷ rs) are = absurd are
+  refs_more more k (u ∷ us) [] are = absurd are
+  refs_more more k (u ∷ us) (r ∷ rs) are = (ref_more more k u r are.0, refs_more more k us rs are.1)
+
+-- ---- what is there
+
+some_or : {X : Type 0} (o q : Option X) → is_some (option_or o q) ≡ (is_some o || is_some q)
+some_or None q = refl
+some_or (Some x) q = refl
+
+some_map : {X Y : Type 0} (f : X → Y) (o : Option X) → is_some (option_map f o) ≡ is_some o
+some_map f None = refl
+some_map f (Some x) = refl
+
+place_is : (sources names : List Name) (n : Name) → is_some (place_for sources names n) ≡ (list_any (bytes_eq n) sources || list_any (bytes_eq n) names)
+place_is sources names n =
+    some_or (option_map (λ i. Source i) (position (bytes_eq n) sources)) (option_map (λ j. Statement j) (position (bytes_eq n) names))
+    ∙ ap (λ b. b || is_some (option_map (λ j. Statement j) (position (bytes_eq n) names))) (some_map (λ i. Source i) (position (bytes_eq n) sources) ∙ some_position (bytes_eq n) sources)
+    ∙ ap (λ b. list_any (bytes_eq n) sources || b) (some_map (λ j. Statement j) (position (bytes_eq n) names) ∙ some_position (bytes_eq n) names)
+
+-- a name is among those that pass where it is listed and passes
+pub kept_named : (q : Name → Bool) (n : Name) (xs : List Node) → list_any (bytes_eq n) (map (λ (x : Node). x.name) (filter (λ (x : Node). q x.name) xs)) ≡ (is_named_in n xs && q n)
+kept_named q n [] = refl
+kept_named q n (x ∷ xs) = go (q x.name) refl (bytes_eq x.name n) refl (kept_named q n xs)
+  where
+    rest : List Name
+    rest = map (λ (x : Node). x.name) (filter (λ (x : Node). q x.name) xs)
+
+    none : (b : Bool) → (b && false) ≡ false
+    none true = refl
+    none false = refl
+
+    go : (b : Bool) → q x.name ≡ b → (c : Bool) → bytes_eq x.name n ≡ c → list_any (bytes_eq n) (map (λ (x : Node). x.name) (filter (λ (x : Node). q x.name) xs)) ≡ (is_named_in n xs && q n)
+        → list_any (bytes_eq n) (map (λ (x : Node). x.name) (cond b (x ∷ filter (λ (x : Node). q x.name) xs) (filter (λ (x : Node). q x.name) xs))) ≡ ((c || is_named_in n xs) && q n)
+    go true e true same h =
+        let named = same_name x.name n same in
+        or_left (bytes_eq n x.name) (list_any (bytes_eq n) (map (λ (x : Node). x.name) (filter (λ (x : Node). q x.name) xs))) (ap (bytes_eq n) named ∙ bytes_eq-self n) ∙ sym (ap q (sym named) ∙ e)
+    go true e false differs h = ap (λ b. b || list_any (bytes_eq n) (map (λ (x : Node). x.name) (filter (λ (x : Node). q x.name) xs))) (bytes_eq-turned x.name n differs) ∙ h
+    go false e true same h =
+        let no : q n ≡ false = ap q (sym (same_name x.name n same)) ∙ e in
+        h ∙ ap (λ b. is_named_in n xs && b) no ∙ none (is_named_in n xs) ∙ sym no
+    go false e false differs h = h
+
+module _ (nodes : List Node) (acyclic : HasNoCycle nodes) (sources : List Name) (are : AreSources nodes sources) where
+  abbrev whole : Name → Bool
+  whole n = not (is_some (lacks nodes n))
+
+  source_any : (n : Name) → list_any (bytes_eq n) sources ≡ is_source_node (find_node nodes n)
+  source_any n = sym (some_position (bytes_eq n) sources) ∙ are n
+
+  -- a name has a place among the sources and the whole statements before exactly where it lacks none
+  pub place_there : (before : List Node) (m : Name) → ((node : Node) (ns : List Name) → find_node nodes m ≡ Some node → node.needs ≡ Some ns → is_named_in m before ≡ true)
+      → is_some (place_for sources (whole_names nodes before) m) ≡ whole m
+  place_there before m earlier =
+      place_is sources (whole_names nodes before) m
+      ∙ ap (λ b. b || list_any (bytes_eq m) (whole_names nodes before)) (source_any m)
+      ∙ ap (λ b. is_source_node (find_node nodes m) || b) (kept_named whole m before)
+      ∙ go (find_node nodes m) refl
+    where
+      no_needs : (node : Node) → find_node nodes m ≡ Some node → node.needs ≡ None → whole m ≡ true
+      no_needs node e is =
+          let needs : needs_in nodes m ≡ [] = rw e (rw is refl) in
+          let there : (if is_some (find_node nodes m) then first_some (map (lacks nodes) (needs_in nodes m)) else Some m) ≡ None = ap (λ ms. if is_some (find_node nodes m) then first_some (map (lacks nodes) ms) else Some m) needs ∙ ap (λ o. if is_some o then None else Some m) e in
+          ap (λ o. not (is_some o)) (lacks_unfolds nodes acyclic m ∙ there)
+
+      none : (b : Bool) → (b && false) ≡ false
+      none true = refl
+      none false = refl
+
+      by_needs : (node : Node) → find_node nodes m ≡ Some node → (o : Option (List Name)) → node.needs ≡ o → (not (is_some o) || (is_named_in m before && whole m)) ≡ whole m
+      by_needs node e None is = sym (no_needs node e is)
+      by_needs node e (Some ns) is = ap (λ b. b && whole m) (earlier node ns e is)
+
+      go : (o : Option Node) → find_node nodes m ≡ o → (is_source_node o || (is_named_in m before && whole m)) ≡ whole m
+      go None e =
+          let gone : (if is_some (find_node nodes m) then first_some (map (lacks nodes) (needs_in nodes m)) else Some m) ≡ Some m = ap (λ o. if is_some o then first_some (map (lacks nodes) (needs_in nodes m)) else Some m) e in
+          let lack : whole m ≡ false = ap (λ o. not (is_some o)) (lacks_unfolds nodes acyclic m ∙ gone) in
+          ap (λ b. is_named_in m before && b) lack ∙ none (is_named_in m before) ∙ sym lack
+      go (Some node) e = by_needs node e node.needs refl
+
+-- ---- all terms
+
+all_cons : (o : Option Ref) (os : List (Option Ref)) → is_some (all_some (o ∷ os)) ≡ (is_some o && is_some (all_some os))
+all_cons None os = refl
+all_cons (Some r) os = some_map (λ rest. r ∷ rest) (all_some os)
+
+first_cons : (o : Option Name) (os : List (Option Name)) → not (is_some (first_some (o ∷ os))) ≡ (not (is_some o) && not (is_some (first_some os)))
+first_cons None os = refl
+first_cons (Some n) os = refl
+
+pub terms_there : (sources names : List Name) (lack_of : Name → Option Name) (us : List Term) → ((m : Name) → is_among m (flat_map term_names us) ≡ true → is_some (place_for sources names m) ≡ not (is_some (lack_of m)))
+    → is_some (all_some (map (ref_for sources names) us)) ≡ not (is_some (first_some (map lack_of (flat_map term_names us))))
+terms_there sources names lack_of [] same = refl
+terms_there sources names lack_of (layer_term n ∷ us) same =
+    let first = same n (or_left (bytes_eq n n) (is_among n (flat_map term_names us)) (bytes_eq-self n)) in
+    let rest = terms_there sources names lack_of us (λ m a. same m (or_right (bytes_eq n m) (is_among m (flat_map term_names us)) a)) in
+    all_cons (place_for sources names n) (map (ref_for sources names) us)
+    ∙ ap (λ b. b && is_some (all_some (map (ref_for sources names) us))) first
+    ∙ ap (λ b. not (is_some (lack_of n)) && b) rest
+    ∙ sym (first_cons (lack_of n) (map lack_of (flat_map term_names us)))
+terms_there sources names lack_of (number_term z ∷ us) same = all_cons (Some (Number (Some z))) (map (ref_for sources names) us) ∙ terms_there sources names lack_of us same
+
+-- ---- depth
+
+module _ (nodes : List Node) (acyclic : HasNoCycle nodes) (sources names : List Name) (are : AreSources nodes sources) (steps : List (Step Given)) (count : length steps ≡ length names)
+    (deep : (j : ℕ) (m : Name) (y : Step Given) → slice_get names j ≡ Some m → slice_get steps j ≡ Some y → y.depth ≡ depth_in nodes m) where
+  source_depth : (m : Name) (i : ℕ) → slice_get sources i ≡ Some m → 0 ≡ depth_in nodes m
+  source_depth m i at = go (find_node nodes m) refl (sym (some_position (bytes_eq m) sources ∙ any_at_place m sources i at) ∙ are m)
+    where
+      by_needs : (node : Node) → find_node nodes m ≡ Some node → (o : Option (List Name)) → node.needs ≡ o → true ≡ not (is_some o) → 0 ≡ depth_in nodes m
+      by_needs node e None is h = sym (depth_unfolds nodes acyclic m ∙ ap (depth_by (depth_in nodes)) e ∙ ap (λ o. depth_by (depth_in nodes) (Some (record { name = node.name; needs = o }))) is)
+      by_needs node e (Some ns) is h = absurd (true≢false h)
+
+      go : (o : Option Node) → find_node nodes m ≡ o → true ≡ is_source_node o → 0 ≡ depth_in nodes m
+      go None e h = absurd (true≢false h)
+      go (Some node) e h = by_needs node e node.needs refl h
+
+  any_step : (xs : List (Step Given)) → {j : ℕ} → j < length xs → Step Given
+  any_step [] h = absurd (omega arith)
+  any_step (x ∷ xs) h = x
+
+  step_depth : (m : Name) (j : ℕ) → slice_get names j ≡ Some m → ref_depth steps (Statement j) ≡ depth_in nodes m
+  step_depth m j at = go (slice_get steps j) refl
+    where
+      within : j < length steps
+      within = let h = slice_get_within names j m at in omega (arith, count)
+
+      go : (o : Option (Step Given)) → slice_get steps j ≡ o → ref_depth steps (Statement j) ≡ depth_in nodes m
+      go None e = absurd (none-some (get_or steps j (any_step steps within)) (sym e ∙ slice_get-get_or steps j (any_step steps within) within))
+      go (Some y) e = rw e (deep j m y at e)
+
+  pub depths_agree : (k d : ℕ) (us : List Term) (rs : List Ref) → AreRefsFor sources names k us rs → fold (λ d r. max d (ref_depth steps r)) d rs ≡ fold (λ d m. max d (depth_in nodes m)) d (flat_map term_names us)
+  depths_agree k d [] [] refs = refl
+  depths_agree k d [] (r ∷ rs) refs = absurd refs
+  depths_agree k d (u ∷ us) [] refs = absurd refs
+  depths_agree k d (layer_term m ∷ us) (Source i ∷ rs) refs =
+      ap (λ q. fold (λ d r. max d (ref_depth steps r)) (max d q) rs) (source_depth m i refs.0) ∙ depths_agree k (max d (depth_in nodes m)) us rs refs.1
+  depths_agree k d (layer_term m ∷ us) (Statement j ∷ rs) refs =
+      ap (λ q. fold (λ d r. max d (ref_depth steps r)) (max d q) rs) (step_depth m j refs.0.0) ∙ depths_agree k (max d (depth_in nodes m)) us rs refs.1
+  depths_agree k d (number_term z ∷ us) (Number c ∷ rs) refs =
+      let same : max d 0 ≡ d = omega arith in
+      ap (λ q. fold (λ d r. max d (ref_depth steps r)) q rs) same ∙ depths_agree k d us rs refs.1
+  depths_agree k d (layer_term m ∷ us) (Number c ∷ rs) refs = absurd refs.0
+  depths_agree k d (number_term z ∷ us) (Source i ∷ rs) refs = absurd refs.0
+  depths_agree k d (number_term z ∷ us) (Statement j ∷ rs) refs = absurd refs.0
+
+-- ---- term by term
+
+-- where one is none, not all are there
+pub none_of_all : (f : Term → Option Ref) (us : List Term) (k : ℕ) (u : Term) → slice_get us k ≡ Some u → f u ≡ None → all_some (map f us) ≡ None
+none_of_all f [] k u at none = absurd (none-some u at)
+none_of_all f (v ∷ us) zero u at none = ap (λ o. all_some (o ∷ map f us)) (ap f (same_Some v u at) ∙ none)
+none_of_all f (v ∷ us) (suc k) u at none = go (f v) (none_of_all f us k u at none)
+  where
+    go : (o : Option Ref) → all_some (map f us) ≡ None → all_some (o ∷ map f us) ≡ None
+    go None rest = refl
+    go (Some r) rest = ap (option_map (λ rs. r ∷ rs)) rest
+
+-- one more
+all_push : (os : List (Option Ref)) (rs : List Ref) (r : Ref) → all_some os ≡ Some rs → all_some (os ++ Some r ∷ []) ≡ Some (rs ++ r ∷ [])
+all_push [] rs r e = ap (λ qs. Some (qs ++ r ∷ [])) (same_Some [] rs e)
+all_push (None ∷ os) rs r e = absurd (none-some rs e)
+all_push (Some q ∷ os) rs r e = go (all_some os) refl e (all_push os)
+  where
+    go : (o : Option (List Ref)) → all_some os ≡ o → option_map (λ qs. q ∷ qs) o ≡ Some rs → ((more : List Ref) (r : Ref) → all_some os ≡ Some more → all_some (os ++ Some r ∷ []) ≡ Some (more ++ r ∷ []))
+        → option_map (λ qs. q ∷ qs) (all_some (os ++ Some r ∷ [])) ≡ Some (rs ++ r ∷ [])
+    go None is f rest = absurd (none-some rs f)
+    go (Some more) is f rest = ap (option_map (λ qs. q ∷ qs)) (rest more r is) ∙ ap (λ qs. Some (qs ++ r ∷ [])) (same_Some (q ∷ more) rs f)
+
+pub refs_next : (f : Term → Option Ref) (us : List Term) (k : ℕ) (rs new : List Ref) (u : Term) (r : Ref) → all_some (map f (take k us)) ≡ Some rs → slice_get us k ≡ Some u → f u ≡ Some r → new ≡ rs ++ r ∷ [] → all_some (map f (take (k + 1) us)) ≡ Some new
+refs_next f us k rs new u r so_far at is pushed =
+    ap (λ vs. all_some (map f vs)) (taken_to us k u at) ∙ ap all_some (map-append f (take k us) (u ∷ []) ∙ ap (λ o. map f (take k us) ++ o ∷ []) is)
+    ∙ all_push (map f (take k us)) rs r so_far ∙ ap (λ qs. Some qs) (sym pushed)
+
+pub none_where : (o : Option Ref) → ((r : Ref) → o ≡ Some r → ⊥) → o ≡ None
+none_where None never = refl
+none_where (Some r) never = absurd (never r refl)

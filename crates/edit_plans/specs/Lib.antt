@@ -1,0 +1,13 @@
+pub mod PlansFor
+pub mod Telling
+pub mod PlanLaws
+pub mod Touching
+pub mod Orderly
+pub mod SourceCounts
+pub mod CountLaws
+pub mod TouchLaws
+pub mod StampLaws
+pub mod KeptLaws
+pub mod ReadLaws
+pub mod Planned
+pub mod PlannedLaws

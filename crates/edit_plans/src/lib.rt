@@ -1,0 +1,10 @@
+//! The plan that an edit makes, and the laws that what is made of the plan is what the map machine says.
+#![tactic(auto)]
+
+mod laws;
+mod planning;
+
+pub use laws::{
+    count_law, fault_law, kept_law, planned_law, read_law, stamp_law, touch_law, value_law,
+};
+pub use planning::{Flat, Planned, SourceNames};

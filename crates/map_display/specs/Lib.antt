@@ -1,0 +1,2 @@
+pub mod OfLayer
+pub mod Lines

@@ -1,0 +1,10 @@
+use Rattle.std.proofs.Common.{◌≡◌, ℕ, ◌≤◌, length, map, take}
+use Rattle.map_waves.specs.Plans.{operand_in, changes_to}
+use Rattle.map_waves.specs.Bases.{plan_of}
+use Rattle.map_waves.proofs.operands.operands_of.Given as goal
+
+abbrev pub invariant-loop-place : goal.invariant-loop-place
+invariant-loop-place g l = record {
+  count : length l.operands ≡ l.place-index;
+  operands : (k : ℕ) → length l.prepared ≤ k → l.operands ≡ map (operand_in (plan_of g.K.Maker.means l.base l.steps) (changes_to (plan_of g.K.Maker.means l.base l.steps) k)) (take l.place-index l.step.refs.items);
+}

@@ -1,0 +1,36 @@
+use Rattle.std.proofs.Common.{◌≡◌, ◌+◌, ◌<◌, ◌≤◌, ℕ, List, Result, take, ◌⊎◌, inl, inr, refl, ap, subst, ◌∙◌, arith}
+use Rattle.std.specs.Prelude.{slice_range}
+use Rattle.std.proofs.lemmas.Bool.{cases_lt}
+use Rattle.std.proofs.lemmas.Option.{slice_get_read}
+use Rattle.layer_tiles.specs.declared.kernels.KernelRefusal.{KernelRefusal}
+use Rattle.map_waves.specs.Jobs.{JobsState}
+use Rattle.map_waves.specs.Answers.{AllOk}
+use Rattle.map_waves.specs.Seating.{all_jobs, row_of}
+use Rattle.map_waves.specs.Refusals.{AllOkTo, IsRefusalOf}
+use Rattle.map_waves.proofs.Seats.{jobs_more}
+use Rattle.map_waves.proofs.refusals.first_refusal.Goals as goal
+
+ok_next : {O B W R : Type 0} (js : List (JobsState O B W)) (rs : List (Result R KernelRefusal)) (i : ℕ) → AllOkTo js rs i → AllOk (row_of js rs i) → AllOkTo js rs (i + 1)
+ok_next js rs i so_far here j h = go (cases_lt j i)
+  where
+    go : (j < i) ⊎ (i ≤ j) → AllOk (row_of js rs j)
+    go (inl less) = so_far j less
+    go (inr at) = let same : i ≡ j = omega arith in subst (λ k. AllOk (row_of js rs k)) same here
+
+pub loop-place-preserved : goal.loop-place-preserved
+loop-place-preserved g c =
+    let js = c.args.jobs.now in
+    let rs = c.args.answers.now in
+    let place = c.loop-place.place in
+    let more = jobs_more js place c.index-jobs-place.result (slice_get_read js _ place c.index-jobs-place.result refl c.loop-place-test.true c.index-jobs-place.is) in
+    let start = c.loop-place.invariant.start in
+    let here : AllOk (slice_range rs c.loop-place.start (c.loop-place.start + c.count_of-count.result)) = subst (IsRefusalOf (slice_range rs c.loop-place.start (c.loop-place.start + c.count_of-count.result))) c.in_default.is c.refusal_of.ensures in
+    let end : c.loop-place.start + c.count_of-count.result ≡ all_jobs (take (place + 1) js) = let count = c.count_of-count.ensures in omega (arith, more, start, count) in
+    let row : slice_range rs c.loop-place.start (c.loop-place.start + c.count_of-count.result) ≡ row_of js rs place = ap (λ a. slice_range rs a (c.loop-place.start + c.count_of-count.result)) start ∙ ap (slice_range rs (all_jobs (take place js))) end in
+    record {
+      start = end;
+      ok = ok_next js rs place c.loop-place.invariant.ok (subst AllOk row here);
+    }
+
+pub returns : goal.returns
+returns g c j h = c.loop-place.invariant.ok j (omega arith)

@@ -1,0 +1,124 @@
+//! The jobs of one statement.
+ghost use Rattle.std.specs.Prelude.{◌≡◌};
+
+use crate::halts::Halt;
+use crate::keeping::{Kept, Made};
+use layer_tiles::{Extent, KernelRefusal, Operands, Tally};
+use map_nums::NoMemory;
+use std::alloc::Global;
+use std::marker::Model;
+
+/// The jobs of a statement, by their numbers from 0, over its operands and what is kept of it. `own` is what they share.
+#[derive(Drop)]
+pub struct Jobs<'o, 'a, O, B, W> {
+    pub extent: Extent,
+    pub op: &'o O,
+    pub operands: &'o Operands<'a>,
+    pub kept: Option<&'a Kept<B>>,
+    pub count: u64,
+    pub own: W,
+}
+
+impl<'o, 'a, O, B, W> Model for Jobs<'o, 'a, O, B, W> {
+    ghost use Rattle.map_waves.specs.Jobs.{JobsState};
+    ghost use Rattle.map_waves.specs.Keeping.{kept_now};
+
+    ghost Value = { JobsState O B W };
+
+    ghost view = { λ j. record { size = j.extent; op = j.op.now; operands = j.operands.now; kept = kept_now j.kept; count = j.count; own = j.own } };
+}
+
+/// Makes a statement's jobs, does single ones, and gathers their pieces.
+pub trait Maker {
+    ghost use Rattle.std.specs.Prelude.{ℕ, ◌≡◌, ◌*◌, ◌<◌, List, length, Ok, Some, Option, Result, IfOk, IfErr, slice_get};
+    ghost use Rattle.std.specs.List.{All};
+    ghost use Rattle.map_nums.specs.Grids.{Size, Cells};
+    ghost use Rattle.map_defs.specs.Ops.{Op, terms_of};
+    ghost use Rattle.layer_tiles.specs.Tallies.{RisesBy};
+    ghost use Rattle.layer_tiles.specs.Operands.{cells_after};
+    ghost use Rattle.layer_tiles.specs.declared.kernels.KernelRefusal.{KernelRefusal};
+    ghost use Rattle.map_waves.specs.Statements.{damage_by, work_by};
+    ghost use Rattle.map_waves.specs.Operands.{IsOperand};
+    ghost use Rattle.map_waves.specs.Keeping.{kept_now, was_of, IsRightKept};
+    ghost use Rattle.map_waves.specs.Jobs.{JobsState, AreOver, was_in};
+    ghost use Rattle.map_waves.specs.Answers.{AreJobs, IsHalt};
+    ghost use Rattle.map_waves.specs.Gathered.{IsRepaired};
+
+    /// An operation as it is written.
+    type Op: Sync;
+
+    /// What is kept beside a layer.
+    type Beside: Drop + Sync;
+
+    /// What the jobs of one statement share.
+    type Own: Drop + Sync;
+
+    /// What a job makes.
+    type Piece: Drop + Send;
+
+    /// The operation that is meant.
+    ghost means: { Self.Op → Op };
+
+    /// It is well formed.
+    ghost formed: { Self.Op → Type 0 };
+
+    /// What is kept beside the layer of an operation is right for operands with these cells.
+    ghost suits: { Size → Op → List Cells → Self.Beside → Type 0 };
+
+    /// What the jobs rest on.
+    ghost sound: { JobsState Self.Op Self.Beside Self.Own → Type 0 };
+
+    /// The looks that finding the damage takes at most.
+    ghost first: { JobsState Self.Op Self.Beside Self.Own → ℕ };
+
+    /// The looks that a job takes at most.
+    ghost looks: { JobsState Self.Op Self.Beside Self.Own → ℕ → ℕ };
+
+    /// The picks that a job takes at most.
+    ghost picks: { JobsState Self.Op Self.Beside Self.Own → ℕ → ℕ };
+
+    /// What a job may answer.
+    ghost pieces: { JobsState Self.Op Self.Beside Self.Own → ℕ → Result Self.Piece KernelRefusal → Type 0 };
+
+    /// The jobs of a statement: those of its whole damage, from what is kept, or of all tiles where nothing is.
+    fn jobs_of<'o, 'a, M: Tally>(
+        alloc: Global,
+        op: &'o Self::Op,
+        operands: &'o Operands<'a>,
+        kept: Option<&'a Kept<Self::Beside>>,
+        extent: Extent,
+        tally: &mut M,
+    ) -> Result<Jobs<'o, 'a, Self::Op, Self::Beside, Self::Own>, Halt>
+        requires formed { formed op.now }
+        requires operands { All (IsOperand extent) operands.now }
+        requires terms { length operands.now ≡ length (terms_of (means op.now)) }
+        requires right { IsRightKept suits extent (means op.now) operands.now (kept_now kept) }
+        ensures over { IfOk result (λ j. AreOver j extent op.entry.now operands.entry.now (kept_now kept.entry)) }
+        ensures jobs { IfOk result (λ j. AreJobs means sound first looks picks pieces j) }
+        ensures halt { IfErr result (IsHalt extent (means op.entry.now) (cells_after operands.entry.now)) }
+        ensures tally { RisesBy (60 * length (damage_by extent (means op.entry.now) (was_of (kept_now kept.entry)) operands.entry.now)) (1000 * work_by extent (means op.entry.now) (was_of (kept_now kept.entry)) operands.entry.now) (M.counts tally.old) (M.counts tally.new) }
+        ensures found { IfOk result (λ j. RisesBy (first j) 0 (M.counts tally.old) (M.counts tally.new)) };
+
+    /// Does one job.
+    fn do_job<M: Tally>(
+        alloc: Global,
+        jobs: &Jobs<'_, '_, Self::Op, Self::Beside, Self::Own>,
+        job: u64,
+        tally: &mut M,
+    ) -> Result<Self::Piece, KernelRefusal>
+        requires jobs { AreJobs means sound first looks picks pieces jobs.now }
+        requires below { job < jobs.now.count }
+        ensures piece { pieces jobs.now job result }
+        ensures tally { RisesBy (looks jobs.now job) (picks jobs.now job) (M.counts tally.old) (M.counts tally.new) };
+
+    /// The repaired layer, of which all pieces are there in the order of their jobs.
+    fn gather(
+        alloc: Global,
+        jobs: Jobs<'_, '_, Self::Op, Self::Beside, Self::Own>,
+        pieces_made: Vec<Self::Piece>,
+    ) -> Result<Made<Self::Beside>, NoMemory>
+        requires jobs { AreJobs means sound first looks picks pieces jobs }
+        requires count { length pieces_made.items ≡ jobs.count }
+        requires each { (k : ℕ) (p : Self.Piece) → slice_get pieces_made.items k ≡ Some p → pieces jobs k (Ok p) }
+        ensures { IfOk result (IsRepaired suits jobs.entry.size (means jobs.entry.op) jobs.entry.operands (was_in jobs.entry)) };
+}

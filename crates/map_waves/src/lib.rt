@@ -1,0 +1,35 @@
+//! Statements repaired after an edit, depth by depth.
+//!
+//! A [`Maker`] tells how one statement is cut into jobs. [`repair_all`] repairs all [`Step`]s over a [`Base`], which is what was
+//! kept before the edit: those of one depth are at work together, and their jobs are one run of tickets for the workers. It gives
+//! a [`Made`] for each statement that doesn't stay as it was. [`count_all`] counts what was done, and [`place_all`] puts it in place.
+#![tactic(auto)]
+
+mod alone;
+mod begin;
+mod counting;
+mod finish;
+mod gather;
+mod halts;
+mod jobs;
+mod keeping;
+mod laws;
+mod operands;
+mod phases;
+mod placing;
+mod plans;
+mod refusals;
+mod skips;
+mod stops;
+mod tasks;
+mod tickets;
+
+pub use alone::{Unmade, repair_alone};
+pub use counting::{Counts, count_all};
+pub use halts::{Halt, Stop};
+pub use jobs::{Jobs, Maker};
+pub use keeping::{Kept, Made};
+pub use laws::{kept_law, placed_law, values_law};
+pub use phases::repair_all;
+pub use placing::{place, place_all};
+pub use plans::{Base, Ref, Shift, Step};

@@ -1,0 +1,95 @@
+//! What was made of statements is put in place, without memory.
+ghost use Rattle.std.specs.Prelude.{◌≡◌, ◌≢◌, ◌<◌, ◌≤◌, ◌++◌, ◌∷◌, [], ℕ, length, Some, None, IfSome, slice_get, slice_index_or, vec_len, vec_capacity};
+ghost use Rattle.map_waves.specs.Prepared.{IsReady};
+ghost use Rattle.map_waves.specs.Placing.{IsPlaced, slot_of, HaveOwnSlots, AreReady, ArePlaced};
+
+use crate::keeping::{Kept, Made};
+use crate::plans::Step;
+use layer_tiles::{Extent, Layer};
+
+/// Puts what was made in place of what was kept.
+fn put<B: Drop>(kept: &mut Kept<B>, made: Option<Made<B>>, extent: Extent, stamp: u64)
+    requires { IsReady extent (Some kept.old) made }
+    ensures { IsPlaced extent (Some kept.old) made stamp kept.new }
+{
+    let _extent = kept.layer.extent();
+    if let Some(Made { patch, beside, .. }) = made {
+        kept.layer.commit(patch, stamp);
+        kept.beside = beside;
+    }
+}
+
+/// What is kept of a statement after the edit. It takes no memory.
+pub fn place<B: Drop>(
+    kept: Option<Kept<B>>,
+    made: Option<Made<B>>,
+    extent: Extent,
+    stamp: u64,
+) -> Kept<B>
+    requires { IsReady extent kept made }
+    ensures { IsPlaced extent kept made stamp result }
+{
+    match kept {
+        Some(mut kept) => {
+            put(&mut kept, made, extent, stamp);
+            kept
+        }
+        None => match made {
+            Some(Made { patch, beside, .. }) => Kept {
+                layer: Layer::fresh(patch, stamp),
+                beside,
+            },
+            None => unreachable!(),
+        },
+    }
+}
+
+/// Puts what was made of all statements in place, in the room of `next`. What was kept of each is taken out of its slot. It
+/// takes no memory.
+pub fn place_all<O, B: Drop>(
+    slots: &mut [Option<Kept<B>>],
+    steps: &[Step<O>],
+    prepared: &mut [Option<Made<B>>],
+    next: &mut Vec<Kept<B>>,
+    extent: Extent,
+    stamp: u64,
+)
+    requires own { HaveOwnSlots steps.now }
+    requires slots { (k i : ℕ) (x : Step O) → slice_get steps.now k ≡ Some x → x.kept ≡ Some i → i < length slots.old }
+    requires all { length prepared.old ≡ length steps.now }
+    requires ready { AreReady extent slots.old steps.now prepared.old }
+    requires none { next.old.items ≡ [] }
+    requires room { length steps.now ≤ vec_capacity next.old }
+    ensures count { length next.new.items ≡ length steps.now }
+    ensures placed { ArePlaced extent stamp slots.old steps.now prepared.old next.new.items }
+{
+    for k in 0..steps.len() {
+        let kept = taken(slots, steps[k].kept);
+        let now = place(kept, prepared[k].take(), extent, stamp);
+        put_next(next, now);
+    }
+}
+
+/// Takes what is kept out of a slot.
+fn taken<B: Drop>(slots: &mut [Option<Kept<B>>], kept: Option<usize>) -> Option<Kept<B>>
+    requires { IfSome kept (λ i. i < length slots.old) }
+    ensures kept { result ≡ slot_of slots.old kept }
+    ensures left { (i : ℕ) → kept ≢ Some i → slice_index_or slots.new i None ≡ slice_index_or slots.old i None }
+{
+    match kept {
+        None => None,
+        Some(place) => slots[place].take(),
+    }
+}
+
+/// Adds one to those that have room for it.
+fn put_next<B: Drop>(next: &mut Vec<Kept<B>>, now: Kept<B>)
+    requires { vec_len next.old < vec_capacity next.old }
+    ensures items { next.new.items ≡ next.old.items ++ now ∷ [] }
+    ensures room { vec_capacity next.old ≤ vec_capacity next.new }
+{
+    match next.push(now) {
+        Ok(()) => {}
+        Err(_) => {}
+    }
+}

@@ -1,0 +1,112 @@
+//! The jobs of several statements as one run of tickets.
+ghost use Rattle.std.specs.Prelude.{◌≡◌, ◌^◌, ◌<◌, ◌≤◌, false, IfOk};
+ghost use Rattle.std.specs.List.{All};
+ghost use Rattle.layer_tiles.specs.Tallies.{RisesBy};
+ghost use Rattle.map_waves.specs.Answers.{AreJobs};
+ghost use Rattle.map_waves.specs.Seating.{all_jobs, all_rises, AreStarts, AreAnswered};
+
+use crate::jobs::{Jobs, Maker};
+use layer_tiles::{KernelRefusal, Tally};
+use map_nums::NoMemory;
+use std::alloc::Global;
+use std::thread::Threads;
+use tile_workers::{Gate, Seat, Work, run_phase};
+
+/// The jobs of several statements, one after another, and the first ticket of each statement.
+#[derive(Drop)]
+pub(crate) struct Phase<'p, 'o, 'a, K: Maker> {
+    pub(crate) alloc: Global,
+    pub(crate) jobs: &'p [Jobs<'o, 'a, K::Op, K::Beside, K::Own>],
+    pub(crate) starts: &'p [u64],
+    pub(crate) ghost are_jobs: { All (AreJobs K.means K.sound K.first K.looks K.picks K.pieces) jobs.now },
+    pub(crate) ghost are_starts: { AreStarts jobs.now starts.now },
+}
+
+impl<'p, 'o, 'a, K: Maker> Work for Phase<'p, 'o, 'a, K> {
+    ghost use Rattle.std.specs.Prelude.{IfSome};
+    ghost use Rattle.map_waves.specs.Seating.{all_jobs, seat_of, rise_of};
+
+    type Done = Result<K::Piece, KernelRefusal>;
+
+    ghost jobs = { λ w. all_jobs w.jobs.now };
+
+    ghost looks = { λ w t. rise_of K.looks (seat_of w.jobs.now t) };
+
+    ghost picks = { λ w t. rise_of K.picks (seat_of w.jobs.now t) };
+
+    ghost answers = { λ w t d. IfSome (seat_of w.jobs.now t) (λ q. K.pieces q.0 q.1 d) };
+
+    fn job<M: Tally + Send>(
+        &self,
+        _seat: &Seat,
+        ticket: u64,
+        tally: &mut M,
+    ) -> Result<K::Piece, KernelRefusal> {
+        let past = self.starts.partition_point(|start| *start <= ticket);
+        let place = past - 1;
+        K::do_job(
+            self.alloc,
+            &self.jobs[place],
+            ticket - self.starts[place],
+            tally,
+        )
+    }
+}
+
+/// How many jobs a statement has.
+pub(crate) fn count_of<O, B, W>(jobs: &Jobs<'_, '_, O, B, W>) -> u64
+    ensures { result ≡ jobs.now.count }
+{
+    jobs.count
+}
+
+/// The first ticket of each statement, and how many tickets there are. 2^32 and more of them would want more memory than there is.
+fn starts_of<O, B, W>(
+    alloc: Global,
+    jobs: &[Jobs<'_, '_, O, B, W>],
+) -> Result<(Vec<u64>, u64), NoMemory>
+    ensures starts { IfOk result (λ q. AreStarts jobs.now q.0.items) }
+    ensures count { IfOk result (λ q. q.1 ≡ all_jobs jobs.now) }
+    ensures few { IfOk result (λ q. q.1 < 2 ^ 32) }
+{
+    let mut starts = Vec::new(alloc);
+    let mut count = 0u64;
+    for own in jobs {
+        starts.push(count)?;
+        let more = count_of(own);
+        if more >= 4_294_967_296 - count {
+            return Err(NoMemory);
+        }
+        count += more;
+    }
+    Ok((starts, count))
+}
+
+/// Does the jobs of all statements by so many workers, of which there are no more than jobs.
+pub(crate) fn do_jobs<K: Maker + Sync, M: Tally + Send, G: Gate + Sync, R: Threads + Sync>(
+    rt: &R,
+    alloc: Global,
+    workers: u32,
+    gate: &G,
+    jobs: &[Jobs<'_, '_, K::Op, K::Beside, K::Own>],
+    tally: &mut M,
+) -> Result<Vec<Result<K::Piece, KernelRefusal>>, NoMemory>
+    requires workers { (0 < workers) × (workers ≤ 64) }
+    requires whole { 1 < workers → ((M.counts tally.old).is_part ≡ false) × ((M.counts tally.old).parts_out ≡ 0) }
+    requires jobs { All (AreJobs K.means K.sound K.first K.looks K.picks K.pieces) jobs.now }
+    ensures answers { IfOk result (λ answers. AreAnswered K.pieces jobs.now answers.items) }
+    ensures tally { RisesBy (all_rises K.looks jobs.now) (all_rises K.picks jobs.now) (M.counts tally.old) (M.counts tally.new) }
+{
+    let found = starts_of(alloc, jobs)?;
+    let (starts, count) = found;
+    if count == 0 {
+        return Ok(Vec::new(alloc));
+    }
+    let hands = u64::from(workers).min(count) as u32;
+    let work: Phase<'_, '_, '_, K> = Phase {
+        alloc,
+        jobs,
+        starts: &starts,
+    };
+    run_phase(rt, alloc, count, hands, gate, tally, &work)
+}

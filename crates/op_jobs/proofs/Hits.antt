@@ -1,0 +1,115 @@
+-- The damage of a statement as the tiles that pass a test, and what changed in it.
+use Rattle.std.proofs.Common.{◌≡◌, ℕ, ◌+◌, ◌*◌, ◌/◌, ◌<◌, ◌≤◌, Bool, true, List, length, Option, Some, None, refl, sym, ◌∙◌, ap, subst, arith, IsFalse}
+use Rattle.std.specs.Prelude.{not}
+use Rattle.std.specs.List.{All, filter}
+use Rattle.std.specs.Option.{IsSome}
+use Rattle.std.proofs.lemmas.List.{length-map}
+use Rattle.std.proofs.lemmas.List.Elements.{All-filter}
+use Rattle.std.proofs.lemmas.List.Filters.{length-filter_both}
+use Rattle.std.proofs.lemmas.List.FromFn.{length-range_with_len}
+use Rattle.std.proofs.lemmas.Nat.{mul-le}
+use Rattle.map_nums.specs.Grids.{Size, IsSize, Cells, cells_in, cell_at}
+use Rattle.map_nums.specs.Answers.{is_wide}
+use Rattle.map_nums.specs.Tiles.{tiles, tiles_in, tiles_across, tiles_down}
+use Rattle.map_defs.specs.Ops.{Op, terms_of}
+use Rattle.map_defs.specs.Damage.{is_damaged, op_damage, changed_tiles, has_work}
+use Rattle.map_defs.specs.Work.{op_work}
+use Rattle.layer_tiles.specs.Changes.{ChangeState, cells_before}
+use Rattle.layer_tiles.specs.Operands.{cells_after}
+use Rattle.map_waves.specs.Statements.{cells_were, made, damage_by, work_by, fault_in}
+use Rattle.map_waves.specs.Operands.{IsOperand}
+use Rattle.map_waves.specs.Keeping.{was_of, IsRightKept}
+use Rattle.map_waves.specs.declared.keeping.Kept.{Kept}
+use Rattle.op_jobs.specs.Beside.{suits}
+use Rattle.op_jobs.specs.Changed.{is_changed}
+use Rattle.op_jobs.specs.Owning.{reached_looks}
+use Rattle.op_jobs.specs.declared.beside.Beside.{Beside}
+use Rattle.op_jobs.proofs.Grids.{made_count}
+use Rattle.op_jobs.proofs.Listing.{filter_all, filter_within, range_all}
+use Rattle.op_jobs.proofs.Patching.{changed_are}
+use Rattle.op_jobs.proofs.Ranging.{narrow_of}
+use Rattle.op_jobs.proofs.Reached.{felt_there}
+use Rattle.op_jobs.proofs.Touched.{touched_few}
+
+-- tile t is of the damage
+abbrev pub is_hit : Size → Op → Option Cells → List ChangeState → ℕ → Bool
+is_hit s op None operands t = true
+is_hit s op (Some was) operands t = is_damaged op s (cells_were operands) (cells_after operands) was (made s op (cells_after operands)) t
+
+pub damage_is : (s : Size) (op : Op) (was : Option Cells) (operands : List ChangeState) → damage_by s op was operands ≡ filter (is_hit s op was operands) (tiles s)
+unfolding op_damage
+damage_is s op None operands = sym (filter_all (λ t. true) (tiles s) (range_all (λ t. true ≡ true) (tiles_in s) (λ t l. refl)))
+damage_is s op (Some was) operands = refl
+
+-- ---- how many tiles
+
+pub tiles_few : (s : Size) → IsSize s → tiles_in s ≤ 16384
+unfolding tiles_in tiles_down tiles_across
+tiles_few s h = omega (arith, mul-le ((s.rows + 31) / 32) ((s.columns + 31) / 32) 128 128 (omega (arith, h.most_rows)) (omega (arith, h.most_columns)))
+
+pub damage_most : (s : Size) (op : Op) (was : Option Cells) (operands : List ChangeState) → length (damage_by s op was operands) ≤ tiles_in s
+damage_most s op was operands =
+    let p : ℕ → Bool = is_hit s op was operands in
+    omega (arith, ap length (damage_is s op was operands), length-filter_both p (λ t. not (p t)) (λ t. refl) (tiles s), length-range_with_len 0 (tiles_in s))
+
+pub damage_within : (s : Size) (op : Op) (was : Option Cells) (operands : List ChangeState) → All (λ t. t < tiles_in s) (damage_by s op was operands)
+damage_within s op was operands =
+    subst (All (λ t. t < tiles_in s)) (sym (damage_is s op was operands))
+    (All-filter (is_hit s op was operands) (λ t. t < tiles_in s) (tiles s) (range_all (λ t. t < tiles_in s) (tiles_in s) (λ t l. l)))
+
+-- the looks that finding it takes
+pub reached_fit : (s : Size) (op : Op) (was : Option Cells) (operands : List ChangeState) → All (IsOperand s) operands → ((w : Cells) → was ≡ Some w → All (λ c. IsSome c.before) operands) → length operands ≤ 8 → reached_looks was operands ≤ 16 * length (damage_by s op was operands)
+reached_fit s op None operands are there few = omega arith
+reached_fit s op (Some w) operands are there few =
+    let d = length (damage_by s op (Some w) operands) in
+    omega (arith, touched_few s op operands w are (there w refl), mul-le (length operands) d 8 d few (omega arith))
+
+-- ---- what is kept
+
+abbrev Kepts : Type 0
+Kepts = Option (Kept Beside)
+
+pub record WasRight (s : Size) (op : Op) (operands : List ChangeState) (w : Cells) : Type 0 where
+  pub there : All (λ c. IsSome c.before) operands
+  pub right : w ≡ made s op (cells_were operands)
+  pub faultless : fault_in s op (cells_were operands) ≡ None
+
+pub was_right : (s : Size) (op : Op) (operands : List ChangeState) (kept : Kepts) (w : Cells) → IsRightKept suits s op operands kept → was_of kept ≡ Some w → WasRight s op operands w
+was_right s op operands None w is e = absurd cc
+was_right s op operands (Some k) w is e = let same : w ≡ k.layer.cells = cc in record { there = is.there; right = same ∙ is.right; faultless = is.faultless }
+
+pub found_fit : (s : Size) (op : Op) (operands : List ChangeState) (kept : Kepts) → IsRightKept suits s op operands kept → All (IsOperand s) operands → length operands ≤ 8 → reached_looks (was_of kept) operands ≤ 16 * length (damage_by s op (was_of kept) operands)
+found_fit s op operands kept right are few = reached_fit s op (was_of kept) operands are (λ w e. (was_right s op operands kept w right e).there) few
+
+module _ (s : Size) (op : Op) (operands : List ChangeState) (was : Option Cells) (size : IsSize s) (right : (w : Cells) → was ≡ Some w → WasRight s op operands w) where
+  -- its cells are in range
+  pub was_narrow : (w : Cells) → was ≡ Some w → (i : ℕ) → i < cells_in s → IsFalse (is_wide (cell_at w i))
+  was_narrow w e i l =
+      let r = right w e in
+      let P : Cells → Type 0 = λ cells. IsFalse (is_wide (cell_at cells i)) in
+      subst P (sym r.right) (narrow_of s op (cells_were operands) (made_count s op (cells_were operands)) r.faultless i l)
+
+  -- what changed is damaged
+  pub changed_hit : length operands ≡ length (terms_of op) → (t : ℕ) → t < tiles_in s → is_changed s was (made s op (cells_after operands)) t ≡ true → is_hit s op was operands t ≡ true
+  changed_hit terms t l e = by_was was refl e
+    where
+      by_was : (o : Option Cells) → o ≡ was → is_changed s o (made s op (cells_after operands)) t ≡ true → is_hit s op o operands t ≡ true
+      by_was None f h = refl
+      by_was (Some w) f h =
+          let r = right w (sym f) in
+          let P : Cells → Type 0 = λ cells. is_changed s (Some cells) (made s op (cells_after operands)) t ≡ true → is_hit s op (Some cells) operands t ≡ true in
+          subst P (sym r.right) (felt_there s op (cells_were operands) (cells_after operands) size (length-map operands cells_before ∙ terms) (length-map operands (λ (c : ChangeState). c.cells) ∙ terms) t l) h
+
+  pub changed_within : length operands ≡ length (terms_of op) → changed_tiles s was (made s op (cells_after operands)) ≡ filter (is_changed s was (made s op (cells_after operands))) (damage_by s op was operands)
+  changed_within terms =
+      let now = made s op (cells_after operands) in
+      let P : List ℕ → Type 0 = λ ts. changed_tiles s was now ≡ filter (is_changed s was now) ts in
+      subst P (sym (damage_is s op was operands))
+      (changed_are s was now ∙ sym (filter_within (is_changed s was now) (is_hit s op was operands) (tiles s) (range_all (λ t. is_changed s was now t ≡ true → is_hit s op was operands t ≡ true) (tiles_in s) (changed_hit terms))))
+
+-- ---- work
+
+pub work_none : (s : Size) (op : Op) (was : Option Cells) (operands : List ChangeState) → IsFalse (has_work op) → work_by s op was operands ≡ 0
+unfolding op_work
+work_none s op None operands e = rw (e) refl
+work_none s op (Some w) operands e = rw (e) refl

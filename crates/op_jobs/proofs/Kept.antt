@@ -1,0 +1,166 @@
+-- What is kept of a statement, to the functions of its class.
+use Rattle.std.proofs.Common.{◌≡◌, ℕ, ◌*◌, ◌≤◌, true, List, length, Option, Some, None, Result, Ok, Err, ℤ, refl, sym, ◌∙◌, ap, subst, arith, IsTrue}
+use Rattle.std.specs.Prelude.{is_some, IfSome}
+use Rattle.std.specs.Borrow.{Bor}
+use Rattle.std.specs.Option.{option_copied}
+use Rattle.map_nums.specs.declared.Stat.{Stat}
+use Rattle.map_nums.specs.Grids.{Size, Cells}
+use Rattle.map_defs.specs.Ops.{Op, Term, local_op, difference_op, ratio_op, rating_op, focal_op, zonal_op, form_op, direction_op, flow_op, spread_op, sight_op, region_op}
+use Rattle.map_defs.specs.Damage.{has_work}
+use Rattle.map_defs.specs.Operate.{operand}
+use Rattle.map_defs.specs.Sight.{Sighting}
+use Rattle.layer_tiles.specs.Changes.{ChangeState}
+use Rattle.layer_tiles.specs.Layers.{LayerState}
+use Rattle.layer_tiles.specs.Operands.{cells_after}
+use Rattle.layer_tiles.specs.Tallies.{TallyState, RisesBy}
+use Rattle.layer_tiles.specs.declared.kernels.KernelRefusal.{KernelRefusal}
+use Rattle.layer_tiles.specs.declared.kernels.KernelRefusal.TheVariants.{Overflow, NoMemory}
+use Rattle.layer_tiles.proofs.Rising.{rises_within}
+use Rattle.damage_sets.specs.Sets.{TileSetState}
+use Rattle.tile_work.specs.Working.{before_of}
+use Rattle.zonal_totals.specs.Books.{BookState}
+use Rattle.statement_parser.specs.Views.{op_view}
+use Rattle.map_waves.specs.Statements.{cells_were, damage_by, work_by}
+use Rattle.map_waves.specs.Jobs.{was_in}
+use Rattle.map_waves.specs.Keeping.{was_of, IsRightKept}
+use Rattle.map_waves.specs.Gathered.{IsRepaired}
+use Rattle.map_waves.specs.declared.keeping.Kept.{Kept}
+use Rattle.map_waves.specs.declared.keeping.Made.{Made}
+use Rattle.op_jobs.specs.Beside.{suits, IsBook, AreViewers, book_at, book_in, viewers_at, kept_viewers, layer_in}
+use Rattle.op_jobs.specs.Owning.{IsOwn, IsWholeJob, reached}
+use Rattle.op_jobs.specs.Pieces.{IsWholePiece}
+use Rattle.op_jobs.specs.Sound.{StatementJobs, IsSound, IsPiece, IsPieceOf, FitsSet, IsMadeWhole}
+use Rattle.op_jobs.specs.Whole.{IsRightBefore, IsWholeAnswer}
+use Rattle.op_jobs.specs.Zonal.{IsRightBook}
+use Rattle.op_jobs.specs.declared.beside.Beside.{Beside}
+use Rattle.op_jobs.specs.declared.beside.Beside.TheVariants.{Nothing, Book, Viewers}
+use Rattle.op_jobs.specs.declared.own.Own.{Own}
+use Rattle.op_jobs.specs.declared.own.Own.TheVariants as an_own
+use Rattle.op_jobs.specs.declared.pieces.Piece.{Piece}
+use Rattle.op_jobs.specs.declared.pieces.Piece.TheVariants.{Tile, Whole}
+use Rattle.op_jobs.proofs.WholeDamage.{damage_counted}
+use Rattle.op_jobs.proofs.ZonalStays.{range_from_faultless}
+
+-- ---- reads
+
+pub rises_more : (k d w : ℕ) (a b : TallyState) → k ≤ 34 * d → RisesBy k 0 a b → RisesBy (60 * d) (1000 * w) a b
+rises_more k d w a b l r = rises_within k 0 (60 * d) (1000 * w) a b (omega (arith, l)) (omega arith) r
+
+-- ---- the book
+
+pub right_book : (s : Size) (stat : Stat) (t u : Term) (operands : List ChangeState) (kept : Option (Kept Beside)) (r : Option (Bor BookState)) → option_copied r ≡ book_in kept → IsRightKept suits s (zonal_op stat t u) operands kept → IfSome r (λ book. IsRightBook stat s operands book.now)
+right_book s stat t u operands kept None e is = tt
+right_book s stat t u operands None (Some b) e is = absurd cc
+right_book s stat t u operands (Some k) (Some b) e is = at k.beside e is.beside
+  where
+    at : (x : Beside) → Some b.now ≡ book_at x → IsBook s (operand (cells_were operands) 0) (operand (cells_were operands) 1) x → IsRightBook stat s operands b.now
+    at Nothing f q = absurd q
+    at (Book c) f q =
+        let same : b.now ≡ c = cc in
+        subst (IsRightBook stat s operands) (sym same) (record { there = is.there; size = q.0; book = q.1; in_range = range_from_faultless stat t u s (cells_were operands) is.faultless })
+    at (Viewers v) f q = absurd q
+
+some_of : {X : Type 0} (x : X) (r : Option (Bor X)) → option_copied r ≡ Some x → true ≡ is_some r
+some_of x None e = absurd cc
+some_of x (Some b) e = refl
+
+pub book_there : (s : Size) (stat : Stat) (t u : Term) (operands : List ChangeState) (kept : Option (Kept Beside)) (r : Option (Bor BookState)) → option_copied r ≡ book_in kept → IsRightKept suits s (zonal_op stat t u) operands kept → is_some (was_of kept) ≡ is_some r
+book_there s stat t u operands None None e is = refl
+book_there s stat t u operands None (Some b) e is = absurd cc
+book_there s stat t u operands (Some k) r e is = at k.beside e is.beside
+  where
+    at : (x : Beside) → option_copied r ≡ book_at x → IsBook s (operand (cells_were operands) 0) (operand (cells_were operands) 1) x → true ≡ is_some r
+    at Nothing f q = absurd q
+    at (Book c) f q = some_of c r f
+    at (Viewers v) f q = absurd q
+
+-- ---- the viewers
+
+pub viewers_there : (s : Size) (sight : Sighting) (t u : Term) (operands : List ChangeState) (kept : Option (Kept Beside)) (r : Option (Bor (List (ℕ × ℤ)))) → option_copied r ≡ kept_viewers kept → IsRightKept suits s (sight_op sight t u) operands kept → is_some (was_of kept) ≡ is_some r
+viewers_there s sight t u operands None None e is = refl
+viewers_there s sight t u operands None (Some b) e is = absurd cc
+viewers_there s sight t u operands (Some k) r e is = at k.beside e is.beside
+  where
+    at : (x : Beside) → option_copied r ≡ viewers_at x → AreViewers s (operand (cells_were operands) 0) x → true ≡ is_some r
+    at Nothing f q = absurd q
+    at (Book c) f q = absurd q
+    at (Viewers v) f q = some_of v r f
+
+-- ---- the layer
+
+pub right_layer : (z s : Size) (op : Op) (operands : List ChangeState) (kept : Option (Kept Beside)) (o : Option LayerState) → z ≡ s → o ≡ layer_in kept → IsRightKept suits s op operands kept → IsRightBefore z op operands o
+right_layer z s op operands kept o size e is = let P : Size → Option LayerState → Type 0 = λ y x. IsRightBefore y op operands x in subst (λ y. P y o) (sym size) (subst (P s) (sym e) (at kept is))
+  where
+    at : (k : Option (Kept Beside)) → IsRightKept suits s op operands k → IsRightBefore s op operands (layer_in k)
+    at None q = tt
+    at (Some k) q = record { size = q.size; there = q.there; right = q.right }
+
+pub before_is : (kept : Option (Kept Beside)) (o : Option LayerState) → o ≡ layer_in kept → before_of o ≡ was_of kept
+before_is kept o e = ap before_of e ∙ at kept
+  where
+    at : (k : Option (Kept Beside)) → before_of (layer_in k) ≡ was_of k
+    at None = refl
+    at (Some k) = refl
+
+pub answer_at_size : (z s : Size) (op : Op) (b was : Option Cells) (operands : List ChangeState) (r : Result _ KernelRefusal) → z ≡ s → b ≡ was → IsWholeAnswer z op b operands r → IsWholeAnswer s op was operands r
+answer_at_size z s op b was operands r e f is = subst (λ y. IsWholeAnswer y op was operands r) e (subst (λ o. IsWholeAnswer z op o operands r) f is)
+
+pub rises_at_size : (z s : Size) (op : Op) (b was : Option Cells) (operands : List ChangeState) (x y : TallyState) → z ≡ s → b ≡ was → RisesBy (32 * length (damage_by z op b operands)) (1000 * work_by z op b operands) x y → RisesBy (32 * length (damage_by s op was operands)) (1000 * work_by s op was operands) x y
+rises_at_size z s op b was operands x y e f is =
+    let P : Size → Option Cells → Type 0 = λ v o. RisesBy (32 * length (damage_by v op o operands)) (1000 * work_by v op o operands) x y in
+    subst (λ v. P v was) e (subst (P z) f is)
+
+pub whole_refusal : (s : Size) (op : Op) (was : Option Cells) (operands : List ChangeState) (e : KernelRefusal) → IsWholeAnswer s op was operands (Err e) → IsWholePiece s op was operands (Err e)
+whole_refusal s op was operands (Overflow at) is = is
+whole_refusal s op was operands NoMemory is = tt
+
+-- ---- one job for all
+
+pub piece_whole : (j : StatementJobs) (set : TileSetState) (k : ℕ) (r : Result Piece KernelRefusal) → j.own ≡ an_own.Whole set → IsWholePiece j.size (op_view j.op) (was_in j) j.operands r → IsPiece j k r
+unfolding IsPiece
+piece_whole j set k r own p = let P : Own → Type 0 = λ o. IsPieceOf o j k r in subst P (sym own) p
+
+whole_piece : (j : StatementJobs) (set : TileSetState) (k : ℕ) (r : Result Piece KernelRefusal) → j.own ≡ an_own.Whole set → IsPiece j k r → IsWholePiece j.size (op_view j.op) (was_in j) j.operands r
+unfolding IsPiece
+whole_piece j set k r own p = let P : Own → Type 0 = λ o. IsPieceOf o j k r in subst P own p
+
+whole_own : (j : StatementJobs) (set : TileSetState) → IsSound j → j.own ≡ an_own.Whole set → IsWholeJob j.size (op_view j.op) j.operands (was_in j) set
+whole_own j set is e = let P : Own → Type 0 = λ o. IsOwn j.size (op_view j.op) j.operands (was_in j) o in subst P e is.own_is
+
+reached_size : (s : Size) (was : Option Cells) (operands : List ChangeState) (set : TileSetState) → set ≡ reached 0 s was operands → set.size ≡ s
+reached_size s None operands set e = ap (λ (d : TileSetState). d.size) e
+reached_size s (Some w) operands set e = ap (λ (d : TileSetState). d.size) e
+
+work_beside : (s : Size) (op : Op) (cells : List Cells) → IsTrue (has_work op) → suits s op cells Nothing
+work_beside s (flow_op t u) cells e = tt
+work_beside s (spread_op limit t u) cells e = tt
+work_beside s (region_op t) cells e = tt
+work_beside s (local_op stat ts) cells e = tt
+work_beside s (difference_op t u) cells e = tt
+work_beside s (ratio_op t u) cells e = tt
+work_beside s (rating_op t rates) cells e = tt
+work_beside s (focal_op stat r t) cells e = tt
+work_beside s (form_op form t) cells e = tt
+work_beside s (direction_op t) cells e = tt
+work_beside s (zonal_op stat t u) cells e = absurd cc
+work_beside s (sight_op sight t u) cells e = absurd cc
+
+pub whole_fits : (j : StatementJobs) (set : TileSetState) (piece : Piece) → IsSound j → j.own ≡ an_own.Whole set → IsPiece j 0 (Ok piece) → FitsSet set piece
+whole_fits j set (Tile o) is own p = absurd (whole_piece j set 0 (Ok (Tile o)) own p)
+whole_fits j set (Whole patch work) is own p = reached_size j.size (was_in j) j.operands set (whole_own j set is own).set_is ∙ sym (whole_piece j set 0 (Ok (Whole patch work)) own p).size
+
+pub whole_repaired : (j : StatementJobs) (set : TileSetState) (piece : Piece) (m : Made Beside) → IsSound j → j.own ≡ an_own.Whole set → IsPiece j 0 (Ok piece) → IsMadeWhole set piece m → IsRepaired suits j.size (op_view j.op) j.operands (was_in j) m
+whole_repaired j set (Tile o) m is own p e = absurd e
+whole_repaired j set (Whole patch work) m is own p e =
+    let made = whole_piece j set 0 (Ok (Whole patch work)) own p in
+    let job = whole_own j set is own in
+    rw (e)
+    record {
+      size = made.size;
+      cells = made.cells;
+      exact = made.exact;
+      beside = work_beside j.size (op_view j.op) (cells_after j.operands) job.class;
+      evaluated = damage_counted j.size (op_view j.op) (was_in j) j.operands set patch job.class made.size job.set_is made.exact;
+      worked = made.work_is;
+      little = made.little;
+    }

@@ -1,0 +1,143 @@
+-- What jobs rest on holds in one way at most.
+use Rattle.std.proofs.Common.{ℕ, List, [], ◌∷◌, Option, Some, None}
+use Rattle.std.proofs.Math.Logic.{∥∥₁_elim}
+use Rattle.std.proofs.Props.{props}
+use Rattle.std.specs.Coded.{×_prop, Unit-prop}
+use Rattle.map_nums.specs.declared.Stat.{Stat}
+use Rattle.map_nums.specs.declared.Stat.TheVariants.{Product}
+use Rattle.map_nums.specs.declared.Rate.{Rate}
+use Rattle.map_nums.specs.Grids.{Size, Cells}
+use Rattle.map_defs.specs.Local.{LocalOp, of_stat, difference, ratio, rating}
+use Rattle.map_defs.specs.Ops.{Term, layer_term, number_term, Op, local_op, difference_op, ratio_op, rating_op, focal_op, zonal_op, form_op, direction_op, flow_op, spread_op, sight_op, region_op}
+use Rattle.map_defs.specs.Operate.{operand}
+use Rattle.layer_tiles.specs.Cells.{IsCell}
+use Rattle.layer_tiles.specs.Changes.{ChangeState}
+use Rattle.layer_tiles.specs.Operands.{cells_after}
+use Rattle.local_ops.specs.Operations.{op_of, Takes}
+use Rattle.local_ops.specs.declared.ops.LocalOp.{LocalOp as KernelOp}
+use Rattle.statement_parser.specs.Formed.{Each, IsTerm, IsRate, IsNoProduct, IsRadius, IsOp}
+use Rattle.statement_parser.specs.Views.{op_view}
+use Rattle.map_waves.specs.Statements.{cells_were}
+use Rattle.map_waves.specs.Jobs.{was_in}
+use Rattle.map_waves.specs.Keeping.{IsRightKept}
+use Rattle.map_waves.specs.declared.keeping.Kept.{Kept}
+use Rattle.op_jobs.specs.Beside.{IsNothing, IsBook, AreViewers, suits}
+use Rattle.op_jobs.specs.Owning.{IsLocalOf, IsOwn}
+use Rattle.op_jobs.specs.Sound.{StatementJobs, IsSound}
+use Rattle.op_jobs.specs.declared.beside.Beside.{Beside}
+use Rattle.op_jobs.specs.declared.beside.Beside.TheVariants.{Nothing, Book, Viewers}
+use Rattle.op_jobs.specs.declared.own.Own.{Own}
+use Rattle.op_jobs.specs.declared.own.Own.TheVariants as an_own
+
+-- ---- the operation is well formed
+
+each_once : {A : Type 0} (P : A → Type 0) → ((x : A) → IsProp (P x)) → (xs : List A) → IsProp (Each P xs)
+each_once P p [] = Unit-prop
+each_once P p (x ∷ xs) = ×_prop (p x) (each_once P p xs)
+
+term_once : (t : Term) → IsProp (IsTerm t)
+term_once (layer_term n) = hlevel props
+term_once (number_term z) = hlevel props
+
+cell_once : (c : Option _) → IsProp (IsCell c)
+cell_once None = Unit-prop
+cell_once (Some z) = hlevel props
+
+rate_once : (r : Rate) → IsProp (IsRate r)
+rate_once r = let give : IsProp (IsCell r.give) = cell_once r.give in hlevel (give, props)
+
+no_product_once : (s : Stat) → IsProp (IsNoProduct s)
+no_product_once Product = hlevel
+no_product_once s = Unit-prop
+
+radius_once : (r : Option ℕ) → IsProp (IsRadius r)
+radius_once None = Unit-prop
+radius_once (Some r) = hlevel props
+
+op_once : (op : Op) → IsProp (IsOp op)
+op_once (local_op s ts) = let each : IsProp (Each IsTerm ts) = each_once IsTerm term_once ts in hlevel (each, props)
+op_once (difference_op t u) = ×_prop (term_once t) (term_once u)
+op_once (ratio_op t u) = ×_prop (term_once t) (term_once u)
+op_once (rating_op t rs) =
+    let one : IsProp (IsTerm t) = term_once t in
+    let each : IsProp (Each IsRate rs) = each_once IsRate rate_once rs in
+    hlevel (one, each, props)
+op_once (focal_op s r t) =
+    let stat : IsProp (IsNoProduct s) = no_product_once s in
+    let radius : IsProp (IsRadius r) = radius_once r in
+    let one : IsProp (IsTerm t) = term_once t in
+    hlevel (stat, radius, one)
+op_once (zonal_op s t u) =
+    let stat : IsProp (IsNoProduct s) = no_product_once s in
+    let one : IsProp (IsTerm t) = term_once t in
+    let other : IsProp (IsTerm u) = term_once u in
+    hlevel (stat, one, other)
+op_once (form_op f t) = term_once t
+op_once (direction_op t) = term_once t
+op_once (flow_op t u) = ×_prop (term_once t) (term_once u)
+op_once (spread_op limit t u) =
+    let one : IsProp (IsTerm t) = term_once t in
+    let other : IsProp (IsTerm u) = term_once u in
+    hlevel (one, other, props)
+op_once (sight_op s t u) =
+    let one : IsProp (IsTerm t) = term_once t in
+    let other : IsProp (IsTerm u) = term_once u in
+    hlevel (one, other, props)
+op_once (region_op t) = term_once t
+
+-- ---- what is kept is right
+
+nothing_once : (b : Beside) → IsProp (IsNothing b)
+nothing_once Nothing = Unit-prop
+nothing_once (Book b) = hlevel
+nothing_once (Viewers v) = hlevel
+
+book_once : (s : Size) (values zones : Cells) (b : Beside) → IsProp (IsBook s values zones b)
+book_once s values zones Nothing = hlevel
+book_once s values zones (Book b) = hlevel props
+book_once s values zones (Viewers v) = hlevel
+
+viewers_once : (s : Size) (cells : Cells) (b : Beside) → IsProp (AreViewers s cells b)
+viewers_once s cells Nothing = hlevel
+viewers_once s cells (Book b) = hlevel
+viewers_once s cells (Viewers v) = hlevel props
+
+suits_once : (s : Size) (op : Op) (operands : List Cells) (b : Beside) → IsProp (suits s op operands b)
+suits_once s (zonal_op stat t u) operands b = book_once s (operand operands 0) (operand operands 1) b
+suits_once s (sight_op sight t u) operands b = viewers_once s (operand operands 0) b
+suits_once s op operands b = nothing_once b
+
+right_once : (s : Size) (op : Op) (operands : List ChangeState) (kept : Option (Kept Beside)) → IsProp (IsRightKept suits s op operands kept)
+right_once s op operands None = Unit-prop
+right_once s op operands (Some k) = let beside : IsProp (suits s op (cells_were operands) k.beside) = suits_once s op (cells_were operands) k.beside in hlevel (beside, props)
+
+-- ---- what jobs share
+
+takes_once : (l : LocalOp) (n : ℕ) → IsProp (Takes l n)
+takes_once (of_stat stat) n = hlevel props
+takes_once difference n = hlevel props
+takes_once ratio n = hlevel props
+takes_once (rating rates) n = hlevel props
+
+local_once : (op : Op) (l : Option KernelOp) → IsProp (IsLocalOf op l)
+local_once op None = hlevel props
+local_once op (Some l) = ×_prop (hlevel props) (takes_once (op_of l) _)
+
+own_once : (s : Size) (op : Op) (operands : List ChangeState) (was : Option Cells) (own : Own) → IsProp (IsOwn s op operands was own)
+own_once s op operands was (an_own.Tiles jobs) =
+    let local : IsProp (IsLocalOf op jobs.local) = local_once op jobs.local in
+    let beside : IsProp (suits s op (cells_after operands) jobs.beside) = suits_once s op (cells_after operands) jobs.beside in
+    hlevel (local, beside, props)
+own_once s op operands was (an_own.Whole set) = hlevel props
+
+-- ---- all of it
+
+sound_once : (j : StatementJobs) → IsProp (IsSound j)
+sound_once j =
+    let formed : IsProp (IsOp (op_view j.op)) = op_once (op_view j.op) in
+    let right : IsProp (IsRightKept suits j.size (op_view j.op) j.operands j.kept) = right_once j.size (op_view j.op) j.operands j.kept in
+    let own : IsProp (IsOwn j.size (op_view j.op) j.operands (was_in j) j.own) = own_once j.size (op_view j.op) j.operands (was_in j) j.own in
+    hlevel (formed, right, own, props)
+
+pub sound_of : (j : StatementJobs) → ∥ IsSound j ∥₁ → IsSound j
+sound_of j is = ∥∥₁_elim is (sound_once j) (λ x. x)

@@ -1,0 +1,127 @@
+-- What jobs share is right for their statement.
+use Rattle.std.proofs.Common.{◌≡◌, ℕ, ◌<◌, ◌≤◌, true, List, [], ◌∷◌, length, Option, Some, None, refl, sym, ◌∙◌, ap, subst, arith, IsTrue, IsFalse}
+use Rattle.std.specs.Prelude.{filter, nat_lt, IfSome}
+use Rattle.std.specs.List.{All}
+use Rattle.std.specs.Borrow.{Bor}
+use Rattle.std.specs.Option.{IsSome}
+use Rattle.map_nums.specs.Grids.{Size, Cells}
+use Rattle.map_nums.specs.Tiles.{tiles, tiles_in}
+use Rattle.map_defs.specs.Ops.{Op, terms_of, local_op, difference_op, ratio_op, rating_op, focal_op, zonal_op, form_op, direction_op, flow_op, spread_op, sight_op, region_op}
+use Rattle.map_defs.specs.Damage.{has_work, reach_of}
+use Rattle.map_defs.specs.Sight.{most_viewers}
+use Rattle.layer_tiles.specs.Changes.{ChangeState}
+use Rattle.layer_tiles.specs.Operands.{size_of}
+use Rattle.damage_sets.specs.Sets.{TileSetState, has_tile}
+use Rattle.damage_sets.specs.Damage.{damage_of}
+use Rattle.statement_parser.specs.Formed.{IsOp}
+use Rattle.statement_parser.specs.Views.{op_view}
+use Rattle.map_waves.specs.Statements.{damage_by, viewers_in}
+use Rattle.map_waves.specs.Operands.{IsOperand}
+use Rattle.map_waves.specs.Keeping.{kept_now, was_of, IsRightKept}
+use Rattle.map_waves.specs.Jobs.{was_in}
+use Rattle.map_waves.specs.declared.keeping.Kept.{Kept}
+use Rattle.op_jobs.specs.Beside.{suits}
+use Rattle.op_jobs.specs.Classes.{by_reach, is_plain}
+use Rattle.op_jobs.specs.Owning.{reached, IsOwn, AreTileJobs}
+use Rattle.op_jobs.specs.Sound.{StatementJobs, IsSound}
+use Rattle.op_jobs.specs.declared.beside.Beside.{Beside}
+use Rattle.op_jobs.specs.declared.beside.Beside.TheVariants.{Nothing}
+use Rattle.op_jobs.specs.declared.own.Own.{Own}
+use Rattle.op_jobs.specs.declared.own.Own.TheVariants as an_own
+use Rattle.op_jobs.specs.declared.own.TileJobs.{TileJobs}
+use Rattle.op_jobs.proofs.Reached.{reached_list, all_list}
+
+-- ---- operands
+
+pub size_is : (s : Size) (operands : List ChangeState) → 0 < length operands → All (IsOperand s) operands → size_of operands ≡ s
+size_is s [] some are = absurd (omega arith)
+size_is s (c ∷ rest) some are = (are 0 c (omega arith)).size
+
+pub one_size : (s : Size) (operands : List ChangeState) → All (IsOperand s) operands → All (λ c. c.size ≡ s) operands
+one_size s operands are k d l = (are k d l).size
+
+pub terms_some : (op : Op) → IsOp op → 0 < length (terms_of op)
+terms_some (local_op stat ts) is = omega (arith, is.0)
+terms_some (difference_op t u) is = omega arith
+terms_some (ratio_op t u) is = omega arith
+terms_some (rating_op t rates) is = omega arith
+terms_some (focal_op stat r t) is = omega arith
+terms_some (zonal_op stat t u) is = omega arith
+terms_some (form_op form t) is = omega arith
+terms_some (direction_op t) is = omega arith
+terms_some (flow_op t u) is = omega arith
+terms_some (spread_op limit t u) is = omega arith
+terms_some (sight_op sight t u) is = omega arith
+terms_some (region_op t) is = omega arith
+
+pub terms_few : (op : Op) → IsOp op → length (terms_of op) ≤ 8
+terms_few (local_op stat ts) is = is.1
+terms_few (difference_op t u) is = omega arith
+terms_few (ratio_op t u) is = omega arith
+terms_few (rating_op t rates) is = omega arith
+terms_few (focal_op stat r t) is = omega arith
+terms_few (zonal_op stat t u) is = omega arith
+terms_few (form_op form t) is = omega arith
+terms_few (direction_op t) is = omega arith
+terms_few (flow_op t u) is = omega arith
+terms_few (spread_op limit t u) is = omega arith
+terms_few (sight_op sight t u) is = omega arith
+terms_few (region_op t) is = omega arith
+
+-- ---- what is kept
+
+pub there_of : (s : Size) (op : Op) (operands : List ChangeState) (kept : Option (Kept Beside)) → IsRightKept suits s op operands kept → IfSome kept (λ k. All (λ c. IsSome c.before) operands)
+there_of s op operands None is = tt
+there_of s op operands (Some k) is = is.there
+
+pub kept_size : (s : Size) (op : Op) (operands : List ChangeState) (kept : Option (Kept Beside)) (t : ℕ) → IsRightKept suits s op operands kept → t < tiles_in s → IfSome kept (λ k. t < tiles_in k.layer.size)
+kept_size s op operands None t is l = tt
+kept_size s op operands (Some k) t is l = subst (λ z. t < tiles_in z) (sym is.size) l
+
+pub size_kept : (s : Size) (op : Op) (operands : List ChangeState) (kept : Option (Kept Beside)) → IsRightKept suits s op operands kept → (k : Kept Beside) → kept ≡ Some k → k.layer.size ≡ s
+size_kept s op operands None is k e = absurd cc
+size_kept s op operands (Some x) is k e = let same : k ≡ x = cc in ap (λ (y : Kept Beside). y.layer.size) same ∙ is.size
+
+-- ---- the tiles
+
+-- those that are found where a layer is kept
+pub reached_some : (r : ℕ) (s : Size) (operands : List ChangeState) (kept : Option (Bor (Kept Beside))) (k : Bor (Kept Beside)) (set : TileSetState) → kept ≡ Some k → size_of operands ≡ s → set ≡ damage_of r (size_of operands) operands → set ≡ reached r s (was_of (kept_now kept)) operands
+reached_some r s operands kept k set e size is =
+    let P : Option (Bor (Kept Beside)) → Type 0 = λ o. set ≡ reached r s (was_of (kept_now o)) operands in
+    subst P (sym e) (subst (λ z. set ≡ damage_of r z operands) size is)
+
+pub listed_is : (s : Size) (op : Op) (was : Option Cells) (operands : List ChangeState) (r : ℕ) (set : TileSetState) (list : List ℕ) → by_reach op ≡ true → r ≡ reach_of op → set ≡ reached r s was operands → list ≡ filter (has_tile set) (tiles set.size) → list ≡ damage_by s op was operands
+listed_is s op None operands r set list by e is items =
+    let P : TileSetState → Type 0 = λ d. list ≡ filter (has_tile d) (tiles d.size) in
+    subst P is items ∙ all_list s op operands
+listed_is s op (Some w) operands r set list by e is items =
+    let P : TileSetState → Type 0 = λ d. list ≡ filter (has_tile d) (tiles d.size) in
+    let Q : ℕ → Type 0 = λ n. list ≡ filter (has_tile (damage_of n s operands)) (tiles s) in
+    subst Q e (subst P is items) ∙ reached_list s op operands w by
+
+-- ---- those whose tiles come from the operands alone
+
+pub record IsPlain (s : Size) (op : Op) (cells : List Cells) : Type 0 where
+  pub by : by_reach op ≡ true
+  pub class : IsFalse (has_work op)
+  pub beside_is : suits s op cells Nothing
+  pub viewers : IsFalse (nat_lt most_viewers (viewers_in op cells))
+
+pub plain_is : (s : Size) (op : Op) (cells : List Cells) → IsTrue (is_plain op) → IsPlain s op cells
+plain_is s (local_op stat ts) cells e = record { by = refl; class = refl; beside_is = tt; viewers = refl }
+plain_is s (difference_op t u) cells e = record { by = refl; class = refl; beside_is = tt; viewers = refl }
+plain_is s (ratio_op t u) cells e = record { by = refl; class = refl; beside_is = tt; viewers = refl }
+plain_is s (rating_op t rates) cells e = record { by = refl; class = refl; beside_is = tt; viewers = refl }
+plain_is s (focal_op stat r t) cells e = record { by = refl; class = refl; beside_is = tt; viewers = refl }
+plain_is s (form_op form t) cells e = record { by = refl; class = refl; beside_is = tt; viewers = refl }
+plain_is s (direction_op t) cells e = record { by = refl; class = refl; beside_is = tt; viewers = refl }
+plain_is s (zonal_op stat t u) cells e = absurd cc
+plain_is s (flow_op t u) cells e = absurd cc
+plain_is s (spread_op limit t u) cells e = absurd cc
+plain_is s (sight_op sight t u) cells e = absurd cc
+plain_is s (region_op t) cells e = absurd cc
+
+-- ---- of sound jobs
+
+pub tile_own : (j : StatementJobs) (jobs : TileJobs) → IsSound j → j.own ≡ an_own.Tiles jobs → AreTileJobs j.size (op_view j.op) j.operands (was_in j) jobs
+tile_own j jobs is e = let P : Own → Type 0 = λ o. IsOwn j.size (op_view j.op) j.operands (was_in j) o in subst P e is.own_is

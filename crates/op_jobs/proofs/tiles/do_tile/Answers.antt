@@ -1,0 +1,35 @@
+use Rattle.std.proofs.Common.{◌<◌, sym, ◌∙◌, subst, Ok}
+use Rattle.std.proofs.lemmas.List.{get_or_default}
+use Rattle.std.specs.Prelude.{IfSome}
+use Rattle.layer_tiles.specs.Answers.{IsTileAnswer}
+use Rattle.layer_tiles.specs.Tiles.{tiles_in}
+use Rattle.statement_parser.specs.Views.{op_view}
+use Rattle.map_waves.specs.Jobs.{was_in}
+use Rattle.op_jobs.specs.Others.{IsOther}
+use Rattle.op_jobs.specs.Pieces.{IsTileMade}
+use Rattle.op_jobs.specs.Sound.{StatementJobs, now_in}
+use Rattle.op_jobs.proofs.Sharing.{kept_size, size_kept}
+use Rattle.op_jobs.proofs.Telling.{job_tile, piece_told}
+use Rattle.op_jobs.proofs.tiles.do_tile.Goals as goal
+
+pub make_tile-requires-clause-within : goal.make_tile-requires-clause-within
+make_tile-requires-clause-within g c =
+    subst (λ (j : StatementJobs). c.index-tile.result.now < tiles_in j.size) (sym c.jobs.view_is)
+    (job_tile c.args.jobs.now c.args.own.now c.args.job c.index-tile.result.now c.requires.sound c.requires.own c.requires.below c.index-tile.ensures)
+
+pub unless_same-requires : goal.unless_same-requires
+unless_same-requires g c =
+    let j = c.args.jobs.now in
+    let t = c.index-tile.result.now in
+    subst (λ (x : StatementJobs). IfSome x.kept (λ k. t < tiles_in k.layer.size)) (sym c.jobs.view_is)
+    (kept_size j.size (op_view j.op) j.operands j.kept t c.requires.sound.right (job_tile j c.args.own.now c.args.job t c.requires.sound c.requires.own c.requires.below c.index-tile.ensures))
+
+pub returns-clause-piece : goal.returns-clause-piece
+returns-clause-piece g c =
+    let j = c.args.jobs.now in
+    let t = c.index-tile.result.now in
+    let answer = subst (λ (x : StatementJobs). IsTileAnswer x.size (now_in x) t (Ok c.in_ok-made.made)) c.jobs.view_is c.in_ok-made.ensures.answer in
+    let other = subst (λ (x : StatementJobs). IsOther x.kept t c.in_ok-made.made c.unless_same.result) c.jobs.view_is c.unless_same.ensures.other in
+    let at = c.index-tile.ensures ∙ get_or_default c.args.own.now.tiles.items c.args.job t 0 c.requires.below in
+    subst (λ u. IsTileMade j.size (was_in j) (now_in j) u c.unless_same.result) at
+    (piece_told j.size (now_in j) t j.kept c.in_ok-made.made c.unless_same.result c.requires.sound.size (job_tile j c.args.own.now c.args.job t c.requires.sound c.requires.own c.requires.below c.index-tile.ensures) (size_kept j.size (op_view j.op) j.operands j.kept c.requires.sound.right) answer other)

@@ -1,0 +1,65 @@
+-- What jobs make.
+use Rattle.std.specs.Prelude.{◌≡◌, ◌<◌, ◌^◌, ℕ, List, [], ◌∷◌, map, Option, Some, None, Result, Ok, Err, IsFalse, unwrap_or, if◌then◌else◌}
+use Rattle.std.specs.List.{All, position}
+use Rattle.map_nums.specs.Answers.{is_wide}
+use Rattle.map_nums.specs.Grids.{Size, Cells}
+use Rattle.map_defs.specs.Ops.{Op}
+use Rattle.map_defs.specs.Damage.{changed_tiles}
+use Rattle.layer_tiles.specs.Answers.{IsLeastWide}
+use Rattle.layer_tiles.specs.Changes.{ChangeState}
+use Rattle.layer_tiles.specs.Operands.{cells_after}
+use Rattle.layer_tiles.specs.Patches.{PatchState, patched, numbers_of}
+use Rattle.layer_tiles.specs.Tiles.{Block, IsBlockOf, tile_cells, tile_block}
+use Rattle.layer_tiles.specs.declared.kernels.KernelRefusal.{KernelRefusal}
+use Rattle.layer_tiles.specs.declared.kernels.KernelRefusal.TheVariants.{Overflow, NoMemory}
+use Rattle.map_waves.specs.Statements.{made, work_by}
+use Rattle.op_jobs.specs.Changed.{is_changed}
+use Rattle.op_jobs.specs.declared.pieces.Piece.{Piece}
+use Rattle.op_jobs.specs.declared.pieces.Piece.TheVariants.{Tile, Whole}
+
+-- ---- a job for a tile
+
+-- all of tile t is in range, and it is there where it changed
+pub record IsTileMade (s : Size) (was : Option Cells) (now : Cells) (t : ℕ) (made : Option Block) : Type 0 where
+  pub is : made ≡ (if is_changed s was now t then Some (tile_block s now t) else None)
+  pub narrow : All (λ c. IsFalse (is_wide c)) (tile_cells s now t)
+
+-- want of memory is free
+abbrev pub IsTilePiece : Size → Option Cells → Cells → ℕ → Result Piece KernelRefusal → Type 0
+IsTilePiece s was now t (Ok (Tile made)) = IsTileMade s was now t made
+IsTilePiece s was now t (Ok (Whole patch work)) = ⊥
+IsTilePiece s was now t (Err (Overflow at)) = IsLeastWide s now t at
+IsTilePiece s was now t (Err NoMemory) = Unit {0}
+
+-- the tiles that a piece adds to a patch
+abbrev pub tiles_at : ℕ → Piece → List (ℕ × Block)
+tiles_at t (Tile None) = []
+tiles_at t (Tile (Some b)) = (t, b) ∷ []
+tiles_at t (Whole patch work) = []
+
+abbrev pub FitsTile : Size → ℕ → Piece → Type 0
+FitsTile s t (Tile None) = Unit {0}
+FitsTile s t (Tile (Some b)) = IsBlockOf s t b
+FitsTile s t (Whole patch work) = Unit {0}
+
+-- exactly the tiles that changed
+pub record IsTilePatch (s : Size) (was : Option Cells) (now : Cells) (patch : PatchState) : Type 0 where
+  pub size : patch.size ≡ s
+  pub tiles : patch.tiles ≡ map (λ t. (t, tile_block s now t)) (changed_tiles s was now)
+
+-- ---- a job for all
+
+-- all is in range; exactly the tiles that changed, and the work
+pub record IsWholeMade (s : Size) (op : Op) (was : Option Cells) (operands : List ChangeState) (patch : PatchState) (work : ℕ) : Type 0 where
+  pub size : patch.size ≡ s
+  pub cells : patched s (unwrap_or was []) patch.tiles ≡ made s op (cells_after operands)
+  pub exact : numbers_of patch.tiles ≡ changed_tiles s was (made s op (cells_after operands))
+  pub work_is : work ≡ work_by s op was operands
+  pub little : work < 2 ^ 32
+  pub narrow : position is_wide (made s op (cells_after operands)) ≡ None
+
+abbrev pub IsWholePiece : Size → Op → Option Cells → List ChangeState → Result Piece KernelRefusal → Type 0
+IsWholePiece s op was operands (Ok (Tile tile)) = ⊥
+IsWholePiece s op was operands (Ok (Whole patch work)) = IsWholeMade s op was operands patch work
+IsWholePiece s op was operands (Err (Overflow at)) = position is_wide (made s op (cells_after operands)) ≡ Some at
+IsWholePiece s op was operands (Err NoMemory) = Unit {0}

@@ -1,0 +1,102 @@
+-- The jobs of a statement that is written: what they rest on, what they read, and what they may answer.
+use Rattle.std.specs.Prelude.{◌≡◌, ℕ, ◌*◌, length, slice_index, slice_get, List, Some, Bool, true, false, Result, Ok}
+use Rattle.std.specs.List.{All}
+use Rattle.map_nums.specs.Grids.{IsSize, Cells}
+use Rattle.map_defs.specs.Ops.{terms_of}
+use Rattle.layer_tiles.specs.Operands.{cells_after}
+use Rattle.layer_tiles.specs.declared.kernels.KernelRefusal.{KernelRefusal}
+use Rattle.statement_parser.specs.Formed.{IsOp}
+use Rattle.statement_parser.specs.Views.{op_view}
+use Rattle.statement_parser.specs.declared.op.Op.{Op}
+use Rattle.map_waves.specs.Statements.{made, damage_by, work_by}
+use Rattle.map_waves.specs.Operands.{IsOperand}
+use Rattle.map_waves.specs.Keeping.{IsRightKept}
+use Rattle.map_waves.specs.Jobs.{JobsState, was_in}
+use Rattle.map_waves.specs.declared.keeping.Made.{Made}
+use Rattle.layer_tiles.specs.Patches.{PatchState}
+use Rattle.op_jobs.specs.Beside.{suits}
+use Rattle.op_jobs.specs.Owning.{IsOwn, count_of}
+use Rattle.op_jobs.specs.Pieces.{IsTilePiece, IsWholePiece}
+use Rattle.op_jobs.specs.declared.beside.Beside.{Beside}
+use Rattle.damage_sets.specs.Sets.{TileSetState}
+use Rattle.op_jobs.specs.Whole.{count_either}
+use Rattle.op_jobs.specs.declared.beside.Beside.TheVariants.{Nothing}
+use Rattle.op_jobs.specs.declared.pieces.Piece.{Piece}
+use Rattle.op_jobs.specs.declared.pieces.Piece.TheVariants.{Tile, Whole}
+use Rattle.op_jobs.specs.declared.own.Own.{Own}
+use Rattle.op_jobs.specs.declared.own.Own.TheVariants as an_own
+
+abbrev pub StatementJobs : Type 0
+StatementJobs = JobsState Op Beside Own
+
+-- the cells after the edit
+abbrev pub now_in : StatementJobs → Cells
+now_in j = made j.size (op_view j.op) (cells_after j.operands)
+
+pub record IsSound (j : StatementJobs) : Type 0 where
+  pub size : IsSize j.size
+  pub formed : IsOp (op_view j.op)
+  pub terms : length j.operands ≡ length (terms_of (op_view j.op))
+  pub operands_are : All (IsOperand j.size) j.operands
+  pub right : IsRightKept suits j.size (op_view j.op) j.operands j.kept
+  pub own_is : IsOwn j.size (op_view j.op) j.operands (was_in j) j.own
+  pub count_is : j.count ≡ count_of j.own
+
+-- ---- reads
+
+abbrev pub damage_in : StatementJobs → ℕ
+damage_in j = length (damage_by j.size (op_view j.op) (was_in j) j.operands)
+
+abbrev pub first_by : Own → ℕ → ℕ
+first_by (an_own.Tiles jobs) damage = 34 * damage
+first_by (an_own.Whole set) damage = 28 * damage
+
+abbrev pub looks_by : Own → ℕ → ℕ
+looks_by (an_own.Tiles jobs) damage = 26
+looks_by (an_own.Whole set) damage = 32 * damage
+
+abbrev pub picks_by : Own → ℕ → ℕ
+picks_by (an_own.Tiles jobs) work = 0
+picks_by (an_own.Whole set) work = 1000 * work
+
+abbrev pub first : StatementJobs → ℕ
+first j = first_by j.own (damage_in j)
+
+abbrev pub looks : StatementJobs → ℕ → ℕ
+looks j k = looks_by j.own (damage_in j)
+
+abbrev pub picks : StatementJobs → ℕ → ℕ
+picks j k = picks_by j.own (work_by j.size (op_view j.op) (was_in j) j.operands)
+
+-- ---- answers
+
+abbrev pub IsPieceOf : Own → StatementJobs → ℕ → Result Piece KernelRefusal → Type 0
+IsPieceOf (an_own.Tiles jobs) j k answer = IsTilePiece j.size (was_in j) (now_in j) (slice_index jobs.tiles.items k) answer
+IsPieceOf (an_own.Whole set) j k answer = IsWholePiece j.size (op_view j.op) (was_in j) j.operands answer
+
+-- what job k may answer
+unfoldable pub IsPiece : StatementJobs → ℕ → Result Piece KernelRefusal → Type 0
+IsPiece j k answer = IsPieceOf j.own j k answer
+
+-- pieces in the order of their jobs
+abbrev pub ArePieces : StatementJobs → List Piece → Type 0
+ArePieces j pieces = (k : ℕ) (p : Piece) → slice_get pieces k ≡ Some p → IsPiece j k (Ok p)
+
+-- a job for each tile
+abbrev pub are_tiles : Own → Bool
+are_tiles (an_own.Tiles jobs) = true
+are_tiles (an_own.Whole set) = false
+
+-- the patch, what stands beside the layer, so many tiles of the damage, and no work
+abbrev pub IsMadeOf : PatchState → Own → Made Beside → Type 0
+IsMadeOf patch (an_own.Tiles jobs) m = m ≡ record { patch = patch; beside = jobs.beside; evaluated = length jobs.tiles.items; worked = 0 }
+IsMadeOf patch (an_own.Whole set) m = ⊥
+
+-- the piece of one job for all, over the tiles in which an operand changed
+abbrev pub FitsSet : TileSetState → Piece → Type 0
+FitsSet set (Tile tile) = ⊥
+FitsSet set (Whole patch work) = set.size ≡ patch.size
+
+abbrev pub IsMadeWhole : TileSetState → Piece → Made Beside → Type 0
+IsMadeWhole set (Tile tile) m = ⊥
+IsMadeWhole set (Whole patch work) m = m ≡ record { patch = patch; beside = Nothing; evaluated = count_either set patch; worked = work }

@@ -1,0 +1,82 @@
+//! Statements that one job repairs whole: flow, spreading, regions.
+ghost use Rattle.std.specs.Prelude.{◌≡◌, ◌*◌, ◌∷◌, [], length, IsTrue};
+ghost use Rattle.std.specs.List.{All};
+ghost use Rattle.std.specs.Option.{option_copied};
+ghost use Rattle.map_defs.specs.Damage.{has_work};
+ghost use Rattle.map_defs.specs.Ops.{terms_of};
+ghost use Rattle.layer_tiles.specs.Operands.{size_of};
+ghost use Rattle.layer_tiles.specs.Tallies.{RisesBy};
+ghost use Rattle.tile_work.specs.Working.{before_of};
+ghost use Rattle.statement_parser.specs.Formed.{IsOp};
+ghost use Rattle.statement_parser.specs.Views.{op_view};
+ghost use Rattle.map_waves.specs.Operands.{IsOperand};
+ghost use Rattle.map_waves.specs.Statements.{damage_by, work_by};
+ghost use Rattle.op_jobs.specs.Whole.{IsRightBefore, IsWholeAnswer};
+
+use crate::whole_flow::repair_flow;
+use crate::whole_regions::repair_regions;
+use crate::whole_spread::repair_spread;
+use layer_tiles::{Change, KernelRefusal, Layer, Operands, Patch, Tally};
+use statement_parser::Op;
+use std::alloc::Global;
+
+/// Both operands of a statement that has two.
+fn both_of<'o, 'a>(operands: &'o Operands<'a>) -> (&'o Change<'a>, &'o Change<'a>)
+    requires { length operands.now ≡ 2 }
+    ensures { operands.now ≡ result.0.now ∷ result.1.now ∷ [] }
+{
+    let Some(first) = operands.get(0) else {
+        unreachable!()
+    };
+    let Some(second) = operands.get(1) else {
+        unreachable!()
+    };
+    (first, second)
+}
+
+/// The operand of a statement that has one.
+fn only_of<'o, 'a>(operands: &'o Operands<'a>) -> &'o Change<'a>
+    requires { length operands.now ≡ 1 }
+    ensures { operands.now ≡ result.now ∷ [] }
+{
+    let Some(only) = operands.get(0) else {
+        unreachable!()
+    };
+    only
+}
+
+/// The tiles of a statement's layer that an edit changes, all of them where there was no layer, and the units of work. At
+/// most 32 looks for each tile of the damage and 1000 picks for each unit of work.
+///
+/// # Errors
+///
+/// `Overflow` at the layer's least cell whose value is out of range, exactly where there is one; `NoMemory`.
+pub(crate) fn repair_whole<M: Tally>(
+    alloc: Global,
+    op: &Op,
+    operands: &Operands<'_>,
+    old: Option<&Layer>,
+    tally: &mut M,
+) -> Result<(Patch, u64), KernelRefusal>
+    requires formed { IsOp (op_view op.now) }
+    requires works { IsTrue (has_work (op_view op.now)) }
+    requires terms { length operands.now ≡ length (terms_of (op_view op.now)) }
+    requires operands { All (IsOperand (size_of operands.now)) operands.now }
+    requires right { IsRightBefore (size_of operands.now) (op_view op.now) operands.now (option_copied old) }
+    ensures answer { IsWholeAnswer (size_of operands.now) (op_view op.now) (before_of (option_copied old.entry)) operands.now result }
+    ensures tally { RisesBy (32 * length (damage_by (size_of operands.now) (op_view op.now) (before_of (option_copied old.entry)) operands.now)) (1000 * work_by (size_of operands.now) (op_view op.now) (before_of (option_copied old.entry)) operands.now) (M.counts tally.old) (M.counts tally.new) }
+{
+    match op {
+        Op::Flow { .. } => {
+            let (surface, weights) = both_of(operands);
+            repair_flow(alloc, old, surface, weights, tally)
+        }
+        Op::Spread { limit, .. } => {
+            let (sources, friction) = both_of(operands);
+            let limit = limit.unsigned_abs();
+            repair_spread(alloc, old, sources, friction, limit, tally)
+        }
+        Op::Region { .. } => repair_regions(alloc, old, only_of(operands), tally),
+        _ => unreachable!(),
+    }
+}

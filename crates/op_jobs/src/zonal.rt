@@ -1,0 +1,132 @@
+//! Zonal statements: their damage, and the book that is kept beside their layer.
+ghost use Rattle.std.specs.Prelude.{◌≡◌, ◌≢◌, ◌*◌, ◌<◌, length, is_some, Option, IfOk, IfSome};
+ghost use Rattle.std.specs.List.{All};
+ghost use Rattle.map_nums.specs.Grids.{Cells};
+ghost use Rattle.map_defs.specs.Ops.{Term, zonal_op};
+ghost use Rattle.map_defs.specs.Operate.{operand};
+ghost use Rattle.map_nums.specs.Tiles.{tiles, tiles_in};
+ghost use Rattle.layer_tiles.specs.Answers.{IsTileAnswer};
+ghost use Rattle.layer_tiles.specs.Operands.{cells_after};
+ghost use Rattle.layer_tiles.specs.Tallies.{RisesBy};
+ghost use Rattle.zonal_totals.specs.Books.{IsBookOf};
+ghost use Rattle.map_waves.specs.Operands.{IsOperand};
+ghost use Rattle.map_waves.specs.Statements.{damage_by, made};
+ghost use Rattle.op_jobs.specs.Zonal.{IsRightBook, zonal_tiles};
+
+use crate::damage::{all_tiles, tiles_of};
+use crate::zonal_kernel::zonal_tile;
+use crate::zonal_zones::add_zones;
+use damage_sets::{Class, damaged};
+use layer_tiles::{Extent, KernelRefusal, Operands, Tally, Tile};
+use map_nums::{NoMemory, Stat};
+use std::alloc::Global;
+use zonal_totals::Book;
+
+/// The book after an edit and the tiles of the damage, in ascending order: from the book that is kept of the statement, or
+/// all tiles where none is. At most eight looks for each tile of the damage.
+pub(crate) fn zonal_begin<M: Tally>(
+    alloc: Global,
+    stat: Stat,
+    operands: &Operands<'_>,
+    kept: Option<&Book>,
+    extent: Extent,
+    tally: &mut M,
+) -> Result<(Book, Vec<u32>), NoMemory>
+    requires two { length operands.now ≡ 2 }
+    requires operands { All (IsOperand extent) operands.now }
+    requires no_product { stat ≢ Stat.Product }
+    requires right { IfSome kept (λ book. IsRightBook stat extent operands.now book.now) }
+    ensures size { IfOk result (λ r. r.0.size ≡ extent) }
+    ensures book { IfOk result (λ r. IsBookOf r.0 (operand (cells_after operands.now) 0) (operand (cells_after operands.now) 1)) }
+    ensures damage { IfOk result (λ r. (t u : Term) (was : Option Cells) → is_some was ≡ is_some kept.entry → r.1.items ≡ damage_by extent (zonal_op stat t u) was operands.now) }
+    ensures looks { (t u : Term) (was : Option Cells) → is_some was ≡ is_some kept.entry → RisesBy (8 * length (damage_by extent (zonal_op stat t u) was operands.now)) 0 (M.counts tally.old) (M.counts tally.new) }
+{
+    match kept {
+        None => first_book(alloc, operands, extent, tally),
+        Some(book) => changed_book(alloc, stat, operands, book, tally),
+    }
+}
+
+/// The book of a statement of which none is kept, and all tiles.
+fn first_book<M: Tally>(
+    alloc: Global,
+    operands: &Operands<'_>,
+    extent: Extent,
+    tally: &mut M,
+) -> Result<(Book, Vec<u32>), NoMemory>
+    requires two { length operands.now ≡ 2 }
+    requires operands { All (IsOperand extent) operands.now }
+    ensures size { IfOk result (λ r. r.0.size ≡ extent) }
+    ensures book { IfOk result (λ r. IsBookOf r.0 (operand (cells_after operands.now) 0) (operand (cells_after operands.now) 1)) }
+    ensures damage { IfOk result (λ r. r.1.items ≡ tiles extent) }
+    ensures looks { RisesBy (2 * tiles_in extent) 0 (M.counts tally.old) (M.counts tally.new) }
+{
+    let Some(values) = operands.get(0) else {
+        unreachable!()
+    };
+    let Some(zones) = operands.get(1) else {
+        unreachable!()
+    };
+    let book = Book::fresh(alloc, values, zones, tally)?;
+    let list = all_tiles(alloc, extent)?;
+    Ok((book, list))
+}
+
+/// The book after an edit, from the one before, and the tiles that the edit damages.
+fn changed_book<M: Tally>(
+    alloc: Global,
+    stat: Stat,
+    operands: &Operands<'_>,
+    book: &Book,
+    tally: &mut M,
+) -> Result<(Book, Vec<u32>), NoMemory>
+    requires two { length operands.now ≡ 2 }
+    requires operands { All (IsOperand book.now.size) operands.now }
+    requires no_product { stat ≢ Stat.Product }
+    requires right { IsRightBook stat book.now.size operands.now book.now }
+    ensures size { IfOk result (λ r. r.0.size ≡ book.now.size) }
+    ensures book { IfOk result (λ r. IsBookOf r.0 (operand (cells_after operands.now) 0) (operand (cells_after operands.now) 1)) }
+    ensures damage { IfOk result (λ r. r.1.items ≡ zonal_tiles stat book.now.size operands.now) }
+    ensures looks { RisesBy (8 * length (zonal_tiles stat book.now.size operands.now)) 0 (M.counts tally.old) (M.counts tally.new) }
+{
+    let Some(values) = operands.get(0) else {
+        unreachable!()
+    };
+    let Some(zones) = operands.get(1) else {
+        unreachable!()
+    };
+    let mut set = damaged(alloc, Class::Cells, operands, tally)?;
+    let patch = book.changed(alloc, values, zones, tally)?;
+    add_zones(stat, book, &patch, &mut set);
+    let list = tiles_of(alloc, &set)?;
+    Ok((patch.into_book(), list))
+}
+
+/// Tile `tile` of a Zonal statement, from the book after the edit. One look.
+///
+/// # Errors
+///
+/// `Overflow` at the tile's least cell whose zone's statistic is out of range, exactly where there is one; `NoMemory`.
+pub(crate) fn zonal_piece<M: Tally>(
+    alloc: Global,
+    stat: Stat,
+    book: &Book,
+    operands: &Operands<'_>,
+    extent: Extent,
+    tile: u32,
+    tally: &mut M,
+) -> Result<Tile, KernelRefusal>
+    requires two { length operands.now ≡ 2 }
+    requires operands { All (IsOperand extent) operands.now }
+    requires no_product { stat ≢ Stat.Product }
+    requires within { tile < tiles_in extent }
+    requires size { book.now.size ≡ extent }
+    requires right { IsBookOf book.now (operand (cells_after operands.now) 0) (operand (cells_after operands.now) 1) }
+    ensures answer { (t u : Term) → IsTileAnswer extent (made extent (zonal_op stat t u) (cells_after operands.now)) tile result }
+    ensures tally { RisesBy 1 0 (M.counts tally.old) (M.counts tally.new) }
+{
+    let Some(zones) = operands.get(1) else {
+        unreachable!()
+    };
+    zonal_tile(alloc, stat, book, zones, tile, tally)
+}

@@ -1,0 +1,5 @@
+pub mod Giving
+pub mod Putting
+pub mod Plain
+pub mod Checks
+pub mod WorkedBodies

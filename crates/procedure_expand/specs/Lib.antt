@@ -1,0 +1,4 @@
+pub mod CalledProcedures
+pub mod Flats
+pub mod Answers
+pub mod WorkedProcedures

@@ -1,0 +1,4 @@
+use Rattle.statement_parser.proofs.procedures.+statements.Given as goal
+
+abbrev pub decreases-statements : goal.decreases-statements
+decreases-statements l = l.most
