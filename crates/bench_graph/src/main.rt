@@ -2,8 +2,9 @@
 //! statement needs the eight names before it.
 //!
 //! The first word is the number of rounds. With `copy` for the second, the graph is only copied; with `walk`, its
-//! statements are asked for by depth. What is printed is the sum of the depths of the last name, or the number of
-//! statements that were walked, over all rounds. `bench/graph` tells the time of a round from two such runs.
+//! statements are asked for by depth, one after another; with `list`, all at once. What is printed is the sum of the
+//! depths of the last name, or the number of statements that were found, over all rounds. `bench/graph` tells the time
+//! of a round from two such runs.
 #![tactic(auto)]
 
 ghost use Rattle.std.specs.Prelude.{◌≡◌, ◌+◌, ◌<◌, ◌≤◌, length, IfSome, Some};
@@ -28,6 +29,7 @@ enum Work {
     Define,
     Copy,
     Walk,
+    List,
 }
 
 // The name with a number below 100.
@@ -121,6 +123,7 @@ fn round(alloc: Global, work: Work, graph: &Graph, at: u32, last: &Name) -> Opti
         Work::Define => redefine(alloc, graph, at % (NAMES - 1) + 1, last),
         Work::Copy => Some(graph.copy(alloc).ok()?.depth(last)? as u64),
         Work::Walk => Some(walk(graph)),
+        Work::List => Some(graph.ordered(alloc).ok()?.len() as u64),
     }
 }
 
@@ -146,6 +149,7 @@ fn task(rt: &HostRuntime) -> io::Result<(u32, Work)> {
     let work = match words.next() {
         Some(word) if word.as_str() == "copy" => Work::Copy,
         Some(word) if word.as_str() == "walk" => Work::Walk,
+        Some(word) if word.as_str() == "list" => Work::List,
         _ => Work::Define,
     };
     Ok((count, work))

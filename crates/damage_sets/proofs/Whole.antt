@@ -85,13 +85,13 @@ any_filter p q (x ∷ xs) = which (q x) (any_filter p q xs)
     which true e = ap (λ b. p x || b) e
     which false e = e
 
-any_so : (p q : ℕ → Bool) (n i : ℕ) → i < n → q i ≡ true → p i ≡ true → list_any p (filter q (range_with_len 0 n)) ≡ true
+pub any_so : (p q : ℕ → Bool) (n i : ℕ) → i < n → q i ≡ true → p i ≡ true → list_any p (filter q (range_with_len 0 n)) ≡ true
 any_so p q n i l a b =
     let here : get_or (range_with_len 0 n) i i ≡ i = get_or-range_with_len 0 n i i l ∙ omega arith in
     any_filter p q (range_with_len 0 n)
     ∙ list_any_at (λ x. q x && p x) (range_with_len 0 n) i i (omega (arith, l, length-range_with_len 0 n)) (ap (λ x. q x && p x) here ∙ and_from (q i) (p i) a b)
 
-any_one : (p q : ℕ → Bool) (n : ℕ) → list_any p (filter q (range_with_len 0 n)) ≡ true → (i : ℕ) × (i < n) × (q i ≡ true) × (p i ≡ true)
+pub any_one : (p q : ℕ → Bool) (n : ℕ) → list_any p (filter q (range_with_len 0 n)) ≡ true → (i : ℕ) × (i < n) × (q i ≡ true) × (p i ≡ true)
 any_one p q n e =
     let a = Any-from_list_any (λ x. q x && p x) (range_with_len 0 n) (sym (any_filter p q (range_with_len 0 n)) ∙ e) in
     let l : a.0 < n = omega (arith, a.2, length-range_with_len 0 n) in

@@ -1,8 +1,8 @@
 -- The operands of a statement that stood before, and wasn't written, were all there.
-use Rattle.std.proofs.Common.{◌≡◌, ◌<◌, ◌+◌, ℕ, ℤ, zero, suc, Bool, true, false, List, [], ◌∷◌, map, Option, Some, None, IsSome, option_map, unwrap_or, slice_get, if◌then◌else◌, refl, sym, ap, subst, ◌∙◌, arith}
+use Rattle.std.proofs.Common.{◌≡◌, ℕ, ℤ, zero, suc, Bool, true, false, List, [], ◌∷◌, map, Option, Some, None, IsSome, option_map, unwrap_or, slice_get, if◌then◌else◌, refl, sym, ap, subst, ◌∙◌, arith}
 use Rattle.std.specs.List.{All}
 use Rattle.std.proofs.lemmas.Option.{none-some}
-use Rattle.map_nums.specs.Grids.{Size, Cells, Grid, constant}
+use Rattle.map_nums.specs.Grids.{Cells, Grid, constant}
 use Rattle.map_nums.specs.Options.{all_some}
 use Rattle.map_defs.specs.Ops.{Name, Term, layer_term, number_term, Op, terms_of}
 use Rattle.map_defs.specs.Operate.{operate}
@@ -10,12 +10,11 @@ use Rattle.layer_tiles.specs.Changes.{ChangeState, constant_change}
 use Rattle.map_edits.specs.LayerDefs.{by_op, layers, find_making, nodes_of}
 use Rattle.map_edits.specs.EngineStates.{EngineState, term_cells, value_of}
 use Rattle.map_edits.specs.EngineStates as states
-use Rattle.map_edits.specs.WholeStates.{cells_of}
-use Rattle.map_edits.specs.Touches.{Touch, is_whole}
+use Rattle.map_edits.specs.Touches.{Touch}
 use Rattle.map_edits.specs.Laws.{HasNoCycle}
 use Rattle.map_edits.proofs.Unfolds.{value_unfolds}
 use Rattle.map_waves.specs.Statements.{made, cells_were}
-use Rattle.map_waves.specs.Plans.{Plan, reckoned, operand_in, changes_to, operands_at}
+use Rattle.map_waves.specs.Plans.{Plan, operand_in, changes_to, operands_at}
 use Rattle.edit_plans.specs.PlansFor.{IsRefFor, AreRefsFor, IsPlanFor}
 use Rattle.edit_plans.specs.Touching.{ChangesOnly}
 use Rattle.map_waves.specs.declared.plans.Ref.{Ref}

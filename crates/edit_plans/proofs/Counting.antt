@@ -1,23 +1,23 @@
 -- What each statement of a plan counts.
-use Rattle.std.proofs.Common.{◌≡◌, ℕ, zero, suc, Bool, true, false, List, [], ◌∷◌, map, length, Option, Some, None, option_map, unwrap_or, slice_get, if◌then◌else◌, refl, sym, ap, ◌∙◌, ◌<◌, ◌+◌, arith}
+use Rattle.std.proofs.Common.{◌≡◌, ℕ, suc, Bool, List, [], ◌∷◌, map, Option, Some, None, option_map, unwrap_or, slice_get, if◌then◌else◌, refl, sym, ap, ◌∙◌, arith}
 use Rattle.std.proofs.lemmas.Option.{none-some}
-use Rattle.map_nums.specs.Grids.{Size, Cells, Grid}
+use Rattle.map_nums.specs.Grids.{Size, Cells}
 use Rattle.map_nums.specs.Options.{all_some}
 use Rattle.map_defs.specs.Ops.{Name, Term, Op, terms_of}
 use Rattle.map_defs.specs.Damage.{op_damage, changed_tiles}
 use Rattle.map_defs.specs.Work.{op_work}
 use Rattle.layer_tiles.specs.Operands.{cells_after}
-use Rattle.map_edits.specs.LayerDefs.{by_op, LayerDef, layers, find_making, nodes_of}
+use Rattle.map_edits.specs.LayerDefs.{by_op, LayerDef, nodes_of}
 use Rattle.map_edits.specs.EngineStates.{EngineState, term_cells, value_of}
 use Rattle.map_edits.specs.WholeStates.{cells_of}
-use Rattle.map_edits.specs.Touches.{Touch, is_whole}
+use Rattle.map_edits.specs.Touches.{Touch}
 use Rattle.map_edits.specs.LayerChanges.{now_of, standing, operands_in, changed_of, damage_of, work_of}
 use Rattle.map_edits.specs.Laws.{HasNoCycle}
-use Rattle.map_waves.specs.Statements.{made, cells_were}
+use Rattle.map_waves.specs.Statements.{cells_were}
 use Rattle.map_waves.specs.Plans.{Plan, reckoned, operands_at, change_at, damage_at, work_at}
 use Rattle.edit_plans.specs.PlansFor.{IsPlanFor}
 use Rattle.edit_plans.specs.Touching.{ChangesOnly}
-use Rattle.edit_plans.proofs.Valued.{terms_after, all_made}
+use Rattle.edit_plans.proofs.Valued.{all_made, operands_made}
 use Rattle.edit_plans.proofs.Before.{stood_on, reckoned_stood}
 
 -- where all are there, each is
@@ -53,7 +53,7 @@ module _ (touch : Touch) (s t : EngineState) (p : Plan) (sources names : List Na
 
   after_is : operands_in t op ≡ cells_after (operands_at p k)
   after_is = all_each (term_cells t.size (value_of t)) (terms_of op) (cells_after (operands_at p k))
-      (terms_after touch s t p sources names plan k (all_made touch s t p sources names plan none k) (terms_of op) (p.step k).refs (plan.steps k n at).refs)
+      (operands_made touch s t p sources names plan none k n at)
 
   now_is : now_of t n ≡ (change_at p k).cells
   now_is = ap (λ (o : Option Cells). unwrap_or o []) (all_made touch s t p sources names plan none (suc k) k n (omega arith) at)

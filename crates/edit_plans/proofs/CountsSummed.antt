@@ -1,10 +1,8 @@
 -- What an edit counts by place is what its sources and its plan count.
-use Rattle.std.proofs.Common.{◌≡◌, ℕ, zero, suc, ◌+◌, ◌≤◌, Bool, true, false, List, [], ◌∷◌, map, filter, take, length, sum_by, Option, Some, None, is_some, slice_get, refl, sym, ap, subst, ◌∙◌, arith}
+use Rattle.std.proofs.Common.{◌≡◌, ℕ, ◌+◌, Bool, List, [], ◌∷◌, filter, length, sum_by, Option, Some, None, is_some, slice_get, refl, sym, ap, ◌∙◌, arith}
 use Rattle.std.proofs.lemmas.List.{take_all}
-use Rattle.map_defs.specs.Ops.{Name, Op}
-use Rattle.map_defs.specs.Nodes.{Node}
-use Rattle.map_defs.specs.Depths.{by_depth}
-use Rattle.map_edits.specs.LayerDefs.{Making, given_grid, by_op, LayerDef, layers, find_making, nodes_of}
+use Rattle.map_defs.specs.Ops.{Name}
+use Rattle.map_edits.specs.LayerDefs.{Making, by_op, LayerDef, layers, find_making, nodes_of}
 use Rattle.map_edits.specs.EngineStates.{EngineState, value_of}
 use Rattle.map_edits.specs.Touches.{Touch}
 use Rattle.map_edits.specs.LayerChanges.{changed_of, damage_of, work_of}
@@ -17,7 +15,7 @@ use Rattle.edit_plans.specs.Touching.{ChangesOnly}
 use Rattle.edit_plans.specs.Orderly.{IsOrderly}
 use Rattle.edit_plans.specs.SourceCounts.{is_given, joined, counts_of_sources, counts_to_place}
 use Rattle.edit_plans.specs.CountLaws.{CountsAreSummed}
-use Rattle.edit_plans.proofs.LayersMade.{EachLayer, IsFoundBy, each_layer_more, layers_found}
+use Rattle.edit_plans.proofs.LayersMade.{EachLayer, IsFoundBy, layers_found}
 use Rattle.edit_plans.proofs.Summed.{AllTold, sum_by_place, total_names}
 use Rattle.edit_plans.proofs.Counting.{damage_is, work_is, changed_is}
 

@@ -1,27 +1,23 @@
 -- The first fault of a state is the first fault of its plan.
-use Rattle.std.proofs.Common.{◌≡◌, ℕ, zero, suc, ◌<◌, ◌≤◌, ◌&&◌, nat_lt, Bool, true, false, cond, List, [], ◌∷◌, map, filter, length, position, Option, Some, None, is_some, option_map, slice_get, get_or, if◌then◌else◌, ◌↔◌, refl, sym, ap, ◌∙◌, arith}
+use Rattle.std.proofs.Common.{◌≡◌, ℕ, zero, suc, ◌<◌, Bool, true, false, cond, List, [], ◌∷◌, map, filter, length, Option, Some, None, is_some, option_map, slice_get, get_or, ◌↔◌, refl, sym, ap, ◌∙◌, arith}
 use Rattle.std.proofs.lemmas.Option.{none-some, slice_get_within, slice_get-get_or}
-use Rattle.map_nums.specs.Grids.{Size, Cells, Grid}
-use Rattle.map_nums.specs.Answers.{is_wide}
 use Rattle.map_nums.specs.Options.{first_some}
-use Rattle.map_defs.specs.Ops.{Name, Term, terms_of, Op, local_op, difference_op, ratio_op, rating_op, focal_op, zonal_op, form_op, direction_op, flow_op, spread_op, sight_op, region_op}
+use Rattle.map_defs.specs.Ops.{Name}
 use Rattle.map_defs.specs.Nodes.{Node}
 use Rattle.map_defs.specs.Depths.{by_depth}
-use Rattle.map_defs.specs.Sight.{most_viewers}
 use Rattle.layer_tiles.specs.Operands.{cells_after}
-use Rattle.map_edits.specs.LayerDefs.{Making, by_op, layers, find_making, nodes_of}
+use Rattle.map_edits.specs.LayerDefs.{nodes_of}
 use Rattle.map_edits.specs.EngineStates.{EngineState, value_of}
-use Rattle.map_edits.specs.Faults.{Fault, too_many_viewers, viewers_among, viewers_of, wide_place, overflow_at, fault_of_layer, fault_of}
+use Rattle.map_edits.specs.Faults.{Fault, fault_of_layer, fault_of}
 use Rattle.map_edits.specs.Laws.{HasNoCycle}
 use Rattle.map_edits.specs.Touches.{Touch}
 use Rattle.map_waves.specs.Statements.{made, viewers_in, fault_in, wide_at, too_many}
 use Rattle.map_waves.specs.Statements as waves
-use Rattle.map_waves.specs.Plans.{Plan, operand_in, changes_to, operands_at, fault_at, change_at}
-use Rattle.edit_plans.specs.PlansFor.{IsPlanFor, AreRefsFor, defined_names}
+use Rattle.map_waves.specs.Plans.{Plan, operands_at, fault_at}
+use Rattle.edit_plans.specs.PlansFor.{IsPlanFor}
 use Rattle.edit_plans.specs.PlanLaws.{FirstFaultIsTold, NoFaultIsNone}
 use Rattle.edit_plans.specs.Telling.{fault_told}
-use Rattle.map_waves.specs.declared.plans.Ref.{Ref}
-use Rattle.edit_plans.proofs.Valued.{terms_after, all_made}
+use Rattle.edit_plans.proofs.Valued.{operands_made}
 use Rattle.edit_plans.proofs.LayerFaults.{undefined_faultless, layer_fault}
 
 -- ---- the first of a list
@@ -76,7 +72,7 @@ module _ (touch : Touch) (s t : EngineState) (p : Plan) (sources names : List Na
   pub fault_is_told : (k : ℕ) (n : Name) → slice_get names k ≡ Some n → fault_of_layer t n ≡ option_map (fault_told t.size n) (fault_at p k)
   fault_is_told k n at =
       let step = plan.steps k n at in
-      let all = terms_after touch s t p sources names plan k (all_made touch s t p sources names plan none k) (terms_of (p.step k).op) (p.step k).refs step.refs in
+      let all = operands_made touch s t p sources names plan none k n at in
       layer_fault t none n (p.step k).op (cells_after (operands_at p k)) step.making all
       ∙ ap (λ q. option_map (fault_told t.size n) (fault_in q (p.step k).op (cells_after (operands_at p k)))) (sym plan.size)
 

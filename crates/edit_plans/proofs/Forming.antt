@@ -1,31 +1,23 @@
 -- Steps that are planned are the plan that an edit makes.
-use Rattle.std.proofs.Common.{◌≡◌, ℕ, zero, suc, ◌+◌, ◌<◌, ◌≤◌, max, Bool, true, false, cond, not, List, [], ◌∷◌, ◌++◌, map, filter, flat_map, length, get_or, position, Option, Some, None, is_some, option_map, slice_get, bytes_eq, ◌⊎◌, inl, inr, refl, sym, ap, subst, ◌∙◌, arith}
-use Rattle.std.specs.Bool.{⊤}
-use Rattle.std.specs.List.{All, range_with_len}
-use Rattle.std.specs.Map.{lookup}
-use Rattle.std.proofs.lemmas.Bool.{cases_lt}
-use Rattle.std.proofs.lemmas.List.Quantifiers.{position-Some}
-use Rattle.std.proofs.lemmas.Option.{none-some, same_Some, slice_get_within, slice_get-get_or}
-use Rattle.map_defs.specs.Ops.{Name, Term, layer_term, number_term, terms_of, term_names, needs_of}
-use Rattle.map_defs.specs.Nodes.{Node, lacks, find_node, needs_in}
-use Rattle.map_defs.specs.Depths.{depth_in, by_depth}
-use Rattle.map_edits.specs.LayerDefs.{by_op, layers, find_making, nodes_of}
+use Rattle.std.proofs.Common.{◌≡◌, ℕ, ◌<◌, Bool, cond, not, List, [], ◌∷◌, map, filter, length, get_or, Option, Some, is_some, slice_get, refl, sym, ap, subst, ◌∙◌, arith}
+use Rattle.std.proofs.lemmas.Option.{slice_get_within, slice_get-get_or}
+use Rattle.map_defs.specs.Ops.{Name}
+use Rattle.map_defs.specs.Nodes.{Node, lacks}
+use Rattle.map_defs.specs.Depths.{by_depth}
+use Rattle.map_edits.specs.LayerDefs.{by_op, nodes_of}
 use Rattle.map_edits.specs.EngineStates.{EngineState, value_of}
-use Rattle.map_edits.specs.WholeStates.{cells_of}
-use Rattle.map_edits.specs.Touches.{Touch, is_whole}
-use Rattle.map_edits.specs.Laws.{HasNoCycle, is_among}
+use Rattle.map_edits.specs.Touches.{Touch}
+use Rattle.map_edits.specs.Laws.{HasNoCycle}
 use Rattle.map_edits.proofs.Defined.{value_is_defined}
 use Rattle.statement_parser.specs.Views.{op_view}
 use Rattle.statement_parser.specs.declared.op.Op.{Op as Given}
 use Rattle.map_waves.specs.Keeping.{was_of}
-use Rattle.map_waves.specs.Bases.{source_in, kept_by, step_by, plan_of}
-use Rattle.map_waves.specs.declared.plans.Ref.{Ref}
+use Rattle.map_waves.specs.Bases.{kept_by, step_by, plan_of}
 use Rattle.map_waves.specs.declared.plans.Step.{Step}
 use Rattle.map_waves.specs.declared.plans.Base.{Base}
 use Rattle.edit_plans.specs.PlansFor.{IsStepFor, IsPlanFor, defined_names}
-use Rattle.edit_plans.specs.Planned.{whole_names, IsPlannedStep, IsPlanned}
+use Rattle.edit_plans.specs.Planned.{FlatDef, IsPlanned}
 use Rattle.edit_plans.specs.PlannedLaws.{IsPlannedFrom, PlannedIsPlan}
-use Rattle.edit_plans.specs.declared.planning.Flat.{Flat}
 
 filter_same : (p q : Node → Bool) → ((x : Node) → p x ≡ q x) → (xs : List Node) → filter p xs ≡ filter q xs
 filter_same p q same [] = refl
@@ -39,7 +31,7 @@ step_at names steps count k n at = go steps (let within = slice_get_within names
     go [] h = absurd (omega arith)
     go (x ∷ xs) {j} h = (get_or (x ∷ xs) j x, slice_get-get_or (x ∷ xs) j x h)
 
-module _ {B : Type 0} (touch : Touch) (s t : EngineState) (base : Base B) (sources : List Name) (flats : List (List ℕ × Flat)) (old names : List Name) (steps : List (Step Given)) (none : HasNoCycle (nodes_of t.entries))
+module _ {B : Type 0} (touch : Touch) (s t : EngineState) (base : Base B) (sources : List Name) (flats : List (List ℕ × FlatDef)) (old names : List Name) (steps : List (Step Given)) (none : HasNoCycle (nodes_of t.entries))
     (made : IsPlannedFrom touch s t base sources flats old) (planned : IsPlanned (nodes_of t.entries) sources flats old names steps) where
   names_defined : names ≡ defined_names t
   names_defined =
@@ -52,10 +44,10 @@ module _ {B : Type 0} (touch : Touch) (s t : EngineState) (base : Base B) (sourc
       let x = r.0 in
       let step = planned.each k n x at r.1 in
       subst (λ (o : Option (Step Given)). IsStepFor touch s t (step_by op_view base o) sources names k n) (sym r.1) (record {
-        making = made.statements n (record { op = x.op; written = x.written }) step.from;
+        making = made.statements n step.flat step.from ∙ ap (λ o. Some (by_op o)) (sym step.op);
         refs = step.refs;
-        was = ap (λ o. was_of (kept_by base o)) step.kept ∙ made.kept n (record { op = x.op; written = x.written }) step.from;
-        written = made.written n (record { op = x.op; written = x.written }) step.from;
+        was = ap (λ o. was_of (kept_by base o)) step.kept ∙ made.kept n step.flat step.from;
+        written = step.written ∙ made.written n step.flat step.from;
       })
 
   pub is_plan : IsPlanFor touch s t (plan_of op_view base steps) sources names

@@ -7,7 +7,7 @@ use Rattle.map_nums.specs.Options.{all_some}
 use Rattle.map_defs.specs.Ops.{Name, Term, terms_of, Op, local_op, difference_op, ratio_op, rating_op, focal_op, zonal_op, form_op, direction_op, flow_op, spread_op, sight_op, region_op}
 use Rattle.map_defs.specs.Operate.{operate, operand}
 use Rattle.map_defs.specs.Sight.{most_viewers}
-use Rattle.map_edits.specs.LayerDefs.{Making, by_op, layers, find_making, nodes_of}
+use Rattle.map_edits.specs.LayerDefs.{by_op, layers, find_making, nodes_of}
 use Rattle.map_edits.specs.EngineStates.{EngineState, term_cells, value_of}
 use Rattle.map_edits.specs.EngineStates as states
 use Rattle.map_edits.specs.Faults.{Fault, too_many_viewers, viewers_among, viewers_of, wide_place, overflow_at, fault_of_layer}

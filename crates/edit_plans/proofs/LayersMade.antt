@@ -1,10 +1,10 @@
 -- Where names stand apart, each layer is the one that is found by its name.
-use Rattle.std.proofs.Common.{◌≡◌, ℕ, Bool, true, false, cond, ◌||◌, List, [], ◌∷◌, map, find, Option, Some, None, option_map, bytes_eq, refl, sym, ap, ◌∙◌}
+use Rattle.std.proofs.Common.{◌≡◌, Bool, true, false, cond, List, [], ◌∷◌, map, find, Some, None, option_map, bytes_eq, refl, sym, ap, ◌∙◌}
 use Rattle.std.specs.Bool.{⊤}
 use Rattle.std.proofs.lemmas.Bool.{or_parts}
 use Rattle.std.proofs.lemmas.Option.{none-some}
 use Rattle.map_defs.specs.Ops.{Name}
-use Rattle.map_edits.specs.LayerDefs.{Making, LayerDef, layers, find_making, node_of_layer, nodes_of}
+use Rattle.map_edits.specs.LayerDefs.{LayerDef, layers, find_making, node_of_layer}
 use Rattle.map_edits.specs.EngineStates.{EngineState}
 use Rattle.map_edits.specs.Laws.{is_named_in}
 use Rattle.map_edits.proofs.Among.{same_name, bytes_eq-self}

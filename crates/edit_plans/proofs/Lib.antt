@@ -1,21 +1,22 @@
-mod Operating
-mod Valued
-mod LayerFaults
-mod Faulted
-mod Before
-mod Counting
-mod Summed
-mod LayersMade
-mod CountsSummed
-mod OneSource
-mod TouchedAlone
-mod Restamped
-mod RightBefore
-mod Reading
-mod Depths
-mod Positions
-mod Operands
-mod Forming
-mod Ordered
-mod Listing
-mod Steps
+pub mod There
+pub mod Operating
+pub mod Valued
+pub mod LayerFaults
+pub mod Faulted
+pub mod Before
+pub mod Counting
+pub mod Summed
+pub mod LayersMade
+pub mod CountsSummed
+pub mod OneSource
+pub mod TouchedAlone
+pub mod Restamped
+pub mod RightBefore
+pub mod Reading
+pub mod Taken
+pub mod Positions
+pub mod Operands
+pub mod Forming
+pub mod Ordered
+pub mod Listing
+pub mod Steps

@@ -4,17 +4,12 @@ use Rattle.std.proofs.lemmas.Bool.{true≢false}
 use Rattle.std.proofs.lemmas.List.Sums.{sum_by-cons}
 use Rattle.map_nums.specs.Grids.{Cells, Grid}
 use Rattle.map_nums.specs.declared.Stat.TheVariants as stats
-use Rattle.map_nums.specs.Tiles.{tiles}
 use Rattle.map_defs.specs.Ops.{Name, local_op}
-use Rattle.map_defs.specs.Differences.{tile_has}
 use Rattle.map_edits.specs.LayerDefs.{Making, given_grid, by_op, LayerDef, layers, find_making, node_of_layer, nodes_of}
 use Rattle.map_edits.specs.EngineStates.{EngineState, made, value_of}
-use Rattle.map_edits.specs.WholeStates.{cells_of}
-use Rattle.map_edits.specs.Painting.{holds}
-use Rattle.map_edits.specs.EditForms.{Rectangle}
 use Rattle.map_edits.specs.Touches.{Touch, nothing, whole, within, source_damage}
 use Rattle.map_edits.specs.LayerChanges.{changed_of, damage_of, work_of}
-use Rattle.map_edits.specs.EditCounts.{Counts, defined_layers}
+use Rattle.map_edits.specs.EditCounts.{Counts}
 use Rattle.map_edits.specs.Laws.{HasNoCycle, is_named_in}
 use Rattle.map_edits.proofs.Among.{same_name, bytes_eq-turned}
 use Rattle.map_edits.proofs.Looks.{node_of_layer-name}
@@ -24,7 +19,7 @@ use Rattle.map_edits.proofs.Once.{IsOnce}
 use Rattle.map_edits.proofs.GroupsOnce.{groups_once}
 use Rattle.edit_plans.specs.Touching.{touches_source, ChangesOnly}
 use Rattle.edit_plans.specs.Orderly.{IsOrderly}
-use Rattle.edit_plans.specs.SourceCounts.{is_given, no_counts, counts_of_sources, counts_of_source, counts_of_touched}
+use Rattle.edit_plans.specs.SourceCounts.{is_given, no_counts, counts_of_sources, counts_of_source}
 use Rattle.edit_plans.specs.CountLaws.{OneSourceCounts}
 use Rattle.edit_plans.proofs.LayersMade.{EachLayer, IsFoundBy, none_named, layers_found}
 

@@ -1,25 +1,25 @@
 -- The operands of a statement that is planned.
-use Rattle.std.proofs.Common.{◌≡◌, ℕ, zero, suc, ◌+◌, ◌<◌, ◌≤◌, max, Bool, true, false, cond, not, ◌||◌, ◌&&◌, List, [], ◌∷◌, ◌++◌, map, filter, flat_map, fold, take, length, get_or, position, Option, Some, None, is_some, option_map, slice_get, bytes_eq, refl, sym, ap, subst, ◌∙◌, arith, if◌then◌else◌}
+use Rattle.std.proofs.Common.{◌≡◌, ℕ, zero, suc, ◌+◌, ◌<◌, max, Bool, true, false, cond, not, ◌||◌, ◌&&◌, List, [], ◌∷◌, ◌++◌, map, filter, flat_map, fold, take, length, get_or, position, Option, Some, None, is_some, option_map, slice_get, bytes_eq, refl, sym, ap, subst, ◌∙◌, arith, if◌then◌else◌}
 use Rattle.std.specs.List.{list_any}
 use Rattle.std.specs.Option.{option_or}
-use Rattle.std.proofs.lemmas.Bool.{true≢false, or_left, or_right}
+use Rattle.std.proofs.lemmas.Bool.{true≢false, false≢true, or_left, or_right, and_from}
 use Rattle.std.proofs.lemmas.Option.{none-some, same_Some, slice_get_within, slice_get-get_or}
 use Rattle.map_nums.specs.Options.{all_some, first_some}
-use Rattle.map_defs.specs.Ops.{Name, Term, layer_term, number_term, terms_of, term_names}
+use Rattle.map_defs.specs.Ops.{Name, Term, layer_term, number_term, term_names}
 use Rattle.map_defs.specs.Nodes.{Node, find_node, needs_in, lacks}
 use Rattle.map_defs.specs.Depths.{depth_in}
 use Rattle.map_edits.specs.Laws.{is_among, is_named_in, HasNoCycle}
 use Rattle.map_edits.proofs.Among.{same_name, bytes_eq-self, bytes_eq-turned}
-use Rattle.map_edits.proofs.Looks.{find_node-name}
 use Rattle.map_edits.proofs.Unfolds.{lacks_unfolds, depth_unfolds, depth_by}
 use Rattle.statement_parser.specs.declared.op.Op.{Op as Given}
 use Rattle.map_waves.specs.declared.plans.Ref.{Ref}
 use Rattle.map_waves.specs.declared.plans.Ref.TheVariants.{Source, Statement, Number}
 use Rattle.map_waves.specs.declared.plans.Step.{Step}
 use Rattle.edit_plans.specs.PlansFor.{IsRefFor, AreRefsFor}
-use Rattle.edit_plans.specs.Planned.{place_for, ref_for, ref_depth, is_source_node, AreSources, whole_names}
-use Rattle.edit_plans.proofs.Depths.{taken_to}
+use Rattle.edit_plans.specs.Planned.{place_for, ref_for, ref_depth, AreSources, whole_names}
+use Rattle.edit_plans.proofs.Taken.{taken_to}
 use Rattle.std.proofs.lemmas.List.{map-append}
+use Rattle.edit_plans.proofs.There.{some_map, all_cons}
 use Rattle.edit_plans.proofs.Positions.{some_position, position_at, any_at_place, get_more}
 
 -- ---- operands by name
@@ -71,10 +71,6 @@ some_or : {X : Type 0} (o q : Option X) → is_some (option_or o q) ≡ (is_some
 some_or None q = refl
 some_or (Some x) q = refl
 
-some_map : {X Y : Type 0} (f : X → Y) (o : Option X) → is_some (option_map f o) ≡ is_some o
-some_map f None = refl
-some_map f (Some x) = refl
-
 place_is : (sources names : List Name) (n : Name) → is_some (place_for sources names n) ≡ (list_any (bytes_eq n) sources || list_any (bytes_eq n) names)
 place_is sources names n =
     some_or (option_map (λ i. Source i) (position (bytes_eq n) sources)) (option_map (λ j. Statement j) (position (bytes_eq n) names))
@@ -104,79 +100,72 @@ kept_named q n (x ∷ xs) = go (q x.name) refl (bytes_eq x.name n) refl (kept_na
         h ∙ ap (λ b. is_named_in n xs && b) no ∙ none (is_named_in n xs) ∙ sym no
     go false e false differs h = h
 
+-- what lacks no name needs none that lacks one
+none_lacking : (lack_of : Name → Option Name) (ns : List Name) (m : Name) → first_some (map lack_of ns) ≡ None → is_among m ns ≡ true → lack_of m ≡ None
+none_lacking lack_of [] m none at = absurd (false≢true at)
+none_lacking lack_of (n ∷ ns) m none at = go (lack_of n) refl none (bytes_eq n m) refl at (none_lacking lack_of ns m)
+  where
+    go : (o : Option Name) → lack_of n ≡ o → first_some (o ∷ map lack_of ns) ≡ None → (b : Bool) → bytes_eq n m ≡ b → (b || is_among m ns) ≡ true
+        → (first_some (map lack_of ns) ≡ None → is_among m ns ≡ true → lack_of m ≡ None) → lack_of m ≡ None
+    go (Some l) is e b same at rest = absurd (none-some l (sym e))
+    go None is e true same at rest = ap lack_of (sym (same_name n m same)) ∙ is
+    go None is e false same at rest = rest e at
+
 module _ (nodes : List Node) (acyclic : HasNoCycle nodes) (sources : List Name) (are : AreSources nodes sources) where
-  abbrev whole : Name → Bool
-  whole n = not (is_some (lacks nodes n))
+  -- what is needed of a node that lacks no name lacks none
+  pub need_whole : (n m : Name) → lacks nodes n ≡ None → is_among m (needs_in nodes n) ≡ true → lacks nodes m ≡ None
+  need_whole n m none needed = go (find_node nodes n) refl
+    where
+      go : (o : Option Node) → find_node nodes n ≡ o → lacks nodes m ≡ None
+      go None e = absurd (none-some n (sym none ∙ lacks_unfolds nodes acyclic n ∙ ap (λ o. if is_some o then first_some (map (lacks nodes) (needs_in nodes n)) else Some n) e))
+      go (Some node) e =
+          none_lacking (lacks nodes) (needs_in nodes n) m
+          (sym (ap (λ o. if is_some o then first_some (map (lacks nodes) (needs_in nodes n)) else Some n) e) ∙ sym (lacks_unfolds nodes acyclic n) ∙ none) needed
 
-  source_any : (n : Name) → list_any (bytes_eq n) sources ≡ is_source_node (find_node nodes n)
-  source_any n = sym (some_position (bytes_eq n) sources) ∙ are n
-
-  -- a name has a place among the sources and the whole statements before exactly where it lacks none
-  pub place_there : (before : List Node) (m : Name) → ((node : Node) (ns : List Name) → find_node nodes m ≡ Some node → node.needs ≡ Some ns → is_named_in m before ≡ true)
-      → is_some (place_for sources (whole_names nodes before) m) ≡ whole m
-  place_there before m earlier =
+  -- a name that lacks none is a source, or one of the whole statements before
+  pub place_there : (before : List Node) (m : Name) → lacks nodes m ≡ None → ((node : Node) (ns : List Name) → find_node nodes m ≡ Some node → node.needs ≡ Some ns → is_named_in m before ≡ true)
+      → is_some (place_for sources (whole_names nodes before) m) ≡ true
+  place_there before m none earlier =
       place_is sources (whole_names nodes before) m
-      ∙ ap (λ b. b || list_any (bytes_eq m) (whole_names nodes before)) (source_any m)
-      ∙ ap (λ b. is_source_node (find_node nodes m) || b) (kept_named whole m before)
       ∙ go (find_node nodes m) refl
     where
-      no_needs : (node : Node) → find_node nodes m ≡ Some node → node.needs ≡ None → whole m ≡ true
-      no_needs node e is =
-          let needs : needs_in nodes m ≡ [] = rw e (rw is refl) in
-          let there : (if is_some (find_node nodes m) then first_some (map (lacks nodes) (needs_in nodes m)) else Some m) ≡ None = ap (λ ms. if is_some (find_node nodes m) then first_some (map (lacks nodes) ms) else Some m) needs ∙ ap (λ o. if is_some o then None else Some m) e in
-          ap (λ o. not (is_some o)) (lacks_unfolds nodes acyclic m ∙ there)
+      by_needs : (node : Node) → find_node nodes m ≡ Some node → (o : Option (List Name)) → node.needs ≡ o → (list_any (bytes_eq m) sources || list_any (bytes_eq m) (whole_names nodes before)) ≡ true
+      by_needs node e None is =
+          or_left (list_any (bytes_eq m) sources) (list_any (bytes_eq m) (whole_names nodes before))
+          (sym (some_position (bytes_eq m) sources) ∙ are m node e ∙ ap (λ o. not (is_some o)) is)
+      by_needs node e (Some ns) is =
+          or_right (list_any (bytes_eq m) sources) (list_any (bytes_eq m) (whole_names nodes before))
+          (kept_named (λ n. not (is_some (lacks nodes n))) m before ∙ ap (λ b. b && not (is_some (lacks nodes m))) (earlier node ns e is) ∙ ap (λ o. not (is_some o)) none)
 
-      none : (b : Bool) → (b && false) ≡ false
-      none true = refl
-      none false = refl
-
-      by_needs : (node : Node) → find_node nodes m ≡ Some node → (o : Option (List Name)) → node.needs ≡ o → (not (is_some o) || (is_named_in m before && whole m)) ≡ whole m
-      by_needs node e None is = sym (no_needs node e is)
-      by_needs node e (Some ns) is = ap (λ b. b && whole m) (earlier node ns e is)
-
-      go : (o : Option Node) → find_node nodes m ≡ o → (is_source_node o || (is_named_in m before && whole m)) ≡ whole m
-      go None e =
-          let gone : (if is_some (find_node nodes m) then first_some (map (lacks nodes) (needs_in nodes m)) else Some m) ≡ Some m = ap (λ o. if is_some o then first_some (map (lacks nodes) (needs_in nodes m)) else Some m) e in
-          let lack : whole m ≡ false = ap (λ o. not (is_some o)) (lacks_unfolds nodes acyclic m ∙ gone) in
-          ap (λ b. is_named_in m before && b) lack ∙ none (is_named_in m before) ∙ sym lack
+      go : (o : Option Node) → find_node nodes m ≡ o → (list_any (bytes_eq m) sources || list_any (bytes_eq m) (whole_names nodes before)) ≡ true
+      go None e = absurd (none-some m (sym none ∙ lacks_unfolds nodes acyclic m ∙ ap (λ o. if is_some o then first_some (map (lacks nodes) (needs_in nodes m)) else Some m) e))
       go (Some node) e = by_needs node e node.needs refl
 
 -- ---- all terms
 
-all_cons : (o : Option Ref) (os : List (Option Ref)) → is_some (all_some (o ∷ os)) ≡ (is_some o && is_some (all_some os))
-all_cons None os = refl
-all_cons (Some r) os = some_map (λ rest. r ∷ rest) (all_some os)
-
-first_cons : (o : Option Name) (os : List (Option Name)) → not (is_some (first_some (o ∷ os))) ≡ (not (is_some o) && not (is_some (first_some os)))
-first_cons None os = refl
-first_cons (Some n) os = refl
-
-pub terms_there : (sources names : List Name) (lack_of : Name → Option Name) (us : List Term) → ((m : Name) → is_among m (flat_map term_names us) ≡ true → is_some (place_for sources names m) ≡ not (is_some (lack_of m)))
-    → is_some (all_some (map (ref_for sources names) us)) ≡ not (is_some (first_some (map lack_of (flat_map term_names us))))
-terms_there sources names lack_of [] same = refl
-terms_there sources names lack_of (layer_term n ∷ us) same =
-    let first = same n (or_left (bytes_eq n n) (is_among n (flat_map term_names us)) (bytes_eq-self n)) in
-    let rest = terms_there sources names lack_of us (λ m a. same m (or_right (bytes_eq n m) (is_among m (flat_map term_names us)) a)) in
+pub terms_there : (sources names : List Name) (us : List Term) → ((m : Name) → is_among m (flat_map term_names us) ≡ true → is_some (place_for sources names m) ≡ true) → is_some (all_some (map (ref_for sources names) us)) ≡ true
+terms_there sources names [] there = refl
+terms_there sources names (layer_term n ∷ us) there =
     all_cons (place_for sources names n) (map (ref_for sources names) us)
-    ∙ ap (λ b. b && is_some (all_some (map (ref_for sources names) us))) first
-    ∙ ap (λ b. not (is_some (lack_of n)) && b) rest
-    ∙ sym (first_cons (lack_of n) (map lack_of (flat_map term_names us)))
-terms_there sources names lack_of (number_term z ∷ us) same = all_cons (Some (Number (Some z))) (map (ref_for sources names) us) ∙ terms_there sources names lack_of us same
+    ∙ and_from (is_some (place_for sources names n)) (is_some (all_some (map (ref_for sources names) us)))
+    (there n (or_left (bytes_eq n n) (is_among n (flat_map term_names us)) (bytes_eq-self n)))
+    (terms_there sources names us (λ m a. there m (or_right (bytes_eq n m) (is_among m (flat_map term_names us)) a)))
+terms_there sources names (number_term z ∷ us) there = all_cons (Some (Number (Some z))) (map (ref_for sources names) us) ∙ terms_there sources names us there
 
 -- ---- depth
 
 module _ (nodes : List Node) (acyclic : HasNoCycle nodes) (sources names : List Name) (are : AreSources nodes sources) (steps : List (Step Given)) (count : length steps ≡ length names)
     (deep : (j : ℕ) (m : Name) (y : Step Given) → slice_get names j ≡ Some m → slice_get steps j ≡ Some y → y.depth ≡ depth_in nodes m) where
   source_depth : (m : Name) (i : ℕ) → slice_get sources i ≡ Some m → 0 ≡ depth_in nodes m
-  source_depth m i at = go (find_node nodes m) refl (sym (some_position (bytes_eq m) sources ∙ any_at_place m sources i at) ∙ are m)
+  source_depth m i at = go (find_node nodes m) refl
     where
       by_needs : (node : Node) → find_node nodes m ≡ Some node → (o : Option (List Name)) → node.needs ≡ o → true ≡ not (is_some o) → 0 ≡ depth_in nodes m
       by_needs node e None is h = sym (depth_unfolds nodes acyclic m ∙ ap (depth_by (depth_in nodes)) e ∙ ap (λ o. depth_by (depth_in nodes) (Some (record { name = node.name; needs = o }))) is)
       by_needs node e (Some ns) is h = absurd (true≢false h)
 
-      go : (o : Option Node) → find_node nodes m ≡ o → true ≡ is_source_node o → 0 ≡ depth_in nodes m
-      go None e h = absurd (true≢false h)
-      go (Some node) e h = by_needs node e node.needs refl h
+      go : (o : Option Node) → find_node nodes m ≡ o → 0 ≡ depth_in nodes m
+      go None e = sym (depth_unfolds nodes acyclic m ∙ ap (depth_by (depth_in nodes)) e)
+      go (Some node) e = by_needs node e node.needs refl (sym (some_position (bytes_eq m) sources ∙ any_at_place m sources i at) ∙ are m node e)
 
   any_step : (xs : List (Step Given)) → {j : ℕ} → j < length xs → Step Given
   any_step [] h = absurd (omega arith)
@@ -234,7 +223,3 @@ pub refs_next : (f : Term → Option Ref) (us : List Term) (k : ℕ) (rs new : L
 refs_next f us k rs new u r so_far at is pushed =
     ap (λ vs. all_some (map f vs)) (taken_to us k u at) ∙ ap all_some (map-append f (take k us) (u ∷ []) ∙ ap (λ o. map f (take k us) ++ o ∷ []) is)
     ∙ all_push (map f (take k us)) rs r so_far ∙ ap (λ qs. Some qs) (sym pushed)
-
-pub none_where : (o : Option Ref) → ((r : Ref) → o ≡ Some r → ⊥) → o ≡ None
-none_where None never = refl
-none_where (Some r) never = absurd (never r refl)

@@ -1,6 +1,6 @@
 -- Every operation makes a grid of the given size.
 use Rattle.std.proofs.Common.{◌≡◌, List, refl}
-use Rattle.map_nums.specs.Grids.{Size, Cells, Grid}
+use Rattle.map_nums.specs.Grids.{Size, Cells}
 use Rattle.map_defs.specs.Local.{local_grid}
 use Rattle.map_defs.specs.Focal.{focal_grid}
 use Rattle.map_defs.specs.Zonal.{zonal_grid}

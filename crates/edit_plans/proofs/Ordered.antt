@@ -1,33 +1,29 @@
 -- The operands of a planned step stand before the first step of its depth.
-use Rattle.std.proofs.Common.{◌≡◌, ℕ, zero, suc, ◌+◌, ◌<◌, ◌≤◌, Bool, true, false, cond, ◌||◌, ◌&&◌, ◌==◌, not, List, [], ◌∷◌, ◌++◌, map, filter, flat_map, length, get_or, position, Option, Some, None, is_some, slice_get, bytes_eq, ◌⊎◌, inl, inr, refl, sym, ap, subst, ◌∙◌, arith}
+use Rattle.std.proofs.Common.{◌≡◌, ℕ, zero, suc, ◌+◌, ◌<◌, ◌≤◌, Bool, true, false, cond, not, List, [], ◌∷◌, ◌++◌, map, filter, flat_map, length, get_or, position, Some, is_some, slice_get, bytes_eq, ◌⊎◌, inl, inr, refl, sym, ap, subst, ◌∙◌, arith}
 use Rattle.std.specs.Bool.{⊤}
-use Rattle.std.specs.List.{All, range_with_len}
-use Rattle.std.specs.Map.{lookup}
+use Rattle.std.specs.List.{All}
 use Rattle.std.proofs.lemmas.Bool.{cases_lt, or_left, or_right}
 use Rattle.std.proofs.lemmas.List.Quantifiers.{position-Some}
 use Rattle.std.proofs.lemmas.Option.{none-some, same_Some, slice_get_within, slice_get-get_or}
-use Rattle.map_defs.specs.Ops.{Name, Term, layer_term, number_term, terms_of, term_names, needs_of}
+use Rattle.map_defs.specs.Ops.{Name, Op, Term, layer_term, number_term, terms_of, term_names, needs_of}
 use Rattle.map_defs.specs.Nodes.{Node, lacks, needs_in}
 use Rattle.map_defs.specs.Depths.{depth_in, by_depth}
-use Rattle.map_edits.specs.LayerDefs.{by_op, layers, find_making, nodes_of}
-use Rattle.map_edits.specs.EngineStates.{EngineState}
-use Rattle.map_edits.specs.Touches.{Touch}
-use Rattle.map_edits.specs.Laws.{HasNoCycle, is_among}
+use Rattle.map_edits.specs.LayerDefs.{layers, nodes_of}
+use Rattle.map_edits.specs.Laws.{is_among}
 use Rattle.map_edits.proofs.Among.{bytes_eq-self}
 use Rattle.map_edits.proofs.Looks.{making_needs, needs_in-layers}
 use Rattle.map_edits.proofs.Order.{AllFrom, AllAt, from_less, filter_at, ranked, ranked_from, depth_at, is_flat_at, flat_at}
 use Rattle.map_edits.proofs.Unfolds.{needed_is_less_deep}
 use Rattle.statement_parser.specs.Views.{op_view}
 use Rattle.statement_parser.specs.declared.op.Op.{Op as Given}
-use Rattle.map_waves.specs.Bases.{new_sources, IsRef, IsStep}
+use Rattle.map_waves.specs.Bases.{IsRef}
 use Rattle.map_waves.specs.declared.plans.Ref.{Ref}
 use Rattle.map_waves.specs.declared.plans.Ref.TheVariants.{Source, Statement, Number}
 use Rattle.map_waves.specs.declared.plans.Step.{Step}
 use Rattle.map_waves.specs.declared.plans.Base.{Base}
 use Rattle.edit_plans.specs.PlansFor.{AreRefsFor}
-use Rattle.edit_plans.specs.Planned.{IsPlannedStep, IsPlanned}
-use Rattle.edit_plans.specs.PlannedLaws.{IsPlannedFrom, IsCounted, AreFormed, PlannedIsInOrder, DepthsRise}
-use Rattle.edit_plans.specs.declared.planning.Flat.{Flat}
+use Rattle.edit_plans.specs.Planned.{FlatDef, IsPlanned}
+use Rattle.edit_plans.specs.PlannedLaws.{IsCounted, PlannedIsInOrder, DepthsRise}
 
 -- ---- lists in order of a rank
 
@@ -91,10 +87,10 @@ named_at [] k n e = absurd (none-some n e)
 named_at (x ∷ xs) zero n e = (x, refl, same_Some x.name n e)
 named_at (x ∷ xs) (suc k) n e = named_at xs k n e
 
-named_step : {X : Type 0} (names : List Name) (steps : List X) → length steps ≡ length names → (k : ℕ) (x : X) → slice_get steps k ≡ Some x → slice_get names k ≡ Some (get_or names k [])
+pub named_step : {X : Type 0} (names : List Name) (steps : List X) → length steps ≡ length names → (k : ℕ) (x : X) → slice_get steps k ≡ Some x → slice_get names k ≡ Some (get_or names k [])
 named_step names steps count k x at = let within = slice_get_within steps k x at in slice_get-get_or names k [] (omega arith)
 
-module _ (nodes : List Node) (sources : List Name) (flats : List (List ℕ × Flat)) (old names : List Name) (steps : List (Step Given)) (planned : IsPlanned nodes sources flats old names steps) where
+module _ (nodes : List Node) (sources : List Name) (flats : List (List ℕ × FlatDef)) (old names : List Name) (steps : List (Step Given)) (planned : IsPlanned nodes sources flats old names steps) where
   names_rise : (j k : ℕ) (m n : Name) → j ≤ k → slice_get names j ≡ Some m → slice_get names k ≡ Some n → depth_in nodes m ≤ depth_in nodes n
   names_rise j k m n h at e =
       let kept : List Node = filter (λ (node : Node). not (is_some (lacks nodes node.name))) (by_depth nodes) in
@@ -148,7 +144,7 @@ module _ {B : Type 0} (base : Base B) (sources old names : List Name) (counted :
   refs_before (number_term z ∷ us) (Source i ∷ rs) are low = absurd are.0
   refs_before (number_term z ∷ us) (Statement j ∷ rs) are low = absurd are.0
 
-pub planned_is_in_order : {B : Type 0} (formed : Given → Type 0) → PlannedIsInOrder B formed
+pub planned_is_in_order : {B : Type 0} (formed : Op → Type 0) → PlannedIsInOrder B formed
 planned_is_in_order {B} formed touch s t base sources flats old names steps none made counted are planned first k x y h at_first at same =
     let nodes = nodes_of t.entries in
     let n = get_or names k [] in
@@ -156,17 +152,17 @@ planned_is_in_order {B} formed touch s t base sources flats old names steps none
     let top = named_step names steps planned.count first y at_first in
     let step = planned.each k n x named at in
     let y_depth = (planned.each first (get_or names first []) y top at_first).depth in
-    let flat : Flat = record { op = x.op; written = x.written } in
-    let form = are n flat step.from in
-    let needs : needs_in nodes n ≡ needs_of (op_view x.op) = needs_in-layers (layers t.entries) n ∙ ap making_needs (made.statements n flat step.from) in
+    let form = are n step.flat step.from in
+    let needs : needs_in nodes n ≡ needs_of (op_view x.op) = needs_in-layers (layers t.entries) n ∙ ap making_needs (made.statements n step.flat step.from) ∙ ap needs_of (sym step.op) in
+    let terms : length (terms_of (op_view x.op)) ≡ length (terms_of (op_view step.flat.op)) = ap (λ o. length (terms_of o)) step.op in
     let count = refs_length sources names k (terms_of (op_view x.op)) x.refs.items step.refs in
     let low : (m : Name) (j : ℕ) → is_among m (flat_map term_names (terms_of (op_view x.op))) ≡ true → slice_get names j ≡ Some m → j < first = λ m j a stands.
     by_cases first j m n (depth_in nodes) (needed_is_less_deep nodes none n m (ap (is_among m) needs ∙ a)) (sym (sym y_depth ∙ sym same ∙ step.depth)) (λ q. names_rise nodes sources flats old names steps planned first j (get_or names first []) m q top stands) in
     record {
-      op = form.0;
+      op = subst formed (sym step.op) form.0;
       refs = refs_before base sources old names counted k first (terms_of (op_view x.op)) x.refs.items step.refs low;
       terms = count;
-      few = omega (arith, form.1, count);
+      few = omega (arith, form.1, count, terms);
       kept = λ i is. kept_below n i (sym step.kept ∙ is);
     }
   where

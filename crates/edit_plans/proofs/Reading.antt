@@ -1,23 +1,19 @@
 -- What the sources and the first statements of a plan count may be read.
-use Rattle.std.proofs.Common.{◌≡◌, ℕ, zero, suc, ◌+◌, ◌-◌, ◌*◌, ◌<◌, ◌≤◌, Bool, true, false, cond, nat_le, List, [], ◌∷◌, map, filter, take, length, sum_by, Option, Some, None, is_some, option_map, slice_get, get_or, refl, sym, ap, subst, ◌∙◌, arith, if◌then◌else◌}
+use Rattle.std.proofs.Common.{◌≡◌, ℕ, zero, suc, ◌+◌, ◌-◌, ◌<◌, ◌≤◌, Bool, true, false, cond, nat_le, List, [], ◌∷◌, filter, length, sum_by, Option, Some, None, is_some, option_map, slice_get, get_or, refl, sym, ap, subst, ◌∙◌, arith, if◌then◌else◌}
 use Rattle.std.proofs.lemmas.Bool.{le-leb}
-use Rattle.std.proofs.lemmas.List.{take_all}
-use Rattle.std.proofs.lemmas.List.Sums.{sum_by-cons, sum_by-take-le}
+use Rattle.std.proofs.lemmas.List.Sums.{sum_by-cons}
 use Rattle.std.proofs.lemmas.Option.{get_or_from_slice_get, slice_get-get_or}
 use Rattle.map_defs.specs.Ops.{Name}
-use Rattle.map_defs.specs.Nodes.{Node, find_node}
 use Rattle.map_defs.specs.Depths.{depth_in}
-use Rattle.map_edits.specs.LayerDefs.{Making, given_grid, by_op, LayerDef, layers, find_making, nodes_of}
+use Rattle.map_edits.specs.LayerDefs.{Making, given_grid, by_op, LayerDef, layers, nodes_of}
 use Rattle.map_edits.specs.EngineStates.{EngineState, value_of}
 use Rattle.map_edits.specs.Faults.{Fault}
 use Rattle.map_edits.specs.Touches.{Touch, touch_of}
 use Rattle.map_edits.specs.LayerChanges.{damage_of, work_of}
-use Rattle.map_edits.specs.EditCounts.{defined_layers, counts_over, counts_of}
-use Rattle.map_edits.specs.Allowances.{Reads, reads_for, faulty_name, layers_to, counts_to, reads_of_attempt, edit_reads}
+use Rattle.map_edits.specs.EditCounts.{defined_layers}
+use Rattle.map_edits.specs.Allowances.{reads_for, faulty_name, layers_to, counts_to, reads_of_attempt, edit_reads}
 use Rattle.map_edits.specs.CountLaws.{IsWithin}
 use Rattle.map_edits.specs.Counted.{fault_after}
-use Rattle.map_edits.specs.WholeStates.{WholeState}
-use Rattle.map_edits.specs.WholeEdits.{WholeEdit}
 use Rattle.map_edits.specs.Laws.{HasNoCycle}
 use Rattle.map_edits.proofs.Looks.{made_node, find_node-making}
 use Rattle.map_edits.proofs.Summed.{sum_filter}
@@ -32,10 +28,10 @@ use Rattle.edit_plans.specs.ReadLaws.{ReadsAreAllowed}
 use Rattle.edit_plans.proofs.LayersMade.{EachLayer, IsFoundBy, layers_found}
 use Rattle.edit_plans.proofs.Counting.{damage_is, work_is}
 use Rattle.edit_plans.proofs.CountsSummed.{one_count}
-use Rattle.edit_plans.proofs.Summed.{total_names, total_step}
+use Rattle.edit_plans.proofs.Summed.{total_step}
 
 -- a source has no depth
-given_depth : (t : EngineState) → IsOrderly t → (l : LayerDef) → IsFoundBy (layers t.entries) l → is_given l.making ≡ true → depth_in (nodes_of t.entries) l.name ≡ 0
+pub given_depth : (t : EngineState) → IsOrderly t → (l : LayerDef) → IsFoundBy (layers t.entries) l → is_given l.making ≡ true → depth_in (nodes_of t.entries) l.name ≡ 0
 given_depth t orderly l found given = go l.making refl given
   where
     go : (making : Making) → l.making ≡ making → is_given making ≡ true → depth_in (nodes_of t.entries) l.name ≡ 0
@@ -45,7 +41,7 @@ given_depth t orderly l found given = go l.making refl given
     go (by_op op) is h = absurd cc
 
 -- where all that is given passes, its sum is as before
-given_sum : (f : LayerDef → ℕ) (r : LayerDef → Bool) (q : LayerDef → Bool) (P : LayerDef → Type 0) → ((l : LayerDef) → P l → is_given l.making ≡ true → r l ≡ true) → (ls : List LayerDef) → EachLayer P ls
+pub given_sum : (f : LayerDef → ℕ) (r : LayerDef → Bool) (q : LayerDef → Bool) (P : LayerDef → Type 0) → ((l : LayerDef) → P l → is_given l.making ≡ true → r l ≡ true) → (ls : List LayerDef) → EachLayer P ls
     → sum_by f (filter (λ (l : LayerDef). is_given l.making) (filter q ls)) ≤ sum_by (λ l. if r l then f l else 0) (filter (λ (l : LayerDef). is_given l.making) (filter q ls))
 given_sum f r q P passes [] each = omega arith
 given_sum f r q P passes (l ∷ ls) each = go (q l) (given_sum f r q P passes ls each.1)

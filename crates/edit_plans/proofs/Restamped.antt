@@ -1,28 +1,27 @@
 -- The stamps of a layer that is put in place are those of the state after.
-use Rattle.std.proofs.Common.{◌≡◌, ℕ, ℤ, zero, suc, ◌+◌, ◌*◌, ◌/◌, ◌%◌, ◌<◌, ◌≤◌, ◌⊎◌, inl, inr, Bool, true, false, cond, not, ◌==◌, ◌||◌, List, [], ◌∷◌, map, length, get_or, replicate, Option, Some, None, unwrap_or, refl, sym, ap, ◌∙◌, arith, if◌then◌else◌}
+use Rattle.std.proofs.Common.{◌≡◌, ℕ, zero, suc, ◌+◌, ◌*◌, ◌/◌, ◌%◌, ◌<◌, ◌≤◌, ◌⊎◌, inl, inr, Bool, true, false, cond, not, ◌==◌, List, [], ◌∷◌, map, get_or, replicate, Option, Some, None, unwrap_or, refl, sym, ap, ◌∙◌, arith, if◌then◌else◌}
 use Rattle.std.specs.Prelude.{filter}
 use Rattle.std.specs.List.{range_with_len, list_any}
-use Rattle.std.proofs.lemmas.Bool.{true≢false, false≢true, both_ways, or_left, or_right, or_cases, eqb-true, eq-eqb, cases_Bool, cases_eq, cases_lt}
+use Rattle.std.proofs.lemmas.Bool.{true≢false, false≢true, both_ways, or_left, or_right, or_cases, eqb-true, eq-eqb, cases_eq}
 use Rattle.std.proofs.lemmas.List.{length-replicate, get_or-replicate}
 use Rattle.std.proofs.lemmas.List.FromFn.{fill_by_all}
-use Rattle.map_nums.specs.Grids.{Size, IsSize, Cells, cell_at, cells_in, places}
+use Rattle.map_nums.specs.Grids.{Size, IsSize, Cells, cell_at, cells_in}
 use Rattle.map_nums.specs.Tiles.{tiles}
 use Rattle.map_defs.specs.Ops.{Name}
 use Rattle.map_defs.specs.Cells.{same_cell}
 use Rattle.map_defs.specs.Differences.{differs, tile_has, changed_tiles}
 use Rattle.map_defs.proofs.RegionCells.{same_is, same_so}
-use Rattle.layer_tiles.specs.Tiles.{tiles_in, tile_of, tile_start, tile_height, tile_width, tile_cells, strided}
-use Rattle.layer_tiles.specs.Layers.{layer_of, IsStamped, IsChangedTile}
+use Rattle.layer_tiles.specs.Tiles.{tiles_in, tile_of, tile_start, tile_height, tile_width, tile_cells}
+use Rattle.layer_tiles.specs.Layers.{IsStamped, IsChangedTile}
 use Rattle.layer_tiles.proofs.Rounds.{here, back, IsAt}
 use Rattle.layer_tiles.proofs.Strides.{same_tile, get_or-strided}
 use Rattle.map_edits.specs.WholeStates.{WholeState, cells_of, stamps_of}
 use Rattle.map_edits.specs.LayerChanges.{now_of, changed_of}
-use Rattle.map_edits.specs.StampsAfter.{stamps_at}
 use Rattle.edit_plans.specs.StampLaws.{OldIsStamped, NewIsStamped}
 
 -- ---- numbers in a row that pass two tests
 
-any_so : (p q : ℕ → Bool) (a n i : ℕ) → a ≤ i → i < a + n → p i ≡ true → q i ≡ true → list_any p (filter q (range_with_len a n)) ≡ true
+pub any_so : (p q : ℕ → Bool) (a n i : ℕ) → a ≤ i → i < a + n → p i ≡ true → q i ≡ true → list_any p (filter q (range_with_len a n)) ≡ true
 any_so p q a zero i low high e f = absurd (omega arith)
 any_so p q a (suc n) i low high e f = go (cases_eq a i) (λ later. any_so p q (a + 1) n i later (omega arith) e f)
   where
@@ -48,7 +47,7 @@ pub record IsAnyOf (p q : ℕ → Bool) (a n : ℕ) : Type 0 where
   pub first : p place ≡ true
   pub second : q place ≡ true
 
-any_is : (p q : ℕ → Bool) (a n : ℕ) → list_any p (filter q (range_with_len a n)) ≡ true → IsAnyOf p q a n
+pub any_is : (p q : ℕ → Bool) (a n : ℕ) → list_any p (filter q (range_with_len a n)) ≡ true → IsAnyOf p q a n
 any_is p q a zero e = absurd (false≢true e)
 any_is p q a (suc n) e = go (q a) refl e (any_is p q (a + 1) n)
   where

@@ -1,5 +1,5 @@
 -- What is kept of a statement that the edit didn't write is right for its operands before.
-use Rattle.std.proofs.Common.{◌≡◌, ℕ, Bool, true, false, ◌||◌, List, [], ◌∷◌, map, Option, Some, None, option_map, slice_get, bytes_eq, refl, sym, ap, subst, ◌∙◌}
+use Rattle.std.proofs.Common.{◌≡◌, Bool, true, false, ◌||◌, List, [], ◌∷◌, map, Option, Some, None, option_map, bytes_eq, refl, sym, ap, subst, ◌∙◌}
 use Rattle.std.proofs.lemmas.Bool.{false≢true}
 use Rattle.std.proofs.lemmas.Option.{none-some}
 use Rattle.map_nums.specs.Grids.{Size, Cells}
@@ -11,7 +11,6 @@ use Rattle.map_edits.specs.LayerDefs.{by_op, layers, find_making, nodes_of}
 use Rattle.map_edits.specs.EngineStates.{EngineState, term_cells, value_of}
 use Rattle.map_edits.specs.Faults.{fault_of_layer, fault_of}
 use Rattle.map_edits.specs.Faults as told
-use Rattle.map_edits.specs.Touches.{Touch}
 use Rattle.map_edits.specs.LayerChanges.{operands_in}
 use Rattle.map_edits.specs.Laws.{HasNoCycle, is_named_in}
 use Rattle.map_edits.proofs.Among.{same_name}
@@ -19,11 +18,7 @@ use Rattle.map_edits.proofs.Looks.{made_node, find_node-making}
 use Rattle.map_edits.proofs.Order.{all_flats_listed}
 use Rattle.map_waves.specs.Statements.{made, cells_were, fault_in}
 use Rattle.map_waves.specs.Statements as waves
-use Rattle.map_waves.specs.Keeping.{IsRightOver}
-use Rattle.map_waves.specs.Plans.{Plan, operands_at}
-use Rattle.map_waves.specs.declared.keeping.Kept.{Kept}
-use Rattle.edit_plans.specs.PlansFor.{IsPlanFor}
-use Rattle.edit_plans.specs.Touching.{ChangesOnly}
+use Rattle.map_waves.specs.Plans.{operands_at}
 use Rattle.edit_plans.specs.KeptLaws.{KeptIsRight}
 use Rattle.edit_plans.specs.Telling.{fault_told}
 use Rattle.edit_plans.proofs.Before.{stood_on}

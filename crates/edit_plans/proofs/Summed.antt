@@ -1,21 +1,20 @@
 -- A sum over layers by place is that over the sources and that over the statements of a plan.
-use Rattle.std.proofs.Common.{◌≡◌, ℕ, zero, suc, ◌+◌, ◌<◌, ◌≤◌, Bool, true, false, cond, not, ◌&&◌, nat_le, List, [], ◌∷◌, map, filter, take, length, sum_by, Option, Some, None, is_some, slice_get, get_or, if◌then◌else◌, refl, sym, ap, subst, ◌∙◌, arith}
+use Rattle.std.proofs.Common.{◌≡◌, ℕ, zero, suc, ◌+◌, ◌≤◌, Bool, true, false, ◌&&◌, nat_le, List, [], ◌∷◌, map, filter, take, length, sum_by, Option, Some, None, is_some, slice_get, get_or, if◌then◌else◌, refl, sym, ap, ◌∙◌, arith}
 use Rattle.std.specs.Bool.{⊤}
 use Rattle.std.proofs.lemmas.Bool.{le-leb}
 use Rattle.std.proofs.lemmas.List.Sums.{sum_by-cons, sum_by_more, sum-map}
 use Rattle.std.proofs.lemmas.List.FromFn.{sum_by-map-range_with_len_more}
 use Rattle.std.specs.List.{range_with_len}
 use Rattle.std.proofs.lemmas.Option.{slice_get-get_or}
-use Rattle.map_defs.specs.Ops.{Name, needs_of}
+use Rattle.map_defs.specs.Ops.{Name}
 use Rattle.map_defs.specs.Nodes.{Node, find_node}
 use Rattle.map_defs.specs.Depths.{depth_in, by_depth}
 use Rattle.map_edits.specs.LayerDefs.{Making, given_grid, by_op, LayerDef, layers, node_of_layer, nodes_of}
-use Rattle.map_edits.specs.EngineStates.{EngineState, value_of}
+use Rattle.map_edits.specs.EngineStates.{EngineState}
 use Rattle.map_edits.proofs.Listed as nodes
 use Rattle.map_edits.proofs.Unfolds.{depth_of_flat, depth_in_le_nodes}
 use Rattle.map_edits.proofs.Summed.{sum_filter, sum_same, depth_is_place}
 use Rattle.map_edits.proofs.GroupsListed.{groups_found}
-use Rattle.map_edits.proofs.Looks.{node_of_layer-name}
 use Rattle.map_waves.specs.Answers.{total_of}
 use Rattle.edit_plans.specs.Orderly.{IsOrderly}
 use Rattle.edit_plans.specs.SourceCounts.{is_given}

@@ -1,7 +1,7 @@
 -- An edit changes what it touches, and nothing else.
-use Rattle.std.proofs.Common.{◌≡◌, ◌+◌, length, ℕ, ℤ, Bool, true, false, cond, ◌||◌, ◌&&◌, List, [], ◌∷◌, map, find, Option, Some, None, is_some, option_map, bytes_eq, Result, Ok, Err, refl, sym, ap, subst, ◌∙◌}
+use Rattle.std.proofs.Common.{◌≡◌, ◌+◌, length, ℤ, Bool, true, false, cond, ◌||◌, ◌&&◌, List, [], ◌∷◌, map, find, Option, Some, None, is_some, option_map, bytes_eq, Result, Ok, Err, refl, sym, ap, subst, ◌∙◌}
 use Rattle.std.specs.List.{list_any}
-use Rattle.std.proofs.lemmas.Bool.{true≢false, both_ways, or_left, or_right, and_from}
+use Rattle.std.proofs.lemmas.Bool.{both_ways, or_left, or_right, and_from}
 use Rattle.std.proofs.lemmas.Option.{none-some}
 use Rattle.map_nums.specs.Grids.{Grid}
 use Rattle.map_defs.specs.Ops.{Name, Op}
@@ -23,14 +23,14 @@ use Rattle.map_edits.specs.Marks.{put_mark}
 use Rattle.map_edits.specs.WholeStates.{WholeState}
 use Rattle.map_edits.specs.WholeEdits.{WholeEdit, of_names, define_procedure, label, symbol}
 use Rattle.map_edits.specs.NamesAfter.{entries_with}
-use Rattle.map_edits.specs.Attempts.{unless_more, marks_after, with_names, with_procedure, with_labels, with_symbols, attempted}
-use Rattle.map_edits.specs.Touches.{Touch, nothing, whole, within, touch_of_names, touch_of, stands_for, is_whole}
+use Rattle.map_edits.specs.Attempts.{marks_after, with_names, with_procedure, with_labels, with_symbols, attempted}
+use Rattle.map_edits.specs.Touches.{nothing, whole, touch_of_names, touch_of, stands_for}
 use Rattle.map_edits.specs.GroupLaws.{IsLawful, IsPlainEdit, IsSaid}
-use Rattle.map_edits.proofs.Among.{same_name, bytes_eq-self}
+use Rattle.map_edits.proofs.Among.{same_name}
 use Rattle.map_edits.proofs.Heads.{head_of}
 use Rattle.map_edits.proofs.Groups.{def_layers, group_making, making_by_head}
 use Rattle.map_edits.proofs.LawfulEdits.{AreGood, IsGoodChange, good_of, entries_good, within_is, known_is, new_is}
-use Rattle.edit_plans.specs.Touching.{touches_source, ChangesOnly}
+use Rattle.edit_plans.specs.Touching.{ChangesOnly}
 use Rattle.edit_plans.specs.Orderly.{IsOrderly}
 use Rattle.edit_plans.specs.TouchLaws.{OthersAreKept, OrderIsKept}
 
@@ -61,7 +61,7 @@ stands (x ∷ es) m n d making e made = go (bytes_eq x.name m) refl e (λ found.
     go false differs found rest = or_right (bytes_eq x.name m && list_any (λ (l : LayerDef). bytes_eq l.name n) (layers_of x)) (stands_for es m n) (rest found)
 
 -- a flat statement isn't a source, and the other way round
-never_given : (fs : List Flat) (n : Name) (grid : Grid) → find_making (map flat_layer fs) n ≡ Some (given_grid grid) → ⊥
+pub never_given : (fs : List Flat) (n : Name) (grid : Grid) → find_making (map flat_layer fs) n ≡ Some (given_grid grid) → ⊥
 never_given [] n grid e = absurd (none-some (given_grid grid) e)
 never_given (f ∷ fs) n grid e = go (bytes_eq f.name n) e (never_given fs n grid)
   where
@@ -70,18 +70,18 @@ never_given (f ∷ fs) n grid e = go (bytes_eq f.name n) e (never_given fs n gri
     go true found rest = absurd cc
     go false found rest = rest found
 
-source_named : (m n : Name) (g grid : Grid) → find_making (def_layers m (source g)) n ≡ Some (given_grid grid) → bytes_eq m n ≡ true
+pub source_named : (m n : Name) (g grid : Grid) → find_making (def_layers m (source g)) n ≡ Some (given_grid grid) → bytes_eq m n ≡ true
 source_named m n g grid e = go (bytes_eq m n) e
   where
     go : (b : Bool) → option_map (λ (q : LayerDef). q.making) (cond b (Some (record { name = m; making = given_grid g })) None) ≡ Some (given_grid grid) → b ≡ true
     go true found = refl
     go false found = absurd (none-some (given_grid grid) found)
 
-given_named : (m n : Name) (d : Def) (grid : Grid) → find_making (def_layers m d) n ≡ Some (given_grid grid) → bytes_eq m n ≡ true
+pub given_named : (m n : Name) (d : Def) (grid : Grid) → find_making (def_layers m d) n ≡ Some (given_grid grid) → bytes_eq m n ≡ true
 given_named m n (source g) grid e = source_named m n g grid e
 given_named m n (statement w flats) grid e = absurd (never_given flats n grid e)
 
-source_only : (m n : Name) (g : Grid) (op : Op) → find_making (def_layers m (source g)) n ≡ Some (by_op op) → ⊥
+pub source_only : (m n : Name) (g : Grid) (op : Op) → find_making (def_layers m (source g)) n ≡ Some (by_op op) → ⊥
 source_only m n g op e = go (bytes_eq m n) e
   where
     go : (b : Bool) → option_map (λ (q : LayerDef). q.making) (cond b (Some (record { name = m; making = given_grid g })) None) ≡ Some (by_op op) → ⊥

@@ -1,12 +1,16 @@
 -- What a plan makes is the values of the state after.
-use Rattle.std.proofs.Common.{◌≡◌, ℕ, zero, suc, ◌<◌, List, [], ◌∷◌, map, Option, Some, None, option_map, slice_get, refl, sym, ap, ◌∙◌, arith}
-use Rattle.map_nums.specs.Grids.{Size, Cells, Grid, constant}
+use Rattle.std.proofs.Common.{◌≡◌, ℕ, zero, suc, ◌<◌, Bool, true, false, cond, List, [], ◌∷◌, map, filter, Option, Some, None, is_some, option_map, slice_get, refl, sym, ap, ◌∙◌, arith}
+use Rattle.std.proofs.lemmas.Bool.{false≢true, and_parts}
+use Rattle.std.proofs.lemmas.Option.{none-some, same_Some}
+use Rattle.map_nums.specs.Grids.{Cells, Grid, constant}
 use Rattle.map_nums.specs.Options.{all_some}
-use Rattle.map_defs.specs.Ops.{Name, Term, layer_term, number_term, Op, terms_of}
+use Rattle.map_defs.specs.Ops.{Name, Term, layer_term, number_term, terms_of}
 use Rattle.map_defs.specs.Operate.{operate}
+use Rattle.map_defs.specs.Nodes.{Node}
+use Rattle.map_defs.specs.Depths.{by_depth}
 use Rattle.layer_tiles.specs.Changes.{ChangeState, constant_change}
 use Rattle.layer_tiles.specs.Operands.{cells_after}
-use Rattle.map_edits.specs.LayerDefs.{by_op, layers, find_making, nodes_of}
+use Rattle.map_edits.specs.LayerDefs.{nodes_of}
 use Rattle.map_edits.specs.EngineStates.{EngineState, term_cells, made, value_of}
 use Rattle.map_edits.specs.WholeStates.{cells_of}
 use Rattle.map_edits.specs.Touches.{Touch}
@@ -19,6 +23,18 @@ use Rattle.map_waves.specs.declared.plans.Ref.{Ref}
 use Rattle.map_waves.specs.declared.plans.Ref.TheVariants.{Source, Statement, Number}
 use Rattle.map_waves.proofs.Running.{changes_at}
 use Rattle.edit_plans.proofs.Operating.{operate_size}
+use Rattle.edit_plans.proofs.There.{some_map, all_cons}
+
+-- a name that is left by a test passes it
+passes_at : (q : Name → Bool) (xs : List Node) (k : ℕ) (n : Name) → slice_get (map (λ (x : Node). x.name) (filter (λ (x : Node). q x.name) xs)) k ≡ Some n → q n ≡ true
+passes_at q [] k n at = absurd (none-some n at)
+passes_at q (x ∷ xs) k n at = go (q x.name) refl k at (passes_at q xs)
+  where
+    go : (b : Bool) → q x.name ≡ b → (k : ℕ) → slice_get (map (λ (x : Node). x.name) (cond b (x ∷ filter (λ (x : Node). q x.name) xs) (filter (λ (x : Node). q x.name) xs))) k ≡ Some n
+        → ((j : ℕ) (m : Name) → slice_get (map (λ (x : Node). x.name) (filter (λ (x : Node). q x.name) xs)) j ≡ Some m → q m ≡ true) → q n ≡ true
+    go true e zero at rest = ap q (sym (same_Some x.name n at)) ∙ e
+    go true e (suc j) at rest = rest j n at
+    go false e k at rest = rest k n at
 
 module _ (touch : Touch) (s t : EngineState) (p : Plan) (sources names : List Name) (plan : IsPlanFor touch s t p sources names) where
   -- the first k statements have the values of their names
@@ -26,28 +42,46 @@ module _ (touch : Touch) (s t : EngineState) (p : Plan) (sources names : List Na
   AreMadeTo k = (j : ℕ) (m : Name) → j < k → slice_get names j ≡ Some m → cells_of t m ≡ Some (change_at p j).cells
 
   module _ (k : ℕ) (before : AreMadeTo k) where
-    pub term_after : (u : Term) (r : Ref) → IsRefFor sources names k u r → term_cells t.size (value_of t) u ≡ Some (operand_in p (changes_to p k) r).cells
-    term_after (layer_term m) (Source i) is = (plan.sources_are i m is).after
-    term_after (layer_term m) (Statement j) is = before j m is.1 is.0 ∙ ap (λ (c : ChangeState). Some c.cells) (sym (changes_at p j k (constant_change p.size None) is.1))
-    term_after (number_term z) (Number c) is = ap (λ q. Some (constant q (Some z)).cells) (sym plan.size) ∙ ap (λ d. Some (constant p.size d).cells) (sym is)
-    term_after (layer_term m) (Number c) is = absurd is
-    term_after (number_term z) (Source i) is = absurd is
-    term_after (number_term z) (Statement j) is = absurd is
+    source_after : (m : Name) (i : ℕ) → slice_get sources i ≡ Some m → is_some (cells_of t m) ≡ true → cells_of t m ≡ Some (p.source i).cells
+    source_after m i is there = go (cells_of t m) refl there
+      where
+        go : (o : Option Cells) → cells_of t m ≡ o → is_some o ≡ true → cells_of t m ≡ Some (p.source i).cells
+        go None e none = absurd (false≢true none)
+        go (Some now) e some = e ∙ ap (λ cells. Some cells) (sym ((plan.sources_are i m is).after now e))
 
-    pub terms_after : (us : List Term) (rs : List Ref) → AreRefsFor sources names k us rs → all_some (map (term_cells t.size (value_of t)) us) ≡ Some (cells_after (map (operand_in p (changes_to p k)) rs))
-    terms_after [] [] are = refl
-    terms_after [] (r ∷ rs) are = absurd are
-    terms_after (u ∷ us) [] are = absurd are
-    terms_after (u ∷ us) (r ∷ rs) are =
-        ap (λ o. all_some (o ∷ map (term_cells t.size (value_of t)) us)) (term_after u r are.0)
-        ∙ ap (option_map (λ rest. (operand_in p (changes_to p k) r).cells ∷ rest)) (terms_after us rs are.1)
+    term_after : (u : Term) (r : Ref) → IsRefFor sources names k u r → is_some (term_cells t.size (value_of t) u) ≡ true → term_cells t.size (value_of t) u ≡ Some (operand_in p (changes_to p k) r).cells
+    term_after (layer_term m) (Source i) is there = source_after m i is there
+    term_after (layer_term m) (Statement j) is there = before j m is.1 is.0 ∙ ap (λ (c : ChangeState). Some c.cells) (sym (changes_at p j k (constant_change p.size None) is.1))
+    term_after (number_term z) (Number c) is there = ap (λ q. Some (constant q (Some z)).cells) (sym plan.size) ∙ ap (λ d. Some (constant p.size d).cells) (sym is)
+    term_after (layer_term m) (Number c) is there = absurd is
+    term_after (number_term z) (Source i) is there = absurd is
+    term_after (number_term z) (Statement j) is there = absurd is
+
+    terms_after : (us : List Term) (rs : List Ref) → AreRefsFor sources names k us rs → is_some (all_some (map (term_cells t.size (value_of t)) us)) ≡ true
+        → all_some (map (term_cells t.size (value_of t)) us) ≡ Some (cells_after (map (operand_in p (changes_to p k)) rs))
+    terms_after [] [] are there = refl
+    terms_after [] (r ∷ rs) are there = absurd are
+    terms_after (u ∷ us) [] are there = absurd are
+    terms_after (u ∷ us) (r ∷ rs) are there =
+        let both = and_parts (is_some (term_cells t.size (value_of t) u)) (is_some (all_some (map (term_cells t.size (value_of t)) us))) (sym (all_cons (term_cells t.size (value_of t) u) (map (term_cells t.size (value_of t)) us)) ∙ there) in
+        ap (λ o. all_some (o ∷ map (term_cells t.size (value_of t)) us)) (term_after u r are.0 both.0)
+        ∙ ap (option_map (λ rest. (operand_in p (changes_to p k) r).cells ∷ rest)) (terms_after us rs are.1 both.1)
 
   module _ (none : HasNoCycle (nodes_of t.entries)) where
+    -- a statement of the plan is defined, and so is all that it reads
+    operands_there : (k : ℕ) (n : Name) → slice_get names k ≡ Some n → is_some (all_some (map (term_cells t.size (value_of t)) (terms_of (p.step k).op))) ≡ true
+    operands_there k n at =
+        sym (some_map (operate t.size (p.step k).op) (all_some (map (term_cells t.size (value_of t)) (terms_of (p.step k).op))))
+        ∙ ap is_some (sym (value_unfolds t none n ∙ ap (made t.size (value_of t)) (plan.steps k n at).making))
+        ∙ passes_at (λ m. is_some (value_of t m)) (by_depth (nodes_of t.entries)) k n (ap (λ ns. slice_get ns k) (sym plan.names_are) ∙ at)
+
+    operands_here : (k : ℕ) (n : Name) → AreMadeTo k → slice_get names k ≡ Some n → all_some (map (term_cells t.size (value_of t)) (terms_of (p.step k).op)) ≡ Some (cells_after (operands_at p k))
+    operands_here k n before at = terms_after k before (terms_of (p.step k).op) (p.step k).refs (plan.steps k n at).refs (operands_there k n at)
+
     grid_here : (k : ℕ) (n : Name) → AreMadeTo k → slice_get names k ≡ Some n → value_of t n ≡ Some (operate t.size (p.step k).op (cells_after (operands_at p k)))
     grid_here k n before at =
-        let step = plan.steps k n at in
-        value_unfolds t none n ∙ ap (made t.size (value_of t)) step.making
-        ∙ ap (option_map (operate t.size (p.step k).op)) (terms_after k before (terms_of (p.step k).op) (p.step k).refs step.refs)
+        value_unfolds t none n ∙ ap (made t.size (value_of t)) (plan.steps k n at).making
+        ∙ ap (option_map (operate t.size (p.step k).op)) (operands_here k n before at)
 
     value_here : (k : ℕ) (n : Name) → AreMadeTo k → slice_get names k ≡ Some n → value_of t n ≡ Some (record { size = p.size; cells = (change_at p k).cells })
     value_here k n before at =
@@ -61,6 +95,10 @@ module _ (touch : Touch) (s t : EngineState) (p : Plan) (sources names : List Na
 
     pub all_made : (k : ℕ) → AreMadeTo k
     all_made k = made_to (suc k) k (omega arith)
+
+    -- the operands of a statement have the values of their names
+    pub operands_made : (k : ℕ) (n : Name) → slice_get names k ≡ Some n → all_some (map (term_cells t.size (value_of t)) (terms_of (p.step k).op)) ≡ Some (cells_after (operands_at p k))
+    operands_made k n at = operands_here k n (all_made k) at
 
     pub value_is_made : (k : ℕ) (n : Name) → slice_get names k ≡ Some n → value_of t n ≡ Some (record { size = p.size; cells = (change_at p k).cells })
     value_is_made k n at = value_here k n (all_made k) at

@@ -11,3 +11,4 @@ pub mod KeptLaws
 pub mod ReadLaws
 pub mod Planned
 pub mod PlannedLaws
+pub mod NextStep

@@ -1,19 +1,18 @@
 -- The steps of the statements that are defined, by their names.
-use Rattle.std.specs.Prelude.{◌≡◌, ℕ, Bool, true, false, not, List, [], ◌∷◌, ◌++◌, map, filter, length, position, Option, Some, None, is_some, option_map, slice_get, bytes_eq, IsTrue, ◌≤◌}
+use Rattle.std.specs.Prelude.{◌≡◌, ℕ, Bool, false, not, List, [], ◌∷◌, ◌++◌, map, filter, length, position, Option, Some, None, is_some, option_map, slice_get, bytes_eq, IsTrue, ◌≤◌}
 use Rattle.std.specs.Map.{lookup}
 use Rattle.std.specs.Option.{option_or}
 use Rattle.map_nums.specs.Numbers.{is_value}
 use Rattle.map_defs.specs.Ops.{Name, Term, layer_term, number_term, Op, terms_of, needs_of}
 use Rattle.map_defs.specs.Nodes.{Node, find_node, lacks}
 use Rattle.map_defs.specs.Depths.{depth_in, by_depth}
-use Rattle.map_defs.specs.FlatNames.{AreApart, Each}
+use Rattle.map_defs.specs.FlatNames.{AreApart}
 use Rattle.statement_parser.specs.Views.{op_view}
 use Rattle.statement_parser.specs.declared.op.Op.{Op as Given}
 use Rattle.map_waves.specs.declared.plans.Ref.{Ref}
 use Rattle.map_waves.specs.declared.plans.Ref.TheVariants.{Source, Statement, Number}
 use Rattle.map_waves.specs.declared.plans.Step.{Step}
 use Rattle.edit_plans.specs.PlansFor.{AreRefsFor}
-use Rattle.edit_plans.specs.declared.planning.Flat.{Flat}
 use Rattle.edit_plans.specs.declared.planning.SourceNames.{SourceNames}
 
 -- ---- names by place
@@ -63,19 +62,24 @@ abbrev pub is_source_node : Option Node → Bool
 is_source_node None = false
 is_source_node (Some node) = not (is_some node.needs)
 
--- these are the names of the sources
+-- of the names that are there, these are the sources; one that is dropped may stand among them
 abbrev pub AreSources : List Node → List Name → Type 0
-AreSources nodes sources = (n : Name) → is_some (position (bytes_eq n) sources) ≡ is_source_node (find_node nodes n)
+AreSources nodes sources = (n : Name) (node : Node) → find_node nodes n ≡ Some node → is_some (position (bytes_eq n) sources) ≡ is_source_node (Some node)
+
+-- a flat statement that may come into a plan, and whether the edit wrote it
+pub record FlatDef : Type 0 where
+  pub op : Given
+  pub written : Bool
 
 -- a flat statement of a node
-pub record IsFlatOf (flats : List (List ℕ × Flat)) (n : Name) (ns : List Name) : Type 0 where
-  pub flat : Flat
+pub record IsFlatOf (flats : List (List ℕ × FlatDef)) (n : Name) (ns : List Name) : Type 0 where
+  pub flat : FlatDef
   pub found : lookup (bytes_eq n) flats ≡ Some flat
   pub needs : needs_of (op_view flat.op) ≡ ns
   pub operands : HasOperands (op_view flat.op)
 
 -- each flat statement of the nodes is there
-abbrev pub AreFlats : List Node → List (List ℕ × Flat) → Type 0
+abbrev pub AreFlats : List Node → List (List ℕ × FlatDef) → Type 0
 AreFlats nodes flats = (n : Name) (ns : List Name) → find_node nodes n ≡ Some (record { name = n; needs = Some ns }) → IsFlatOf flats n ns
 
 -- ---- the plan
@@ -84,14 +88,17 @@ AreFlats nodes flats = (n : Name) (ns : List Name) → find_node nodes n ≡ Som
 abbrev pub whole_names : List Node → List Node → List Name
 whole_names nodes listed = map (λ (node : Node). node.name) (filter (λ (node : Node). not (is_some (lacks nodes node.name))) listed)
 
-pub record IsPlannedStep (nodes : List Node) (sources : List Name) (flats : List (List ℕ × Flat)) (old names : List Name) (k : ℕ) (n : Name) (x : Step Given) : Type 0 where
-  pub from : lookup (bytes_eq n) flats ≡ Some (record { op = x.op; written = x.written })
+pub record IsPlannedStep (nodes : List Node) (sources : List Name) (flats : List (List ℕ × FlatDef)) (old names : List Name) (k : ℕ) (n : Name) (x : Step Given) : Type 0 where
+  pub flat : FlatDef
+  pub from : lookup (bytes_eq n) flats ≡ Some flat
+  pub op : op_view x.op ≡ op_view flat.op
+  pub written : x.written ≡ flat.written
   pub refs : AreRefsFor sources names k (terms_of (op_view x.op)) x.refs.items
   pub depth : x.depth ≡ depth_in nodes n
   pub kept : x.kept ≡ position (bytes_eq n) old
 
 -- each statement that lacks no name, by depth, then in order of place
-pub record IsPlanned (nodes : List Node) (sources : List Name) (flats : List (List ℕ × Flat)) (old names : List Name) (steps : List (Step Given)) : Type 0 where
+pub record IsPlanned (nodes : List Node) (sources : List Name) (flats : List (List ℕ × FlatDef)) (old names : List Name) (steps : List (Step Given)) : Type 0 where
   pub names_are : names ≡ whole_names nodes (by_depth nodes)
   pub count : length steps ≡ length names
   pub each : (k : ℕ) (n : Name) (x : Step Given) → slice_get names k ≡ Some n → slice_get steps k ≡ Some x → IsPlannedStep nodes sources flats old names k n x

@@ -16,9 +16,9 @@ use Rattle.map_waves.specs.declared.plans.Ref.TheVariants.{Source, Statement, Nu
 abbrev pub defined_names : EngineState → List Name
 defined_names s = map (λ (node : Node). node.name) (filter (λ (node : Node). is_some (value_of s node.name)) (by_depth (nodes_of s.entries)))
 
--- the cells of a layer after, and its cells before where it was defined
+-- the cells of a layer after where it is defined, and its cells before where it was
 pub record IsChangeOf (s t : EngineState) (n : Name) (c : ChangeState) : Type 0 where
-  pub after : cells_of t n ≡ Some c.cells
+  pub after : (now : List (Option ℤ)) → cells_of t n ≡ Some now → c.cells ≡ now
   pub before : (was : List (Option ℤ)) → cells_of s n ≡ Some was → c.before ≡ Some was
 
 -- an operand of statement k stands for a term

@@ -1,5 +1,5 @@
 -- What an edit counts, apart by sources and statements.
-use Rattle.std.specs.Prelude.{ℕ, ◌+◌, Bool, true, false, filter, length, Option, Some, None, if◌then◌else◌}
+use Rattle.std.specs.Prelude.{ℕ, ◌+◌, Bool, true, false, filter, length, Option, Some, None}
 use Rattle.map_defs.specs.Ops.{Name}
 use Rattle.map_edits.specs.LayerDefs.{Making, given_grid, by_op, LayerDef, layers, find_making}
 use Rattle.map_edits.specs.EngineStates.{EngineState}

@@ -2,7 +2,7 @@
 use Rattle.std.specs.Prelude.{◌≡◌, ℕ, List, Some, None}
 use Rattle.map_nums.specs.Grids.{IsSize, Cells}
 use Rattle.map_defs.specs.Ops.{Name}
-use Rattle.layer_tiles.specs.Layers.{LayerState, IsStamped, layer_of}
+use Rattle.layer_tiles.specs.Layers.{IsStamped, layer_of}
 use Rattle.map_edits.specs.WholeStates.{WholeState, cells_of, stamps_of}
 use Rattle.map_edits.specs.StampsAfter.{stamps_at}
 

@@ -5,7 +5,6 @@ ghost use Rattle.edit_plans.specs.StampLaws.{NewIsStamped, OldIsStamped};
 ghost use Rattle.edit_plans.specs.PlanLaws.{FirstFaultIsTold, NoFaultIsNone, ValuesAreMade};
 ghost use Rattle.edit_plans.specs.KeptLaws.{KeptIsRight};
 ghost use Rattle.statement_parser.specs.Formed.{IsOp};
-ghost use Rattle.statement_parser.specs.Views.{op_view};
 ghost use Rattle.edit_plans.specs.PlannedLaws.{DepthsRise, PlannedIsInOrder, PlannedIsPlan};
 ghost use Rattle.edit_plans.specs.ReadLaws.{ReadsAreAllowed};
 
@@ -55,6 +54,6 @@ pub fn read_law()
 /// the depths rise.
 pub fn planned_law<K: Maker>()
     ensures plan { PlannedIsPlan K.Beside }
-    ensures order { PlannedIsInOrder K.Beside (λ o. IsOp (op_view o)) }
+    ensures order { PlannedIsInOrder K.Beside IsOp }
     ensures rise { DepthsRise }
 {}

@@ -1,6 +1,6 @@
 //! The steps of the statements that are defined after an edit.
 
-ghost use Rattle.std.specs.Prelude.{◌≡◌, ◌+◌, ◌^◌, ◌<◌, suc, length, fold, map, max, option_map, slice_get, position, bytes_eq, IfOk};
+ghost use Rattle.std.specs.Prelude.{◌≡◌, ◌+◌, ◌^◌, ◌<◌, ◌++◌, ◌∷◌, [], suc, length, fold, map, max, option_map, slice_get, position, bytes_eq, IfOk, OnOk};
 ghost use Rattle.std.specs.List.{All};
 ghost use Rattle.map_nums.specs.Options.{all_some};
 ghost use Rattle.map_defs.specs.Ops.{terms_of};
@@ -8,8 +8,10 @@ ghost use Rattle.map_edits.specs.Laws.{HasNoCycle};
 ghost use Rattle.statement_graph.specs.Groups.{nodes_in};
 ghost use Rattle.statement_parser.specs.Views.{op_view, term_view};
 ghost use Rattle.edit_plans.specs.Planned.{source_names, place_for, ref_for, ref_depth, HasValue, HasOperands, AreNamedApart, AreSources, AreFlats, IsPlanned};
+ghost use Rattle.edit_plans.specs.NextStep.{IsReady, IsNextStep, IsNew};
 
-use indexmap::{IndexMap, IndexSet};
+use crate::flats::FlatStatements;
+use indexmap::IndexSet;
 use layer_tiles::Cell;
 use map_nums::NoMemory;
 use map_waves::{Ref, Step};
@@ -17,14 +19,6 @@ use map_words::Name;
 use statement_graph::Graph;
 use statement_parser::{Op, Term};
 use std::alloc::Global;
-
-/// A flat statement that may come into a plan.
-#[derive(Drop)]
-pub struct Flat {
-    pub op: Op,
-    /// The edit wrote it.
-    pub written: bool,
-}
 
 /// The names of the sources by place.
 #[derive(Clone, Copy)]
@@ -39,6 +33,27 @@ pub struct SourceNames<'a> {
 pub struct Planned {
     pub names: IndexSet<Name>,
     pub steps: Vec<Step<Op>>,
+}
+
+impl Planned {
+    fn with_room(alloc: Global, count: usize) -> Result<Planned, NoMemory>
+        ensures names { IfOk result (λ p. p.names.keys ≡ []) }
+        ensures steps { IfOk result (λ p. p.steps.items ≡ []) }
+    {
+        let names = IndexSet::with_capacity(alloc, count)?;
+        let steps = Vec::with_capacity(alloc, count)?;
+        Ok(Planned { names, steps })
+    }
+
+    fn push(&mut self, alloc: Global, name: &Name, step: Step<Op>) -> Result<(), NoMemory>
+        requires { IsNew self.old.names.keys name.now }
+        ensures names { OnOk result (self.new.names.keys ≡ self.old.names.keys ++ name.now ∷ []) }
+        ensures steps { OnOk result (self.new.steps.items ≡ self.old.steps.items ++ step ∷ []) }
+    {
+        self.names.insert(name.copy(alloc)?)?;
+        self.steps.push(step)?;
+        Ok(())
+    }
 }
 
 /// The place of a source.
@@ -125,4 +140,59 @@ fn depth_over(refs: &[Ref], steps: &[Step<Op>]) -> u32
         depth = depth.max(depth_of(*operand, steps));
     }
     depth + 1
+}
+
+/// The step of a statement that lacks no name, after those that are planned.
+fn next_step<F: FlatStatements>(
+    alloc: Global,
+    sources: SourceNames<'_>,
+    flats: &F,
+    old: &IndexSet<Name>,
+    planned: &Planned,
+    name: &Name,
+) -> Result<Step<Op>, NoMemory>
+    requires ready { IsReady (source_names sources) (F.all flats.now) planned.now.names.keys name.now }
+    requires shallow { All (λ x. x.depth + 1 < 2 ^ 32) planned.now.steps.items }
+    ensures { IfOk result (IsNextStep (source_names sources.entry) (F.all flats.now) old.now.keys planned.now.names.keys planned.now.steps.items name.now) }
+{
+    let Some(flat) = flats.find(name) else {
+        unreachable!()
+    };
+    let Some(refs) = refs_of(alloc, sources, &planned.names, flat.op)? else {
+        unreachable!()
+    };
+    let depth = depth_over(refs.as_slice(), planned.steps.as_slice());
+    let op = flat.op.copy(alloc)?;
+    Ok(Step {
+        op,
+        refs,
+        depth,
+        kept: old.get_index_of(name),
+        written: flat.written,
+    })
+}
+
+/// The plan of a map after an edit: a step for each flat statement that lacks no name. `old` has the names by the
+/// places of what is kept of them.
+pub fn make_plan<F: FlatStatements>(
+    alloc: Global,
+    graph: &Graph,
+    sources: SourceNames<'_>,
+    flats: &F,
+    old: &IndexSet<Name>,
+) -> Result<Planned, NoMemory>
+    requires acyclic { HasNoCycle (nodes_in graph.now) }
+    requires apart { AreNamedApart (nodes_in graph.now) }
+    requires few { length (nodes_in graph.now) + 1 < 2 ^ 31 }
+    requires sources { AreSources (nodes_in graph.now) (source_names sources) }
+    requires flats { AreFlats (nodes_in graph.now) (F.all flats.now) }
+    ensures { IfOk result (λ p. IsPlanned (nodes_in graph.now) (source_names sources.entry) (F.all flats.now) old.now.keys p.names.keys p.steps.items) }
+{
+    let nodes = graph.whole(alloc)?;
+    let mut planned = Planned::with_room(alloc, nodes.len())?;
+    for node in nodes.as_slice() {
+        let step = next_step(alloc, sources, flats, old, &planned, &node.name)?;
+        planned.push(alloc, &node.name, step)?;
+    }
+    Ok(planned)
 }

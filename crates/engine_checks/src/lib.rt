@@ -1,9 +1,17 @@
-//! Tests of what the public calls of operations on whole layers and of the engine do, with values from other programs.
+//! Tests of what the public calls of the engine do, with values from another program.
 #![tactic(auto)]
 
 #[cfg(test)]
-mod engines;
+mod calls;
 #[cfg(test)]
-mod evaluations;
+mod drops;
 #[cfg(test)]
-mod makers;
+mod edits;
+#[cfg(test)]
+mod limits;
+#[cfg(test)]
+mod reads;
+#[cfg(test)]
+mod stamps;
+#[cfg(test)]
+mod trials;

@@ -1,8 +1,8 @@
 //! Lines of the language where all of its rows are there.
+use crate::texts::canonical;
 use map_nums::Stat;
 use statement_parser::{
     Command, Form, Line, LineEdit, LineRefusal, Operation, Rows, parse_line, print_procedure,
-    print_written,
 };
 use std::alloc::Global;
 use std::process::Abort;
@@ -106,11 +106,7 @@ fn refused_lines_of_all_rows(rt: HostRuntime) {
 
 /// The canonical text of a statement.
 fn reprinted(alloc: Global, line: &[u8]) -> Option<Vec<u8>> {
-    let read = read(alloc, line).ok()?;
-    match &read {
-        Line::Edit(LineEdit::Define { name, written }) => print_written(alloc, name, written).ok(),
-        _ => None,
-    }
+    canonical(alloc, &read(alloc, line).ok()?)
 }
 
 #[test]
@@ -146,18 +142,19 @@ fn defaults_are_left_out(rt: HostRuntime) -> Result<(), Fail> {
     Ok(())
 }
 
-/// The refused lines of worked sessions that the grammar alone decides.
+/// The refused lines of worked sessions and model files that the grammar alone decides.
 #[test]
 fn refused_lines_of_sessions(rt: HostRuntime) {
-    let lines: [(&[u8], LineRefusal); 9] = [
+    let lines: [(&[u8], LineRefusal); 10] = [
         (b"foo", LineRefusal::Syntax(4)),
         (b"C = LocalSun of A and 1", LineRefusal::Operation(5)),
         (b"C = LocalSum of A and", LineRefusal::Syntax(22)),
+        (b"B = LocalSum of A and", LineRefusal::Syntax(22)),
         (b"new of 1", LineRefusal::Syntax(5)),
         (b"new C 2000000001", LineRefusal::Number(7)),
         (b"paint A 0 1 1 1 1", LineRefusal::Number(9)),
         (b"symbol A 1 ab", LineRefusal::Syntax(13)),
-        (b"ab\x80", LineRefusal::Syntax(3)),
+        (b"ab\x80d", LineRefusal::Syntax(3)),
         (
             b"C = LocalSum of A and B ignoring nulls",
             LineRefusal::Syntax(25),
@@ -168,23 +165,14 @@ fn refused_lines_of_sessions(rt: HostRuntime) {
     }
 }
 
-/// A line of so many copies of a byte.
-fn copies(alloc: Global, byte: u8, count: u32) -> Result<Vec<u8>, Fail> {
-    let mut line = Vec::new(alloc);
-    for _ in 0..count {
-        line.push(byte)?;
-    }
-    Ok(line)
-}
-
 #[test]
 fn refused_long_lines_of_sessions(rt: HostRuntime) -> Result<(), Fail> {
-    let brackets = copies(rt.alloc(), b'(', 2000)?;
+    let brackets = vec![in rt.alloc(); b'('; 2000]?;
     assert_eq!(rt;
         refusal(rt.alloc(), &brackets),
         Some(LineRefusal::Syntax(1))
     );
-    let letters = copies(rt.alloc(), b'x', 4097)?;
+    let letters = vec![in rt.alloc(); b'x'; 4097]?;
     assert_eq!(rt;
         refusal(rt.alloc(), &letters),
         Some(LineRefusal::Long(4097))
@@ -213,7 +201,7 @@ fn refused_labels_and_symbols(rt: HostRuntime) {
 #[test]
 fn a_text_ends_at_sixty_four(rt: HostRuntime) -> Result<(), Fail> {
     let mut line = Vec::from_slice(rt.alloc(), b"label A 5 ")?;
-    line.extend_from_slice(&copies(rt.alloc(), b'7', 64)?)?;
+    line.extend_from_slice(&vec![in rt.alloc(); b'7'; 64]?)?;
     line.push(b' ')?;
     assert_eq!(rt; refusal(rt.alloc(), &line), None);
     line.push(b'x')?;

@@ -9,3 +9,5 @@ mod lines;
 mod names;
 #[cfg(test)]
 mod procedures;
+#[cfg(test)]
+mod texts;

@@ -1,6 +1,7 @@
 //! Lines that are read, refused and printed again.
+use crate::texts::canonical;
 use map_lines::parse_line;
-use statement_parser::{Line, LineEdit, LineRefusal, Op, Request, Term, print_written};
+use statement_parser::{Line, LineEdit, LineRefusal, Op, Request, Term};
 use std::alloc::Global;
 use std::process::Abort;
 use std::test::Fail;
@@ -21,9 +22,9 @@ fn refused_words(rt: HostRuntime) {
     refused(&rt, b"drop of", LineRefusal::Syntax(6));
     refused(&rt, b"drop A.b", LineRefusal::Syntax(6));
     refused(&rt, b"grid A.paint", LineRefusal::Syntax(6));
-    refused(&rt, b"symbol A 1 ab", LineRefusal::Syntax(1));
-    refused(&rt, b"label Z 1 x", LineRefusal::Syntax(1));
-    refused(&rt, b"legend Q", LineRefusal::Syntax(1));
+    refused(&rt, b"symbol A 1 ab", LineRefusal::Syntax(13));
+    refused(&rt, b"label Z 1", LineRefusal::Syntax(10));
+    refused(&rt, b"legend", LineRefusal::Syntax(7));
 }
 
 #[test]
@@ -49,7 +50,7 @@ fn refused_operations(rt: HostRuntime) {
     refused(&rt, b"C = LocalSun of A and 1", LineRefusal::Operation(5));
     refused(&rt, b"C = end", LineRefusal::Operation(5));
     refused(&rt, b"C = paint(A)", LineRefusal::Syntax(5));
-    refused(&rt, b"C = Twice(A, 3)", LineRefusal::Syntax(5));
+    refused(&rt, b"C = Twice(A, 3", LineRefusal::Syntax(15));
     refused(
         &rt,
         b"C = FocalProduct of A at 2",
@@ -81,19 +82,11 @@ fn refused_bodies(rt: HostRuntime) {
     );
 }
 
-/// A line of so many letters.
-fn letters(alloc: Global, count: u32) -> Result<Vec<u8>, Fail> {
-    let mut line = Vec::new(alloc);
-    for _ in 0..count {
-        line.push(b'x')?;
-    }
-    Ok(line)
-}
-
 #[test]
 fn lines_of_any_length(rt: HostRuntime) -> Result<(), Fail> {
-    refused(&rt, &letters(rt.alloc(), 4096)?, LineRefusal::Syntax(1));
-    refused(&rt, &letters(rt.alloc(), 4097)?, LineRefusal::Long(4097));
+    let letters = vec![in rt.alloc(); b'x'; 4097]?;
+    refused(&rt, &letters[1..], LineRefusal::Syntax(1));
+    refused(&rt, &letters, LineRefusal::Long(4097));
     Ok(())
 }
 
@@ -186,11 +179,7 @@ fn new_layers_have_their_cell(rt: HostRuntime) {
 
 /// The canonical text of a statement.
 fn reprinted(alloc: Global, line: &[u8]) -> Option<Vec<u8>> {
-    let read = parse_line(alloc, line).ok()?;
-    match &read {
-        Line::Edit(LineEdit::Define { name, written }) => print_written(alloc, name, written).ok(),
-        _ => None,
-    }
+    canonical(alloc, &parse_line(alloc, line).ok()?)
 }
 
 /// A statement has this canonical text.

@@ -7,6 +7,7 @@ ghost use Rattle.statement_parser.specs.Views.{term_view, written_view};
 ghost use Rattle.statement_parser.specs.Procedures.{procedure_view, body_view};
 ghost use Rattle.procedure_expand.specs.WorkedProcedures.{twice as meant_twice};
 
+use crate::texts::canonical;
 use map_lines::parse_line;
 use map_nums::Stat;
 use map_words::Name;
@@ -164,14 +165,6 @@ fn procedures_are_found(rt: HostRuntime) -> Result<(), Fail> {
     Ok(())
 }
 
-/// The canonical text of a statement.
-fn canonical(alloc: Global, edit: &LineEdit) -> Option<Vec<u8>> {
-    match edit {
-        LineEdit::Define { name, written } => print_written(alloc, name, written).ok(),
-        _ => None,
-    }
-}
-
 /// The edit that a line is.
 fn edit_of(alloc: Global, line: &[u8]) -> Option<LineEdit> {
     match parse_line(alloc, line) {
@@ -184,7 +177,7 @@ fn edit_of(alloc: Global, line: &[u8]) -> Option<LineEdit> {
 fn copied(alloc: Global, line: &[u8]) -> Option<Vec<u8>> {
     let edit = edit_of(alloc, line)?;
     let copy = edit.copy(alloc).ok()?;
-    canonical(alloc, &copy)
+    canonical(alloc, &Line::Edit(copy))
 }
 
 #[test]

@@ -1,116 +1,78 @@
--- When an edit is accepted, and what is then held.
-use Rattle.std.proofs.Common.{◌≡◌, ℕ, Bool, true, false, cond, List, [], Some, None, Ok, Err, refl, sym, ap, subst, ◌∙◌, arith}
-use Rattle.std.specs.List.{All}
-use Rattle.map_nums.specs.Counts.{raised}
-use Rattle.map_nums.specs.Grids.{Size}
-use Rattle.std.proofs.lemmas.List.Elements.{All-nil}
-use Rattle.map_defs.specs.Depths.{by_depth, is_looped}
+-- What is answered of an edit whose statements are prepared, and what it reads.
+use Rattle.std.proofs.Common.{◌≡◌, ℕ, ◌+◌, ◌-◌, ◌*◌, ◌≤◌, List, length, Ok, refl, sym, ap, ◌∙◌, arith}
 use Rattle.map_defs.specs.Ops.{Name}
-use Rattle.statement_graph.specs.Groups.{Group}
-use Rattle.map_edits.specs.Entries.{Entry}
-use Rattle.map_edits.specs.EngineStates.{EngineState, value_of}
-use Rattle.map_edits.specs.Faults.{Fault, too_many_viewers, overflow, fault_of}
-use Rattle.map_edits.specs.Edits.{Edit, Refusal, fault, entries_after, with_entries, may_fault, without_fault, settled, accept_entries, accept}
-use Rattle.live_engine.specs.Held.{entries_of}
-use Rattle.live_engine.specs.Groups.{groups_of}
-use Rattle.live_engine.specs.Engines.{IsHeld, seen, AreLawful, IsKept}
-use Rattle.live_engine.specs.Scenes.{state_with}
-use Rattle.live_engine.specs.Values.{AreValues, IsEvaluation, IsOfStamp}
-use Rattle.live_engine.specs.Refusals.{refusal_of}
-use Rattle.live_engine.specs.Accepts.{Refuses, Accepts}
-use Rattle.live_engine.specs.Holdings.{seen_in, IsKeptIn, IsPlaced}
-use Rattle.live_engine.specs.declared.edits.Accepted.{Accepted}
-use Rattle.live_engine.specs.declared.held.Item.{Item}
-use Rattle.live_engine.specs.declared.held.Held.{Held}
-use Rattle.live_engine.specs.declared.values.Valued.{Valued}
-use Rattle.live_engine.specs.declared.values.Halt.{Halt}
-use Rattle.live_engine.specs.declared.values.Halt.TheVariants as halts
+use Rattle.layer_tiles.specs.Tallies.{TallyState, RisesBy}
+use Rattle.layer_tiles.proofs.Rising.{rises_none, rises_then, rises_within}
+use Rattle.map_edits.specs.WholeStates.{WholeState}
+use Rattle.map_edits.specs.WholeEdits.{WholeEdit}
+use Rattle.map_edits.specs.Attempts.{attempted}
+use Rattle.map_edits.specs.GroupLaws.{IsLawful, IsSaid}
+use Rattle.map_edits.specs.Touches.{touch_of}
+use Rattle.map_edits.specs.EditCounts.{Counts, counts_of}
+use Rattle.map_edits.specs.StampsAfter.{stamped}
+use Rattle.map_edits.specs.Counted.{unless_fault, of_attempt, accept_counted}
+use Rattle.map_edits.specs.Allowances.{edit_reads}
+use Rattle.statement_parser.specs.declared.op.Op.{Op as Given}
+use Rattle.map_waves.specs.declared.plans.Shift.{Shift}
+use Rattle.map_waves.specs.declared.plans.Step.{Step}
+use Rattle.edit_plans.specs.Touching.{ChangesOnly}
+use Rattle.edit_plans.specs.Orderly.{IsOrderly}
+use Rattle.edit_plans.specs.SourceCounts.{joined, counts_of_sources, counts_of_touched, counts_to_place}
+use Rattle.edit_plans.proofs.CountsSummed.{counts_are_summed}
+use Rattle.edit_plans.proofs.OneSource.{one_source_counts}
+use Rattle.edit_plans.proofs.TouchedAlone.{others_are_kept, order_is_kept}
+use Rattle.kept_map.specs.Maps.{names_in, seen}
+use Rattle.kept_map.specs.Keeps.{IsKept}
+use Rattle.kept_map.specs.Edits.{IsSetUp}
+use Rattle.kept_map.specs.Repairs.{plan_in, counts_view, IsPreparedFor, own_damage, RisesByRest}
+use Rattle.kept_map.specs.declared.maps.KeptMap.{KeptMap}
+use Rattle.kept_map.specs.declared.preparing.Prepared.{Prepared}
+use Rattle.kept_map.proofs.Allowed.{sources_allowed}
+use Rattle.live_engine.specs.Accepts.{ReadsWithin}
 
--- ---- faults and values don't depend on the number
+-- nothing is read
+pub reads_none : (s : WholeState) (e : WholeEdit) (a : TallyState) → ReadsWithin s e a a
+reads_none s e a = rises_within 0 0 (edit_reads s e).looks (edit_reads s e).picks a a (omega arith) (omega arith) (rises_none a)
 
-pub fault_with : (size : Size) (es : List Entry) (number : ℕ) → fault_of (record { size = size; entries = es; number = number }) ≡ fault_of (state_with size es)
-unfolding fault_of value_of
-fault_with size es number = refl
+-- no more than for the tiles of the edit's own source
+pub reads_tried : (s t : WholeState) (e : WholeEdit) → IsLawful s → IsSaid e → attempted s e ≡ Ok t → (a : ℕ) (x y : TallyState) → a ≤ 64 * (counts_of_touched (touch_of e) s.names t.names).evaluated → RisesBy a 0 x y → ReadsWithin s e x y
+reads_tried s t e lawful said tried a x y few first =
+    let changes = others_are_kept s t e lawful said tried in
+    let orderly = order_is_kept s t e lawful said tried in
+    let one : (counts_of_sources (touch_of e) s.names t.names).evaluated ≡ (counts_of_touched (touch_of e) s.names t.names).evaluated = ap (λ (c : Counts). c.evaluated) (one_source_counts (touch_of e) s.names t.names changes lawful.none_looped orderly) in
+    let all = sources_allowed s t e tried orderly in
+    rises_within a 0 (edit_reads s e).looks (edit_reads s e).picks x y (omega (arith, few, one, all)) (omega arith) first
 
-pub value_with : (size : Size) (es : List Entry) (number : ℕ) (n : Name) → value_of (record { size = size; entries = es; number = number }) n ≡ value_of (state_with size es) n
-unfolding value_of
-value_with size es number n = refl
+-- after looks at its own source
+pub reads_more : (m : KeptMap) (e : WholeEdit) (t : WholeState) (a : ℕ) (x y z : TallyState) → a ≤ 64 * own_damage m e t → RisesBy a 0 x y → RisesByRest m e t y z → ReadsWithin (seen m) e x z
+reads_more m e t a x y z few first then =
+    let own = 64 * own_damage m e t in
+    let all = (edit_reads (seen m) e).looks in
+    let enough : own ≤ all = then.own in
+    let picks = (edit_reads (seen m) e).picks in
+    rises_within (a + (all - own)) (0 + picks) all picks x z (omega (arith, few, enough)) (omega arith) (rises_then a 0 (all - own) picks x y z first then.rest)
 
-pub values_with : (size : Size) (es : List Entry) (number : ℕ) (values : List Valued) → AreValues (state_with size es) values → AreValues (record { size = size; entries = es; number = number }) values
-values_with size es number values are n op is = are n op is ∙ sym (value_with size es number n)
+module _ (m : KeptMap) (e : WholeEdit) (t : WholeState) (shift : Shift) (sources : List Name) (kept : IsKept m) (set_up : IsSetUp m e t shift sources) where
+  changes : ChangesOnly (touch_of e) (names_in m) t.names
+  changes = others_are_kept (seen m) t e kept.lawful set_up.said set_up.attempt
 
--- ---- acceptance
+  orderly : IsOrderly t.names
+  orderly = order_is_kept (seen m) t e kept.lawful set_up.said set_up.attempt
 
-pub accept_err : (s : EngineState) (edit : Edit) (r : Refusal) → entries_after s edit ≡ Err r → accept s edit ≡ Err r
-unfolding accept
-accept_err s edit r e = ap (accept_entries s edit) e
+  abbrev own_counts : Counts
+  own_counts = counts_of_touched (touch_of e) (names_in m) t.names
 
-settled_ok : (edit : Edit) (t : EngineState) → fault_of t ≡ None → settled edit t ≡ Ok t
-settled_ok edit t none = go (may_fault edit)
-  where
-    go : (b : Bool) → cond b (without_fault t (fault_of t)) (Ok t) ≡ Ok t
-    go true = ap (without_fault t) none
-    go false = refl
+  module _ (names : List Name) (steps : List (Step Given)) (prepared : Prepared) (is : IsPreparedFor m e t shift sources names steps prepared) where
+    counted : counts_of (touch_of e) (names_in m) t.names ≡ joined own_counts (counts_view prepared.counts)
+    counted =
+        counts_are_summed (touch_of e) (names_in m) t.names (plan_in m shift steps) sources names is.under.plan changes kept.lawful.none_looped orderly
+        ∙ ap (λ c. joined c (counts_to_place (plan_in m shift steps) (length names))) (one_source_counts (touch_of e) (names_in m) t.names changes kept.lawful.none_looped orderly)
+        ∙ ap (λ k. joined own_counts (counts_to_place (plan_in m shift steps) k)) (sym is.under.count)
+        ∙ ap (joined own_counts) (sym is.counts)
 
-module _ (s : EngineState) (edit : Edit) (es : List Entry) (after : entries_after s edit ≡ Ok es) where
-  pub accept_ok : fault_of (state_with s.size es) ≡ None → accept s edit ≡ Ok (with_entries s es)
-  unfolding accept
-  accept_ok none = ap (accept_entries s edit) after ∙ settled_ok edit (with_entries s es) (fault_with s.size es (raised s.number 1) ∙ none)
+    pub accepted_is : accept_counted (seen m) e ≡ Ok (record { state = stamped (seen m) t; counts = joined own_counts (counts_view prepared.counts) })
+    unfolding accept_counted
+    accepted_is = ap (of_attempt (seen m) e) set_up.attempt ∙ ap (unless_fault (touch_of e) (seen m) t) is.faultless ∙ ap (λ c. Ok (record { state = stamped (seen m) t; counts = c })) counted
 
-  pub accept_fault : (f : Fault) → may_fault edit ≡ true → fault_of (state_with s.size es) ≡ Some f → accept s edit ≡ Err (fault f)
-  unfolding accept
-  accept_fault f may some =
-      ap (accept_entries s edit) after ∙ ap (λ b. cond b (without_fault (with_entries s es) (fault_of (with_entries s es))) (Ok (with_entries s es))) may
-      ∙ ap (without_fault (with_entries s es)) (fault_with s.size es (raised s.number 1) ∙ some)
-
-  -- an evaluation that halts refuses the edit
-  pub halted : (new : EngineState) (halt : Halt) → may_fault edit ≡ true → IsEvaluation (state_with s.size es) (Err halt) → new ≡ s → Refuses s new edit (refusal_of halt)
-  halted new (halts.Viewers n c) may some same = (accept_fault (too_many_viewers n c) may some, same)
-  halted new (halts.Overflow n r c) may some same = (accept_fault (overflow n r c) may some, same)
-  halted new halts.NoMemory may none same = same
-
--- ---- what is held after
-
-pub same_state : (size size' : Size) (items items' : List (List ℕ × Item)) (k k' : ℕ) → size' ≡ size → items' ≡ items → k' ≡ k → seen size items k ≡ seen size' items' k'
-same_state size size' items items' k k' p q r = ap (λ s. seen s items k) (sym p) ∙ ap (λ x. seen size' x k) (sym q) ∙ ap (λ x. seen size' items' x) (sym r)
-
-pub kept_at : (size size' : Size) (items items' : List (List ℕ × Item)) (graph graph' : List Group) (values values' : List Valued) (k k' : ℕ)
-    → size' ≡ size → items' ≡ items → graph' ≡ graph → values' ≡ values → k' ≡ k → IsKept size items graph values k → IsKept size' items' graph' values' k'
-kept_at size size' items items' graph graph' values values' k k' p q g v r kept =
-    subst (λ x. IsKept size' items' graph' values' x) (sym r)
-    (subst (λ x. IsKept size' items' graph' x k) (sym v)
-    (subst (λ x. IsKept size' items' x values k) (sym g)
-    (subst (λ x. IsKept size' x graph values k) (sym q)
-    (subst (λ x. IsKept x items graph values k) (sym p) kept))))
-
-module _ (old new : Held) (items : List (List ℕ × Item)) (graph : List Group) (values : List Valued) (accepted : Accepted) (placed : IsPlaced old new items graph values accepted)
-    (is : AreValues (state_with old.extent (entries_of items)) values × (fault_of (state_with old.extent (entries_of items)) ≡ None)) where
-  pub placed_accepts : (edit : Edit) → entries_after (seen_in old) edit ≡ Ok (entries_of items) → Accepts (seen_in old) (seen_in new) edit (Ok accepted)
-  placed_accepts edit after =
-      (accept_ok (seen_in old) edit (entries_of items) after is.1 ∙ ap (λ s. Ok s) (same_state old.extent new.extent items new.names.entries (raised old.number 1) new.number placed.extent_stays placed.items_are placed.number_rises), placed.told)
-
-  pub placed_kept : All (IsOfStamp old.extent (raised old.number 1)) values → All (IsHeld old.extent) items → AreLawful (entries_of items) → graph ≡ groups_of (entries_of items) → IsKeptIn new
-  placed_kept stamped held law groups =
-      kept_at old.extent new.extent items new.names.entries graph new.graph values new.values.items (raised old.number 1) new.number
-      placed.extent_stays placed.items_are placed.graph_is placed.values_are placed.number_rises
-      (record {
-        held = held;
-        lawful = law;
-        graph_is = groups;
-        values_are = values_with old.extent (entries_of items) (raised old.number 1) values is.0;
-        stamped = stamped;
-        faultless = fault_with old.extent (entries_of items) (raised old.number 1) ∙ is.1;
-      })
-
--- ---- nothing is held at first
-
-pub nothing_kept : (size : Size) → IsKept size [] [] [] 0
-unfolding fault_of by_depth is_looped
-nothing_kept size = record {
-  held = All-nil (IsHeld size);
-  lawful = record { well = record { none_looped = λ n. refl; own = tt; apart = tt }; sources = omega arith; flats = omega arith };
-  graph_is = refl;
-  values_are = λ n op is. absurd cc;
-  stamped = All-nil (IsOfStamp size 0);
-  faultless = refl;
-}
+  pub reads_after : (a : ℕ) (x y z : TallyState) → a ≤ 64 * own_damage m e t → RisesBy a 0 x y → RisesByRest m e t y z → ReadsWithin (seen m) e x z
+  reads_after = reads_more m e t

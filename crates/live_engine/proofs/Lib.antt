@@ -1,22 +1,26 @@
-pub mod Lookups
-pub mod Making
-pub mod Hand
-pub mod Valuing
-pub mod Depths
-pub mod Kept
-pub mod Steps
+pub mod Items
+pub mod RangedFlats
+pub mod Undotted
+pub mod Standings
 pub mod Meeting
+pub mod MetTiles
 pub mod Painted
 pub mod Patching
-mod Items
-mod Groupings
-mod Counts
-mod Standings
-mod Lawful
-mod Accepting
-mod Editing
-mod Reading
-pub mod Sounds
 pub mod Exact
-pub mod Faulty
-pub mod Zonal
+pub mod Counted
+pub mod StatementEntries
+pub mod StatementStates
+pub mod StatementMaps
+pub mod Accepting
+pub mod Settled
+pub mod Bodies
+pub mod Noted
+pub mod Refusing
+pub mod AddedStates
+pub mod Denied
+pub mod FewCounts
+pub mod AddedMaps
+pub mod DroppedStates
+pub mod DroppedMaps
+pub mod PaintedMaps
+pub mod Unpainted

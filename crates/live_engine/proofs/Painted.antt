@@ -4,7 +4,8 @@ use Rattle.std.proofs.lemmas.List.{get_or-set_same, get_or-set_other, length-set
 use Rattle.std.proofs.lemmas.List.FromFn.{get_or-map-range_with_len}
 use Rattle.std.proofs.lemmas.Nat.{div-mul-add, mod-mul-add, mul-add-lt}
 use Rattle.map_nums.specs.Grids.{Size, IsSize, Cells, Grid, cells_in}
-use Rattle.map_edits.specs.Edits.{Rectangle, holds, painted}
+use Rattle.map_edits.specs.EditForms.{Rectangle}
+use Rattle.map_edits.specs.Painting.{holds, painted}
 use Rattle.layer_tiles.specs.Tiles.{Block, block_row, tile_block, tile_cells, tiles_in, tile_top, tile_left, tile_height, tile_width, tile_start, IsBlockOf}
 use Rattle.layer_tiles.specs.Places.{IsPlaceOf}
 use Rattle.layer_tiles.specs.declared.extents.Place.{Place}

@@ -1,10 +1,12 @@
 -- A patch of the painted tiles.
-use Rattle.std.proofs.Common.{◌≡◌, inl, inr, ℕ, ◌+◌, ◌-◌, ◌*◌, ◌<◌, ◌≤◌, Bool, true, false, cond, eqb, List, [], ◌∷◌, ◌++◌, length, get_or, Option, Some, None, ℤ, IsSome, refl, sym, ◌∙◌, ap, subst, arith, ⊎_elim}
-use Rattle.std.proofs.lemmas.Bool.{eq-eqb, cases_lt}
+use Rattle.std.proofs.Common.{◌≡◌, inl, inr, ℕ, ◌+◌, ◌-◌, ◌*◌, ◌<◌, ◌≤◌, Bool, true, false, cond, eqb, List, [], ◌∷◌, ◌++◌, length, get_or, Option, Some, None, is_some, ℤ, IsSome, refl, sym, ◌∙◌, ap, subst, arith, ⊎_elim}
+use Rattle.std.proofs.lemmas.Bool.{eq-eqb, cases_lt, false≢true}
+use Rattle.std.proofs.lemmas.Option.{none-some}
 use Rattle.std.proofs.lemmas.List.{length-map, get_or_default}
 use Rattle.std.proofs.lemmas.List.FromFn.{length-map-range_with_len}
 use Rattle.map_nums.specs.Grids.{Size, IsSize, Grid, cells_in}
-use Rattle.map_edits.specs.Edits.{Rectangle, holds, painted}
+use Rattle.map_edits.specs.EditForms.{Rectangle}
+use Rattle.map_edits.specs.Painting.{holds, painted}
 use Rattle.layer_tiles.specs.Tiles.{Block, tile_block, tile_of, tiles_in, tile_start}
 use Rattle.layer_tiles.specs.Patches.{PatchState, patch_get, patched, numbers_of, IsAboveLast}
 use Rattle.layer_tiles.proofs.Found.{get-from_Contains}
@@ -37,16 +39,22 @@ some_of None i = cc
 some_of (Some b) i = (b, refl)
 
 module _ (g : Grid) (r : Rectangle) (cell : Option ℤ) where
-  -- a tile that the rectangle does not meet
-  pub are_painted_skip : (n : ℕ) (p : PatchState) → ArePainted g r cell n p → (MeetsRectangle g.size r n → ⊥) → ArePainted g r cell (n + 1) p
-  are_painted_skip n p a apart = record {
+  -- tiles that the rectangle does not meet
+  pub are_painted_skip : (n k : ℕ) (p : PatchState) → n ≤ k → ArePainted g r cell n p → ((t : ℕ) → n ≤ t → t < k → MeetsRectangle g.size r t → ⊥) → ArePainted g r cell k p
+  are_painted_skip n k p h a apart = record {
     size = a.size;
     held = a.held;
-    there = λ t m l. ⊎_elim
-        (λ (q : t < n). a.there t m q)
-        (λ (q : n ≤ t). let e : t ≡ n = omega arith in absurd (apart (subst (MeetsRectangle g.size r) e m)))
-        (cases_lt t n);
+    there = λ t m l. ⊎_elim (λ (q : t < n). a.there t m q) (λ (q : n ≤ t). absurd (apart t q l m)) (cases_lt t n);
     only = λ t i. let o = a.only t i in (o.0, omega (arith, o.1));
+  }
+
+  -- none yet
+  pub are_painted_none : (p : PatchState) → p.size ≡ g.size → p.tiles ≡ [] → ArePainted g r cell 0 p
+  are_painted_none p size none = record {
+    size = size;
+    held = λ t b i. absurd (none-some b (sym (ap (λ ts. patch_get ts t) none) ∙ i));
+    there = λ t m l. absurd (omega (arith, l));
+    only = λ t i. absurd (false≢true (ap (λ ts. is_some (patch_get ts t)) (sym none) ∙ i));
   }
 
   -- a tile that it meets

@@ -1,111 +1,193 @@
 //! Sources that are loaded or made new.
 
-ghost use Rattle.std.specs.Prelude.{◌≡◌, ◌<◌, true, IsTrue, None, IfOk};
-ghost use Rattle.indexmap.specs.IndexMap.{spare};
-ghost use Rattle.map_words.specs.Names.{is_plain};
-ghost use Rattle.map_edits.specs.Entries.{find_def};
-ghost use Rattle.map_edits.specs.Edits as edits;
+ghost use Rattle.std.specs.Prelude.{◌≡◌, ◌<◌, ◌≤◌, ◌++◌, ◌∷◌, [], false, IsTrue, None, Ok, position, bytes_eq, count_by};
 ghost use Rattle.map_nums.specs.Counts.{raised};
-ghost use Rattle.live_engine.specs.Stamps.{HasStamp, IsStampedSource};
-ghost use Rattle.live_engine.specs.Accepts.{Accepts};
-ghost use Rattle.live_engine.specs.Held.{grid_of};
-ghost use Rattle.live_engine.specs.Holdings.{entries_in, seen_in, IsKeptIn};
-ghost use Rattle.layer_tiles.specs.Tallies.{KeepsParts};
+ghost use Rattle.map_words.specs.Names.{is_plain};
+ghost use Rattle.layer_tiles.specs.Layers.{IsLayer, layer_of};
+ghost use Rattle.layer_tiles.specs.Tallies.{RisesBy};
+ghost use Rattle.map_edits.specs.Entries.{find_def};
+ghost use Rattle.map_edits.specs.EditForms as edits;
+ghost use Rattle.map_edits.specs.EntriesAfter.{same_size as is_same_size};
+ghost use Rattle.map_edits.specs.Limits.{is_source, most_sources};
+ghost use Rattle.map_edits.specs.WholeEdits.{of_names};
+ghost use Rattle.statement_graph.specs.Puts.{source_node};
+ghost use Rattle.kept_map.specs.Maps.{grid_of, entries_in, seen};
+ghost use Rattle.kept_map.specs.Keeps.{IsKept};
+ghost use Rattle.kept_map.specs.Rooms.{HasNextRoom};
+ghost use Rattle.live_engine.specs.Accepts.{Accepts, ReadsWithin};
+ghost use Rattle.live_engine.specs.Adding.{IsAdding, IsAddedFor};
+ghost use Rattle.live_engine.specs.Puts.{IsSourcePut};
 
+use crate::counting::joined;
 use crate::edits::{Accepted, Refusal, Which};
-use crate::evaluating::{evaluated, refused};
 use crate::graphs::with_source;
-use crate::held::{Held, Item};
+use crate::halted::refused;
 use crate::limits::{MOST_SOURCES, has, sources};
-use crate::placing::place;
-use crate::scene::Shift;
+use crate::placing::{commit, insert};
+use edit_plans::Planned;
+use kept_map::{Item, KeptMap, Prepared, prepare};
 use layer_tiles::{Cell, Extent, Layer, Tally};
+use map_waves::Shift;
 use map_words::Name;
+use statement_graph::Graph;
 use std::alloc::Global;
-
-/// Adds a source with a layer of the map's size. The name isn't there.
-fn add_source<M: Tally>(
-    held: &mut Held,
-    alloc: Global,
-    name: Name,
-    layer: Layer,
-    tally: &mut M,
-) -> Result<Accepted, Refusal>
-    requires kept { IsKeptIn held.old }
-    requires room { 0 < spare held.old.names }
-    requires plain { IsTrue (is_plain name) }
-    requires size { layer.size ≡ held.old.extent }
-    requires new { find_def (entries_in held.old) name ≡ None }
-    requires stamp { HasStamp (raised held.old.number 1) layer }
-    ensures accepts { (edit : edits.Edit) → edits.entries_after (seen_in held.old) edit ≡ edits.add_source (entries_in held.old) name (grid_of layer) → edits.may_fault edit ≡ true
-        → Accepts (seen_in held.old) (seen_in held.new) edit result }
-    ensures stamped { IfOk result (λ accepted. IsStampedSource held.new.names.entries name accepted.number) }
-    ensures kept { IsKeptIn held.new }
-    ensures parts { KeepsParts (M.counts tally.old) (M.counts tally.new) }
-{
-    if sources(&held.names) >= MOST_SOURCES {
-        return Err(Refusal::Limit(Which::Sources));
-    }
-    let graph = with_source(&held.graph, alloc, &name)?;
-    match evaluated(alloc, held, Shift::Loaded(&name, &layer), &graph, tally) {
-        Ok(values) => Ok(place(held, name, Item::Source(layer), graph, values)),
-        Err(halt) => Err(refused(halt)),
-    }
-}
+use std::thread::Threads;
+use tile_workers::Gate;
 
 fn same_size(one: Extent, other: Extent) -> bool
-    ensures { result ≡ edits.same_size one other }
+    ensures { result ≡ is_same_size one other }
 {
     one.rows() == other.rows() && one.columns() == other.columns()
 }
 
 /// Loads a layer.
-pub(crate) fn load<M: Tally>(
-    held: &mut Held,
+pub(crate) fn load<M: Tally + Send, G: Gate + Sync, R: Threads + Sync>(
+    map: &mut KeptMap,
+    rt: &R,
     alloc: Global,
     name: Name,
     mut layer: Layer,
+    workers: u32,
+    gate: &G,
     tally: &mut M,
 ) -> Result<Accepted, Refusal>
-    requires kept { IsKeptIn held.old }
-    requires room { 0 < spare held.old.names }
+    requires kept { IsKept map.old }
     requires plain { IsTrue (is_plain name) }
-    ensures accepts { Accepts (seen_in held.old) (seen_in held.new) (edits.load name (grid_of layer)) result }
-    ensures stamped { IfOk result (λ accepted. IsStampedSource held.new.names.entries name accepted.number) }
-    ensures kept { IsKeptIn held.new }
-    ensures parts { KeepsParts (M.counts tally.old) (M.counts tally.new) }
+    requires some { 1 ≤ workers }
+    requires most { workers ≤ 64 }
+    requires whole { 1 < workers → ((M.counts tally.old).is_part ≡ false) × ((M.counts tally.old).parts_out ≡ 0) }
+    ensures accepts { Accepts (seen map.old) (seen map.new) (of_names (edits.load name (grid_of layer))) result }
+    ensures kept { IsKept map.new }
+    ensures reads { ReadsWithin (seen map.old) (of_names (edits.load name (grid_of layer))) (M.counts tally.old) (M.counts tally.new) }
 {
-    if has(&held.names, &name) {
+    if has(map, &name) {
         return Err(Refusal::Exists(name));
     }
-    let extent = held.extent;
+    let extent = map.extent;
     if !same_size(layer.extent(), extent) {
         return Err(Refusal::Size(extent.rows() as u64, extent.columns() as u64));
     }
-    layer.restamp(held.number.saturating_add(1));
-    add_source(held, alloc, name, layer, tally)
+    layer.restamp(map.number.saturating_add(1));
+    map.reserve()?;
+    add_source(map, rt, alloc, name, layer, workers, gate, tally)
 }
 
 /// Makes a layer that has a cell everywhere.
-pub(crate) fn new_layer<M: Tally>(
-    held: &mut Held,
+pub(crate) fn new_layer<M: Tally + Send, G: Gate + Sync, R: Threads + Sync>(
+    map: &mut KeptMap,
+    rt: &R,
     alloc: Global,
     name: Name,
     cell: Cell,
+    workers: u32,
+    gate: &G,
     tally: &mut M,
 ) -> Result<Accepted, Refusal>
-    requires kept { IsKeptIn held.old }
-    requires room { 0 < spare held.old.names }
+    requires kept { IsKept map.old }
     requires plain { IsTrue (is_plain name) }
-    ensures accepts { Accepts (seen_in held.old) (seen_in held.new) (edits.new_layer name cell) result }
-    ensures stamped { IfOk result (λ accepted. IsStampedSource held.new.names.entries name accepted.number) }
-    ensures kept { IsKeptIn held.new }
-    ensures parts { KeepsParts (M.counts tally.old) (M.counts tally.new) }
+    requires some { 1 ≤ workers }
+    requires most { workers ≤ 64 }
+    requires whole { 1 < workers → ((M.counts tally.old).is_part ≡ false) × ((M.counts tally.old).parts_out ≡ 0) }
+    ensures accepts { Accepts (seen map.old) (seen map.new) (of_names (edits.new_layer name cell)) result }
+    ensures kept { IsKept map.new }
+    ensures reads { ReadsWithin (seen map.old) (of_names (edits.new_layer name cell)) (M.counts tally.old) (M.counts tally.new) }
 {
-    if has(&held.names, &name) {
+    if has(map, &name) {
         return Err(Refusal::Exists(name));
     }
-    let stamp = held.number.saturating_add(1);
-    let layer = Layer::constant(alloc, held.extent, cell, stamp)?;
-    add_source(held, alloc, name, layer, tally)
+    let layer = Layer::constant(alloc, map.extent, cell, map.number.saturating_add(1))?;
+    map.reserve()?;
+    add_source(map, rt, alloc, name, layer, workers, gate, tally)
+}
+
+/// Adds a source with a layer of the map's size. The name isn't there, and there is room for it.
+fn add_source<M: Tally + Send, G: Gate + Sync, R: Threads + Sync>(
+    map: &mut KeptMap,
+    rt: &R,
+    alloc: Global,
+    name: Name,
+    layer: Layer,
+    workers: u32,
+    gate: &G,
+    tally: &mut M,
+) -> Result<Accepted, Refusal>
+    requires kept { IsKept map.old }
+    requires room { HasNextRoom map.old }
+    requires plain { IsTrue (is_plain name) }
+    requires new { find_def (entries_in map.old) name ≡ None }
+    requires layer { layer ≡ layer_of map.old.extent layer.cells (raised map.old.number 1) }
+    requires some { 1 ≤ workers }
+    requires most { workers ≤ 64 }
+    requires whole { 1 < workers → ((M.counts tally.old).is_part ≡ false) × ((M.counts tally.old).parts_out ≡ 0) }
+    ensures accepts { (edit : edits.Edit) → IsAdding (seen map.old) edit name (grid_of layer) → Accepts (seen map.old) (seen map.new) (of_names edit) result }
+    ensures kept { IsKept map.new }
+    ensures reads { (edit : edits.Edit) → IsAdding (seen map.old) edit name (grid_of layer) → ReadsWithin (seen map.old) (of_names edit) (M.counts tally.old) (M.counts tally.new) }
+{
+    if sources(map) >= MOST_SOURCES {
+        return Err(Refusal::Limit(Which::Sources));
+    }
+    let graph = with_source(&map.graph, alloc, &name)?;
+    let key = name.copy(alloc)?;
+    // Tells the proof that it is a layer.
+    let _extent = layer.extent();
+    match prepare(
+        rt,
+        alloc,
+        workers,
+        gate,
+        map,
+        Shift::Loaded(&layer),
+        &graph,
+        Some(&name),
+        &name,
+        &[],
+        tally,
+    ) {
+        Ok((planned, prepared)) => Ok(put_source(map, name, key, layer, graph, planned, prepared)),
+        Err(halt) => Err(refused(halt)),
+    }
+}
+
+/// Puts a source in place, and what was prepared of the statements.
+fn put_source(
+    map: &mut KeptMap,
+    name: Name,
+    key: Name,
+    layer: Layer,
+    graph: Graph,
+    planned: Planned,
+    prepared: Prepared,
+) -> Accepted
+    requires kept { IsKept map.old }
+    requires room { HasNextRoom map.old }
+    requires same { key ≡ name }
+    requires plain { IsTrue (is_plain name) }
+    requires new { find_def (entries_in map.old) name ≡ None }
+    requires few { count_by is_source (entries_in map.old) < most_sources }
+    requires layer { layer ≡ layer_of map.old.extent layer.cells (raised map.old.number 1) }
+    requires whole { IsLayer layer }
+    requires graph { graph ≡ map.old.graph ++ record { name = name; nodes = source_node name ∷ [] } ∷ [] }
+    requires ready { (edit : edits.Edit) × IsAdding (seen map.old) edit name (grid_of layer) × IsAddedFor map.old name layer edit planned prepared }
+    ensures accepts { (edit : edits.Edit) → IsAdding (seen map.old) edit name (grid_of layer) → IsAddedFor map.old name layer edit planned prepared → Accepts (seen map.old) (seen map.new) (of_names edit) (Ok result) }
+    ensures kept { IsKept map.new }
+{
+    let tiles = map.extent.tiles();
+    let counts = joined(tiles, tiles, prepared.counts);
+    commit(map, graph, planned, prepared);
+    enter(map, name, key, layer);
+    Accepted {
+        number: map.number,
+        counts,
+    }
+}
+
+/// Puts a source after all names. There is room for it.
+fn enter(map: &mut KeptMap, name: Name, key: Name, layer: Layer)
+    requires room { HasNextRoom map.old }
+    requires same { key ≡ name }
+    requires new { position (bytes_eq name) map.old.sources.names.keys ≡ None }
+    ensures { IsSourcePut map.old map.new name layer }
+{
+    map.sources.add(key, layer);
+    insert(&mut map.names, name, Item::Source);
 }

@@ -1,58 +1,161 @@
 //! Statements that are written or rewritten.
 
-ghost use Rattle.std.specs.Prelude.{◌≡◌, ◌<◌, IsTrue};
+ghost use Rattle.std.specs.Prelude.{◌≡◌, ◌<◌, ◌≤◌, false, IsTrue, None, Ok};
 ghost use Rattle.indexmap.specs.IndexMap.{spare};
 ghost use Rattle.map_words.specs.Names.{is_plain};
-ghost use Rattle.map_lines.specs.Formed.{IsWritten};
+ghost use Rattle.statement_parser.specs.Formed.{IsWritten};
 ghost use Rattle.statement_parser.specs.Views.{written_view};
-ghost use Rattle.map_edits.specs.Edits as edits;
-ghost use Rattle.live_engine.specs.Accepts.{Accepts};
-ghost use Rattle.live_engine.specs.Holdings.{seen_in, IsKeptIn};
-ghost use Rattle.layer_tiles.specs.Tallies.{KeepsParts};
+ghost use Rattle.kept_map.specs.Maps.{seen};
+ghost use Rattle.kept_map.specs.Keeps.{IsKept};
+ghost use Rattle.kept_map.specs.Maps.{names_with};
+ghost use Rattle.map_waves.specs.declared.plans.Shift.TheVariants.{Nothing};
+ghost use Rattle.kept_map.specs.Repairs.{IsPreparedFor};
+ghost use Rattle.live_engine.specs.Accepts.{Accepts, ReadsWithin};
+ghost use Rattle.live_engine.specs.Drafts.{defines, state_with_it, IsDraft, IsDrafted};
 
 use crate::edits::{Accepted, Refusal};
-use crate::evaluating::{evaluated, refused};
-use crate::graphs::with_statement;
-use crate::held::{Held, Item};
+use crate::expanding::expanded;
+use crate::halted::refused;
 use crate::limits::{Kind, kind_of};
-use crate::placing::place;
-use crate::scene::Shift;
-use crate::zonals::beyond;
+use crate::placing::{commit, insert};
+use crate::statement_graphs::with_statement;
+use crate::statement_limits::beyond;
+use edit_plans::Planned;
+use kept_map::{Item, KeptMap, Prepared, prepare};
 use layer_tiles::Tally;
+use map_waves::Shift;
 use map_words::Name;
-use statement_graph::GraphRefusal;
+use procedure_expand::Flat;
+use statement_graph::{Graph, GraphRefusal};
 use statement_parser::Written;
 use std::alloc::Global;
+use std::thread::Threads;
+use tile_workers::Gate;
 
 /// Writes a statement, in its place where the name is there.
-pub(crate) fn define<M: Tally>(
-    held: &mut Held,
+pub(crate) fn define<M: Tally + Send, G: Gate + Sync, R: Threads + Sync>(
+    map: &mut KeptMap,
+    rt: &R,
     alloc: Global,
     name: Name,
     written: Written,
+    workers: u32,
+    gate: &G,
     tally: &mut M,
 ) -> Result<Accepted, Refusal>
-    requires kept { IsKeptIn held.old }
-    requires room { 0 < spare held.old.names }
+    requires kept { IsKept map.old }
     requires plain { IsTrue (is_plain name) }
     requires formed { IsWritten (written_view written) }
-    ensures accepts { Accepts (seen_in held.old) (seen_in held.new) (edits.define name (written_view written)) result }
-    ensures kept { IsKeptIn held.new }
-    ensures parts { KeepsParts (M.counts tally.old) (M.counts tally.new) }
+    requires some { 1 ≤ workers }
+    requires most { workers ≤ 64 }
+    requires whole { 1 < workers → ((M.counts tally.old).is_part ≡ false) × ((M.counts tally.old).parts_out ≡ 0) }
+    ensures accepts { Accepts (seen map.old) (seen map.new) (defines name written) result }
+    ensures kept { IsKept map.new }
+    ensures reads { ReadsWithin (seen map.old) (defines name written) (M.counts tally.old) (M.counts tally.new) }
 {
-    if let Kind::Source = kind_of(&held.names, &name) {
-        return Err(Refusal::Exists(name));
+    map.reserve()?;
+    put(map, rt, alloc, name, written, workers, gate, tally)
+}
+
+/// What a statement stands for, and the graph with it.
+#[derive(Drop)]
+pub(crate) struct Draft {
+    flats: Vec<Flat>,
+    graph: Graph,
+}
+
+/// What a statement stands for and the graph with it, or why it is refused.
+fn drafted(map: &KeptMap, alloc: Global, name: &Name, written: &Written) -> Result<Draft, Refusal>
+    requires kept { IsKept map.now }
+    requires plain { IsTrue (is_plain name.now) }
+    requires formed { IsWritten (written_view written.now) }
+    ensures { IsDrafted map.now name.now written.now result }
+{
+    if let Kind::Source = kind_of(map, name) {
+        return Err(Refusal::Exists(name.copy(alloc)?));
     }
-    if let Some(which) = beyond(&held.names, &name, &written) {
+    let flats = match expanded(alloc, &map.procedures, name, written) {
+        Ok(flats) => flats,
+        Err(refusal) => return Err(refusal),
+    };
+    if let Some(which) = beyond(&map.names, name, flats.as_slice()) {
         return Err(Refusal::Limit(which));
     }
-    let graph = match with_statement(&held.graph, alloc, &name, &written) {
-        Ok(graph) => graph,
-        Err(GraphRefusal::Cycle) => return Err(Refusal::Cycle(name)),
-        Err(GraphRefusal::NoMemory) => return Err(Refusal::NoMemory),
+    match with_statement(&map.graph, alloc, name, flats.as_slice()) {
+        Ok(graph) => Ok(Draft { flats, graph }),
+        Err(GraphRefusal::Cycle) => Err(Refusal::Cycle(name.copy(alloc)?)),
+        Err(GraphRefusal::NoMemory) => Err(Refusal::NoMemory),
+    }
+}
+
+/// Puts a statement in place, with what was prepared of all statements. There is room for its name.
+fn place(
+    map: &mut KeptMap,
+    name: Name,
+    written: Written,
+    draft: Draft,
+    planned: Planned,
+    prepared: Prepared,
+) -> Accepted
+    requires kept { IsKept map.old }
+    requires room { 0 < spare map.old.names }
+    requires plain { IsTrue (is_plain name) }
+    requires formed { IsWritten (written_view written) }
+    requires draft { IsDraft map.old name written draft.flats.items draft.graph }
+    requires prepared { IsPreparedFor map.old (defines name written) (state_with_it map.old name written draft.flats.items) Nothing (names_with map.old.sources None) planned.names.keys planned.steps.items prepared }
+    ensures accepts { Accepts (seen map.old) (seen map.new) (defines name written) (Ok result) }
+    ensures kept { IsKept map.new }
+{
+    let counts = prepared.counts;
+    let Draft { flats, graph } = draft;
+    commit(map, graph, planned, prepared);
+    insert(&mut map.names, name, Item::Statement { written, flats });
+    Accepted {
+        number: map.number,
+        counts,
+    }
+}
+
+/// Writes a statement. There is room for its name.
+fn put<M: Tally + Send, G: Gate + Sync, R: Threads + Sync>(
+    map: &mut KeptMap,
+    rt: &R,
+    alloc: Global,
+    name: Name,
+    written: Written,
+    workers: u32,
+    gate: &G,
+    tally: &mut M,
+) -> Result<Accepted, Refusal>
+    requires kept { IsKept map.old }
+    requires room { 0 < spare map.old.names }
+    requires plain { IsTrue (is_plain name) }
+    requires formed { IsWritten (written_view written) }
+    requires some { 1 ≤ workers }
+    requires most { workers ≤ 64 }
+    requires whole { 1 < workers → ((M.counts tally.old).is_part ≡ false) × ((M.counts tally.old).parts_out ≡ 0) }
+    ensures accepts { Accepts (seen map.old) (seen map.new) (defines name written) result }
+    ensures kept { IsKept map.new }
+    ensures reads { ReadsWithin (seen map.old) (defines name written) (M.counts tally.old) (M.counts tally.new) }
+{
+    let draft = match drafted(map, alloc, &name, &written) {
+        Ok(draft) => draft,
+        Err(refusal) => return Err(refusal),
     };
-    match evaluated(alloc, held, Shift::Defined(&name, &written), &graph, tally) {
-        Ok(values) => Ok(place(held, name, Item::Statement(written), graph, values)),
+    match prepare(
+        rt,
+        alloc,
+        workers,
+        gate,
+        map,
+        Shift::Nothing,
+        &draft.graph,
+        None,
+        &name,
+        draft.flats.as_slice(),
+        tally,
+    ) {
+        Ok((planned, prepared)) => Ok(place(map, name, written, draft, planned, prepared)),
         Err(halt) => Err(refused(halt)),
     }
 }

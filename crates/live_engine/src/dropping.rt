@@ -1,40 +1,107 @@
 //! Names that are dropped.
 
-ghost use Rattle.std.specs.Prelude.{◌≡◌};
-ghost use Rattle.map_edits.specs.Edits as edits;
-ghost use Rattle.live_engine.specs.Accepts.{Accepts};
-ghost use Rattle.live_engine.specs.Holdings.{seen_in, IsKeptIn};
-ghost use Rattle.layer_tiles.specs.Tallies.{KeepsParts};
+ghost use Rattle.std.specs.Prelude.{◌≡◌, ◌<◌, ◌≤◌, false, true, IsTrue, Ok, None, length, is_some, bytes_eq};
+ghost use Rattle.std.specs.List.{IsDistinct};
+ghost use Rattle.map_words.specs.Names.{is_plain};
+ghost use Rattle.map_waves.specs.declared.plans.Shift.TheVariants.{Nothing};
+ghost use Rattle.statement_graph.specs.Groups.{drop_group};
+ghost use Rattle.map_edits.specs.Entries.{find_def};
+ghost use Rattle.kept_map.specs.Maps.{entries_in, names_with, seen};
+ghost use Rattle.kept_map.specs.Keeps.{IsKept};
+ghost use Rattle.kept_map.specs.Repairs.{IsPreparedFor};
+ghost use Rattle.live_engine.specs.Accepts.{Accepts, ReadsWithin};
+ghost use Rattle.live_engine.specs.Dropping.{drops, dropped_from};
+ghost use Rattle.live_engine.specs.Puts.{IsNameOut};
 
 use crate::edits::{Accepted, Refusal};
-use crate::evaluating::{evaluated, refused};
 use crate::graphs::without;
-use crate::held::Held;
+use crate::halted::refused;
 use crate::limits::has;
-use crate::placing::take_out;
-use crate::scene::Shift;
+use crate::placing::commit;
+use edit_plans::Planned;
+use kept_map::{KeptMap, Prepared, prepare, take_source};
 use layer_tiles::Tally;
+use map_waves::Shift;
 use map_words::Name;
+use statement_graph::Graph;
 use std::alloc::Global;
+use std::thread::Threads;
+use tile_workers::Gate;
 
 /// Takes a source or a statement out. What lacks it becomes undefined, and none gets a fault.
-pub(crate) fn drop_name<M: Tally>(
-    held: &mut Held,
+pub(crate) fn drop_name<M: Tally + Send, G: Gate + Sync, R: Threads + Sync>(
+    map: &mut KeptMap,
+    rt: &R,
     alloc: Global,
     name: Name,
+    workers: u32,
+    gate: &G,
     tally: &mut M,
 ) -> Result<Accepted, Refusal>
-    requires { IsKeptIn held.old }
-    ensures accepts { Accepts (seen_in held.old) (seen_in held.new) (edits.drop_name name) result }
-    ensures kept { IsKeptIn held.new }
-    ensures parts { KeepsParts (M.counts tally.old) (M.counts tally.new) }
+    requires kept { IsKept map.old }
+    requires plain { IsTrue (is_plain name) }
+    requires some { 1 ≤ workers }
+    requires most { workers ≤ 64 }
+    requires whole { 1 < workers → ((M.counts tally.old).is_part ≡ false) × ((M.counts tally.old).parts_out ≡ 0) }
+    ensures accepts { Accepts (seen map.old) (seen map.new) (drops name) result }
+    ensures kept { IsKept map.new }
+    ensures reads { ReadsWithin (seen map.old) (drops name) (M.counts tally.old) (M.counts tally.new) }
 {
-    if !has(&held.names, &name) {
+    if !has(map, &name) {
         return Err(Refusal::Unknown(name));
     }
-    let graph = without(&held.graph, alloc, &name)?;
-    match evaluated(alloc, held, Shift::Dropped(&name), &graph, tally) {
-        Ok(values) => Ok(take_out(held, &name, graph, values)),
+    let graph = without(&map.graph, alloc, &name)?;
+    match prepare(
+        rt,
+        alloc,
+        workers,
+        gate,
+        map,
+        Shift::Nothing,
+        &graph,
+        None,
+        &name,
+        &[],
+        tally,
+    ) {
+        Ok((planned, prepared)) => Ok(take_out(map, &name, graph, planned, prepared)),
         Err(halt) => Err(refused(halt)),
     }
+}
+
+/// Takes a name out, and puts what was prepared of the statements in place.
+fn take_out(
+    map: &mut KeptMap,
+    name: &Name,
+    graph: Graph,
+    planned: Planned,
+    prepared: Prepared,
+) -> Accepted
+    requires kept { IsKept map.old }
+    requires plain { IsTrue (is_plain name.now) }
+    requires there { is_some (find_def (entries_in map.old) name.now) ≡ true }
+    requires graph { graph ≡ drop_group map.old.graph name.now }
+    requires ready { IsPreparedFor map.old (drops name.now) (dropped_from map.old name.now) Nothing (names_with map.old.sources None) planned.names.keys planned.steps.items prepared }
+    ensures accepts { Accepts (seen map.old) (seen map.new) (drops name.now) (Ok result) }
+    ensures kept { IsKept map.new }
+{
+    let counts = prepared.counts;
+    commit(map, graph, planned, prepared);
+    leave(map, name);
+    Accepted {
+        number: map.number,
+        counts,
+    }
+}
+
+/// Takes a name out, with its labels and symbols, and its layer where it is a source.
+fn leave(map: &mut KeptMap, name: &Name)
+    requires apart { IsDistinct bytes_eq map.old.sources.names.keys }
+    requires count { length map.old.sources.layers.items ≡ length map.old.sources.names.keys }
+    ensures { IsNameOut map.old map.new name.now }
+{
+    map.names.shift_remove(name);
+    take_source(&mut map.sources, map.planned.steps.as_mut_slice(), name);
+    map.labels.drop_name(name);
+    map.symbols.drop_name(name);
 }

@@ -4,6 +4,7 @@ ghost use Rattle.std.specs.Prelude.{◌≡◌};
 
 use layer_tiles::Layer;
 use map_nums::NoMemory;
+use map_waves::Counts;
 use map_words::Name;
 use statement_parser::LineEdit;
 use std::alloc::AllocError;
@@ -21,6 +22,8 @@ pub enum Edit {
 pub struct Accepted {
     /// How many edits were accepted so far, this one included; at most 2^64-1.
     pub number: u64,
+    /// Tiles that changed, tiles that were damaged, and work, of all layers.
+    pub counts: Counts,
 }
 
 /// Of what there would be too many.
@@ -32,6 +35,12 @@ pub enum Which {
     Statements,
     /// 24 of them Zonal.
     Zonals,
+    /// 4096 labels.
+    Labels,
+    /// 4096 symbols.
+    Symbols,
+    /// 32 procedures.
+    Procedures,
 }
 
 /// Why an edit is refused. Rows and columns count from 1.
@@ -52,6 +61,10 @@ pub enum Refusal {
     Viewers(Name, u64),
     /// The first statement with a fault, where that is a value that no cell may hold, and the row and column of its first such cell.
     Overflow(Name, u64, u64),
+    /// No procedure has this name.
+    NoProcedure(Name),
+    /// How many terms a call has, and how many its procedure takes.
+    Terms(u64, u64),
     NoMemory,
 }
 

@@ -1,66 +1,89 @@
 //! The engine.
 
-ghost use Rattle.std.specs.Prelude.{◌≡◌, ◌<◌, ◌≤◌, IfOk, option_map, slice_get};
-ghost use Rattle.indexmap.specs.IndexMap.{spare};
+ghost use Rattle.std.specs.Prelude.{◌≡◌, ◌<◌, ◌≤◌, false, None, IfOk, option_copied, option_map, slice_get};
+ghost use Rattle.layer_tiles.specs.Tallies.{RisesBy};
+ghost use Rattle.statement_parser.specs.Formed.{IsEdit};
 ghost use Rattle.statement_parser.specs.Views.{edit_view};
-ghost use Rattle.map_lines.specs.Formed.{IsEdit};
-ghost use Rattle.map_edits.specs.EngineStates.{no_entries};
-ghost use Rattle.map_edits.specs.Sound.{IsSound};
+ghost use Rattle.statement_parser.specs.Procedures.{procedure_view};
+ghost use Rattle.map_edits.specs.Faults.{fault_of};
+ghost use Rattle.map_edits.specs.GroupLaws.{IsLawful};
 ghost use Rattle.map_edits.specs.LineEdits.{line_edit};
-ghost use Rattle.live_engine.specs.Accepts.{Accepts, edit_of, IsFormedEdit};
-ghost use Rattle.live_engine.specs.Holdings.{seen_in, IsKeptIn};
-ghost use Rattle.layer_tiles.specs.Tallies.{KeepsParts};
-ghost use Rattle.live_engine.specs.Asked.{TellsLayer, listed, listed_of};
+ghost use Rattle.map_edits.specs.WholeStates.{no_names};
+ghost use Rattle.kept_map.specs.Maps.{seen};
+ghost use Rattle.kept_map.specs.Keeps.{IsKept};
+ghost use Rattle.kept_map.specs.Asked.{TellsLayer};
+ghost use Rattle.live_engine.specs.Accepts.{Accepts, IsFormedEdit, ReadsWithin, edit_of};
+ghost use Rattle.live_engine.specs.Listed.{listed, listed_of};
 
 use crate::adding::{load, new_layer};
 use crate::defining::define;
 use crate::dropping::drop_name;
 use crate::edits::{Accepted, Edit, Refusal};
-use crate::held::Held;
+use crate::marks::{label, symbol};
 use crate::painting::Rectangle;
-use crate::reads::{Entry, Missing, entry_in, layer_in};
+use crate::procedures::define_procedure;
 use crate::repainting::paint;
-use indexmap::IndexMap;
+use kept_map::{Item, KeptMap, Missing};
 use layer_tiles::{Extent, Layer, Tally};
+use map_marks::Marks;
 use map_words::Name;
-use statement_graph::Graph;
-use statement_parser::LineEdit;
+use statement_parser::{LineEdit, Procedure, Written};
 use std::alloc::Global;
 use std::marker::Model;
+use std::thread::Threads;
+use tile_workers::Gate;
 
-/// The names of a map in order of place with their layers, seen as the state of the machine.
+/// A map, seen as the whole state of the map machine.
 #[derive(Drop)]
 pub struct Engine {
-    held: Held,
+    map: KeptMap,
 }
 
 impl Model for Engine {
-    ghost use Rattle.map_edits.specs.EngineStates.{EngineState};
-    ghost use Rattle.live_engine.specs.Holdings.{seen_in, IsKeptIn};
+    ghost use Rattle.map_edits.specs.WholeStates.{WholeState};
+    ghost use Rattle.kept_map.specs.Maps.{seen};
+    ghost use Rattle.kept_map.specs.Keeps.{IsKept};
 
-    ghost Value = { EngineState };
+    ghost Value = { WholeState };
 
-    ghost view = { λ e. seen_in e.held };
+    ghost view = { λ e. seen e.map };
 
-    ghost invariant = { λ e. IsKeptIn e.held };
+    ghost invariant = { λ e. IsKept e.map };
+}
+
+/// A name in order of place.
+#[derive(Clone, Copy)]
+pub enum Entry<'a> {
+    Source(&'a Name),
+    Statement(&'a Name, &'a Written),
 }
 
 /// Makes the edit of a line.
-fn apply_line<M: Tally>(
-    held: &mut Held,
+fn apply_line<M: Tally + Send, G: Gate + Sync, R: Threads + Sync>(
+    map: &mut KeptMap,
+    rt: &R,
     alloc: Global,
     line: LineEdit,
+    workers: u32,
+    gate: &G,
     tally: &mut M,
 ) -> Result<Accepted, Refusal>
-    requires kept { IsKeptIn held.old }
-    requires room { 0 < spare held.old.names }
+    requires kept { IsKept map.old }
     requires formed { IsEdit (edit_view line) }
-    ensures accepts { Accepts (seen_in held.old) (seen_in held.new) (line_edit (edit_view line)) result }
-    ensures kept { IsKeptIn held.new }
-    ensures parts { KeepsParts (M.counts tally.old) (M.counts tally.new) }
+    requires some { 1 ≤ workers }
+    requires most { workers ≤ 64 }
+    requires whole { 1 < workers → ((M.counts tally.old).is_part ≡ false) × ((M.counts tally.old).parts_out ≡ 0) }
+    ensures accepts { Accepts (seen map.old) (seen map.new) (line_edit (edit_view line)) result }
+    ensures kept { IsKept map.new }
+    ensures reads { ReadsWithin (seen map.old) (line_edit (edit_view line)) (M.counts tally.old) (M.counts tally.new) }
 {
     match line {
-        LineEdit::Define { name, written } => define(held, alloc, name, written, tally),
+        LineEdit::Define { name, written } => {
+            define(map, rt, alloc, name, written, workers, gate, tally)
+        }
+        LineEdit::Procedure(procedure) => {
+            define_procedure(map, rt, alloc, procedure, workers, gate, tally)
+        }
         LineEdit::Paint {
             name,
             r1,
@@ -75,96 +98,126 @@ fn apply_line<M: Tally>(
                 bottom: r2,
                 right: c2,
             };
-            paint(held, alloc, name, rectangle, cell, tally)
+            paint(map, rt, alloc, name, rectangle, cell, workers, gate, tally)
         }
-        LineEdit::New { name, cell } => new_layer(held, alloc, name, cell, tally),
-        LineEdit::Drop { name } => drop_name(held, alloc, name, tally),
-        // No line makes a procedure, a label or a symbol yet.
-        LineEdit::Procedure(_) | LineEdit::Label { .. } | LineEdit::Symbol { .. } => unreachable!(),
+        LineEdit::New { name, cell } => {
+            new_layer(map, rt, alloc, name, cell, workers, gate, tally)
+        }
+        LineEdit::Drop { name } => drop_name(map, rt, alloc, name, workers, gate, tally),
+        LineEdit::Label { name, value, text } => {
+            label(map, rt, alloc, name, value, text, workers, gate, tally)
+        }
+        LineEdit::Symbol { name, value, sign } => {
+            symbol(map, rt, alloc, name, value, sign, workers, gate, tally)
+        }
     }
 }
 
-/// Makes an edit. There is room for a name.
-fn apply<M: Tally>(
-    held: &mut Held,
+/// Makes an edit.
+fn apply<M: Tally + Send, G: Gate + Sync, R: Threads + Sync>(
+    map: &mut KeptMap,
+    rt: &R,
     alloc: Global,
     cmd: Edit,
+    workers: u32,
+    gate: &G,
     tally: &mut M,
 ) -> Result<Accepted, Refusal>
-    requires kept { IsKeptIn held.old }
-    requires room { 0 < spare held.old.names }
+    requires kept { IsKept map.old }
     requires formed { IsFormedEdit cmd }
-    ensures accepts { Accepts (seen_in held.old) (seen_in held.new) (edit_of cmd) result }
-    ensures kept { IsKeptIn held.new }
-    ensures parts { KeepsParts (M.counts tally.old) (M.counts tally.new) }
+    requires some { 1 ≤ workers }
+    requires most { workers ≤ 64 }
+    requires whole { 1 < workers → ((M.counts tally.old).is_part ≡ false) × ((M.counts tally.old).parts_out ≡ 0) }
+    ensures accepts { Accepts (seen map.old) (seen map.new) (edit_of cmd) result }
+    ensures kept { IsKept map.new }
+    ensures reads { ReadsWithin (seen map.old) (edit_of cmd) (M.counts tally.old) (M.counts tally.new) }
 {
     match cmd {
-        Edit::Load { name, layer } => load(held, alloc, name, layer, tally),
-        Edit::Line(line) => apply_line(held, alloc, line, tally),
+        Edit::Load { name, layer } => load(map, rt, alloc, name, layer, workers, gate, tally),
+        Edit::Line(line) => apply_line(map, rt, alloc, line, workers, gate, tally),
     }
 }
 
 impl Engine {
-    /// A map without names.
+    /// A map without names. It takes no memory.
     pub fn new(alloc: Global, extent: Extent) -> Engine
-        ensures { result ≡ no_entries extent }
+        ensures { result ≡ no_names extent }
     {
         Engine {
-            held: Held {
-                extent,
-                names: IndexMap::new(alloc),
-                graph: Graph::new(alloc),
-                values: Vec::new(alloc),
-                number: 0,
-            },
+            map: KeptMap::new(alloc, extent),
         }
     }
 
-    /// Makes an edit and answers its number, or refuses it and changes nothing.
-    pub fn edit<M: Tally + Send>(
+    /// Makes an edit by so many workers, and answers its number and its counts; or refuses it and changes nothing.
+    pub fn edit<M: Tally + Send, G: Gate + Sync, R: Threads + Sync>(
         &mut self,
+        rt: &R,
         alloc: Global,
         cmd: Edit,
         workers: u32,
+        gate: &G,
         tally: &mut M,
     ) -> Result<Accepted, Refusal>
         requires formed { IsFormedEdit cmd }
         requires some { 1 ≤ workers }
         requires most { workers ≤ 64 }
+        requires whole { 1 < workers → ((M.counts tally.old).is_part ≡ false) × ((M.counts tally.old).parts_out ≡ 0) }
         ensures accepts { Accepts self.old self.new (edit_of cmd) result }
-        ensures parts { KeepsParts (M.counts tally.old) (M.counts tally.new) }
+        ensures reads { ReadsWithin self.old (edit_of cmd) (M.counts tally.old) (M.counts tally.new) }
     {
-        self.held.names.reserve(1)?;
-        apply(&mut self.held, alloc, cmd, tally)
+        apply(&mut self.map, rt, alloc, cmd, workers, gate, tally)
     }
 
-    /// How many edits were accepted; at most 2^64-1.
-    #[tactic(auto, using(crate::proofs::Sounds::kept_sound))]
+    /// How many edits were accepted; at most 2^64-1. No state that is reached has a cycle, or a fault.
     pub fn number(&self) -> u64
-        ensures number { result ≡ self.now.number }
-        ensures sound { IsSound self.now }
+        ensures number { result ≡ self.now.names.number }
+        ensures lawful { IsLawful self.now }
+        ensures faultless { fault_of self.now.names ≡ None }
     {
-        self.held.number
+        self.map.number
     }
 
     pub fn extent(&self) -> Extent
-        ensures { result ≡ self.now.size }
+        ensures { result ≡ self.now.names.size }
     {
-        self.held.extent
+        self.map.extent
     }
 
-    /// The layer of a name, or why it has none.
+    /// The layer of a name, plain or dotted, or why it has none.
     pub fn layer(&self, name: &Name) -> Result<&Layer, Missing<'_>>
         ensures tells { TellsLayer self.now name.now result }
-        ensures size { IfOk result (λ layer. layer.now.size ≡ self.now.size) }
+        ensures size { IfOk result (λ layer. layer.now.size ≡ self.now.names.size) }
     {
-        layer_in(&self.held, name)
+        self.map.layer(name)
     }
 
-    /// The name at a place in order of place, from 0; none past the last.
+    /// The name at a place, none past the last.
     pub fn entry(&self, place: u32) -> Option<Entry<'_>>
-        ensures { option_map listed_of result ≡ option_map listed (slice_get self.now.entries place) }
+        ensures { option_map listed_of result ≡ option_map listed (slice_get self.now.names.entries place) }
     {
-        entry_in(&self.held, place)
+        match self.map.names.get_index(place as usize) {
+            None => None,
+            Some((name, Item::Source)) => Some(Entry::Source(name)),
+            Some((name, Item::Statement { written, .. })) => Some(Entry::Statement(name, written)),
+        }
+    }
+
+    /// The procedure at a place, none past the last.
+    pub fn procedure(&self, place: u32) -> Option<&Procedure>
+        ensures { option_map procedure_view (option_copied result) ≡ slice_get self.now.procedures place }
+    {
+        self.map.procedures.get(place)
+    }
+
+    pub fn labels(&self) -> &Marks
+        ensures { result.now ≡ self.now.labels }
+    {
+        &self.map.labels
+    }
+
+    pub fn symbols(&self) -> &Marks
+        ensures { result.now ≡ self.now.symbols }
+    {
+        &self.map.symbols
     }
 }

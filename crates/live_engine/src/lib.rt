@@ -1,26 +1,28 @@
-//! The engine: the names of a map, kept evaluated while the map is edited.
+//! A map whose statements stay up to date while it is edited.
 //!
-//! [`Engine::edit`] takes an [`Edit`] and answers its number or a [`Refusal`]; [`Engine::layer`] tells a layer's cells.
-//! The engine keeps each layer, where the machine that it is proved against evaluates every statement anew.
+//! [`Engine`] is seen as the whole state of the map machine. [`Engine::edit`] repairs what an edit damages, counts it, and puts it in
+//! place; a refused edit changes nothing.
 #![tactic(auto)]
 
 mod adding;
+mod counting;
 mod defining;
 mod dropping;
 mod edits;
 mod engine;
-mod evaluating;
+mod expanding;
 mod graphs;
-mod held;
+mod halted;
 mod limits;
+mod marks;
+mod noting;
 mod painting;
 mod placing;
-mod reads;
+mod procedures;
 mod repainting;
-mod scene;
-mod values;
-mod zonals;
+mod settling;
+mod statement_graphs;
+mod statement_limits;
 
 pub use edits::{Accepted, Edit, Refusal, Which};
-pub use engine::Engine;
-pub use reads::{Entry, Missing};
+pub use engine::{Engine, Entry};

@@ -1,15 +1,17 @@
 //! The tiles of a layer that a painted rectangle meets.
-ghost use Rattle.std.specs.Prelude.{◌≡◌, ◌↔◌, ◌^◌, ◌+◌, ◌*◌, ◌<◌, ◌&&◌, nat_le, ℕ, if◌then◌else◌, IfOk, IsTrue, IsSome};
-ghost use Rattle.map_edits.specs.Edits.{is_within, painted};
-ghost use Rattle.layer_tiles.specs.Tiles.{tile_height, tile_width, tiles_in, IsBlockOf};
+
+ghost use Rattle.std.specs.Prelude.{◌≡◌, ◌↔◌, ◌+◌, ◌*◌, ◌<◌, ◌≤◌, ◌&&◌, nat_le, ℕ, if◌then◌else◌, length, IfOk, OnOk, IsTrue, IsSome};
+ghost use Rattle.map_edits.specs.Painting.{is_within, painted};
+ghost use Rattle.layer_tiles.specs.Tiles.{tile_height, tile_width, tiles_across, tiles_in, IsBlockOf};
 ghost use Rattle.layer_tiles.specs.Patches.{patch_get, patched};
-ghost use Rattle.layer_tiles.specs.Tallies.{RisesBy, KeepsParts};
+ghost use Rattle.layer_tiles.specs.Tallies.{RisesBy};
 ghost use Rattle.layer_tiles.specs.Changes.{patched_change};
 ghost use Rattle.map_waves.specs.Operands.{IsOperand};
-ghost use Rattle.live_engine.specs.Held.{grid_of};
-ghost use Rattle.live_engine.specs.Painting.{rectangle_of, MeetsRectangle, IsPainted, MeetsPlace};
+ghost use Rattle.kept_map.specs.Maps.{grid_of};
+ghost use Rattle.live_engine.specs.Painting.{rectangle_of, IsCounted, met_tiles, met_count, first_row, last_row, MeetsRectangle, IsPainted, ArePainted};
 
-use layer_tiles::{Cell, Extent, Layer, NoMemory, Patch, Place, Tally, Tile, TileView};
+use layer_tiles::{Cell, Extent, Layer, Patch, Tally, Tile, TileView};
+use map_nums::NoMemory;
 use std::alloc::Global;
 
 /// Rows and columns count from 1.
@@ -21,31 +23,11 @@ pub(crate) struct Rectangle {
     pub(crate) right: u32,
 }
 
-/// The tiles of a layer that a rectangle meets, with the cell in each place of the rectangle. One look for each.
-pub(crate) fn painted_tiles<M: Tally>(
-    alloc: Global,
-    layer: &Layer,
-    rectangle: Rectangle,
-    cell: Cell,
-    tally: &mut M,
-) -> Result<Patch, NoMemory>
-    requires { IsTrue (is_within layer.now.size (rectangle_of rectangle)) }
-    ensures size { IfOk result (λ p. p.size ≡ layer.now.size) }
-    ensures cells { IfOk result (λ p. patched layer.now.size layer.now.cells p.tiles ≡ (painted layer.now.size (rectangle_of rectangle) cell (grid_of layer.now)).cells) }
-    ensures met { IfOk result (λ p. (t : ℕ) → IsSome (patch_get p.tiles t) ↔ MeetsRectangle layer.now.size (rectangle_of rectangle) t) }
-    ensures tally { RisesBy (tiles_in layer.now.size) 0 (M.counts tally.old) (M.counts tally.new) }
-{
-    let extent = layer.extent();
-    let mut patch = Patch::new(alloc, extent);
-    for tile in 0..extent.tiles() {
-        if !meets(rectangle, extent.place(tile)) {
-            continue;
-        }
-        let old = layer.view(tile, tally);
-        let made = painted_tile(alloc, extent, tile, &old, rectangle, cell)?;
-        patch.push(tile, made)?;
-    }
-    Ok(patch)
+/// The tiles of a layer that a paint changes, and how many it met.
+#[derive(Drop)]
+pub(crate) struct Painted {
+    pub(crate) patch: Patch,
+    pub(crate) met: u32,
 }
 
 /// The tiles of a layer that a paint changes. At most three looks for each that the rectangle meets.
@@ -55,30 +37,72 @@ pub(crate) fn changed_by_paint<M: Tally>(
     rectangle: Rectangle,
     cell: Cell,
     tally: &mut M,
-) -> Result<Patch, NoMemory>
-    requires { IsTrue (is_within layer.now.size (rectangle_of rectangle)) }
-    ensures size { IfOk result (λ p. p.size ≡ layer.now.size) }
-    ensures cells { IfOk result (λ p. patched layer.now.size layer.now.cells p.tiles ≡ (painted layer.now.size (rectangle_of rectangle) cell (grid_of layer.now)).cells) }
-    ensures operand { IfOk result (λ p. IsOperand layer.now.size (patched_change layer.now p)) }
-    ensures parts { KeepsParts (M.counts tally.old) (M.counts tally.new) }
+) -> Result<Painted, NoMemory>
+    requires counted { IsCounted (rectangle_of rectangle) }
+    requires within { IsTrue (is_within layer.now.size (rectangle_of rectangle)) }
+    ensures size { IfOk result (λ p. p.patch.size ≡ layer.now.size) }
+    ensures cells { IfOk result (λ p. patched layer.now.size layer.now.cells p.patch.tiles ≡ (painted layer.now.size (rectangle_of rectangle) cell (grid_of layer.now)).cells) }
+    ensures operand { IfOk result (λ p. IsOperand layer.now.size (patched_change layer.now p.patch)) }
+    ensures met { IfOk result (λ p. p.met ≡ length (met_tiles layer.now.size (rectangle_of rectangle))) }
+    ensures tally { RisesBy (3 * length (met_tiles layer.now.size (rectangle_of rectangle))) 0 (M.counts tally.old) (M.counts tally.new) }
 {
     let _extent = layer.extent();
     let mut patch = painted_tiles(alloc, layer, rectangle, cell, tally)?;
     let _patch = patch.extent();
+    let met = patch.len();
     patch.narrow(layer, tally);
+    Ok(Painted { patch, met })
+}
+
+/// The tiles of a layer that a rectangle meets, with the cell in each place of the rectangle. One look for each.
+fn painted_tiles<M: Tally>(
+    alloc: Global,
+    layer: &Layer,
+    rectangle: Rectangle,
+    cell: Cell,
+    tally: &mut M,
+) -> Result<Patch, NoMemory>
+    requires counted { IsCounted (rectangle_of rectangle) }
+    requires within { IsTrue (is_within layer.now.size (rectangle_of rectangle)) }
+    ensures size { IfOk result (λ p. p.size ≡ layer.now.size) }
+    ensures cells { IfOk result (λ p. patched layer.now.size layer.now.cells p.tiles ≡ (painted layer.now.size (rectangle_of rectangle) cell (grid_of layer.now)).cells) }
+    ensures met { IfOk result (λ p. (t : ℕ) → IsSome (patch_get p.tiles t) ↔ MeetsRectangle layer.now.size (rectangle_of rectangle) t) }
+    ensures tally { RisesBy (length (met_tiles layer.now.size (rectangle_of rectangle))) 0 (M.counts tally.old) (M.counts tally.new) }
+{
+    let _across = layer.extent().tiles_across();
+    let mut patch = Patch::new(alloc, layer.extent());
+    for row in (rectangle.top - 1) / 32..(rectangle.bottom - 1) / 32 + 1 {
+        paint_tiles_in_row(alloc, layer, rectangle, cell, row, &mut patch, tally)?;
+    }
     Ok(patch)
 }
 
-/// Whether a tile of this place has a cell in the rectangle.
-fn meets(rectangle: Rectangle, place: Place) -> bool
-    requires row { place.top + place.height < 2 ^ 32 }
-    requires column { place.left + place.width < 2 ^ 32 }
-    ensures { IsTrue result ↔ MeetsPlace (rectangle_of rectangle) place }
+/// The tiles of one row of tiles, put behind those of the rows above.
+fn paint_tiles_in_row<M: Tally>(
+    alloc: Global,
+    layer: &Layer,
+    rectangle: Rectangle,
+    cell: Cell,
+    row: u32,
+    patch: &mut Patch,
+    tally: &mut M,
+) -> Result<(), NoMemory>
+    requires counted { IsCounted (rectangle_of rectangle) }
+    requires within { IsTrue (is_within layer.now.size (rectangle_of rectangle)) }
+    requires row { (first_row (rectangle_of rectangle) ≤ row) × (row ≤ last_row (rectangle_of rectangle)) }
+    requires above { ArePainted (grid_of layer.now) (rectangle_of rectangle) cell (row * tiles_across layer.now.size) patch.old }
+    ensures painted { OnOk result (ArePainted (grid_of layer.now) (rectangle_of rectangle) cell ((row + 1) * tiles_across layer.now.size) patch.new) }
+    ensures tally { RisesBy (met_count layer.now.size (rectangle_of rectangle) (row * tiles_across layer.now.size) (tiles_across layer.now.size)) 0 (M.counts tally.old) (M.counts tally.new) }
 {
-    place.top < rectangle.bottom
-        && rectangle.top <= place.top + place.height
-        && place.left < rectangle.right
-        && rectangle.left <= place.left + place.width
+    let extent = layer.extent();
+    let first = row * extent.tiles_across();
+    for column in (rectangle.left - 1) / 32..(rectangle.right - 1) / 32 + 1 {
+        let tile = first + column;
+        let old = layer.view(tile, tally);
+        let made = painted_tile(alloc, extent, tile, &old, rectangle, cell)?;
+        patch.push(tile, made)?;
+    }
+    Ok(())
 }
 
 /// A tile with the cell in each place of the rectangle.

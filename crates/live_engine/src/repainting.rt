@@ -1,25 +1,34 @@
-//! Sources that are painted.
+//! Sources are painted.
 
-ghost use Rattle.std.specs.Prelude.{◌≡◌};
-ghost use Rattle.map_edits.specs.Edits as edits;
-ghost use Rattle.live_engine.specs.Accepts.{Accepts};
-ghost use Rattle.live_engine.specs.Holdings.{seen_in, IsKeptIn};
+ghost use Rattle.std.specs.Prelude.{◌≡◌, ◌<◌, ◌≤◌, false, Some, position, bytes_eq, IfOk, IfErr, ℤ, Option};
+ghost use Rattle.statement_parser.specs.Formed.{IsEdit};
+ghost use Rattle.statement_parser.specs.Lines.{paint as paints};
+ghost use Rattle.map_edits.specs.EditForms.{Rectangle as AnyRectangle, paint as any_paint};
+ghost use Rattle.map_edits.specs.Painting as painting_specs;
+ghost use Rattle.map_edits.specs.WholeEdits.{of_names};
+ghost use Rattle.kept_map.specs.Maps.{seen};
+ghost use Rattle.kept_map.specs.Keeps.{IsKept};
+ghost use Rattle.live_engine.specs.Accepts.{Accepts, ReadsWithin, Refuses};
 ghost use Rattle.live_engine.specs.Painting.{rectangle_of};
-ghost use Rattle.layer_tiles.specs.Tallies.{KeepsParts};
+ghost use Rattle.live_engine.specs.Repainting.{CanRepaint, IsRepainted};
 
+use crate::counting::joined;
 use crate::edits::{Accepted, Refusal};
-use crate::evaluating::{evaluated, refused};
-use crate::held::{Held, Item};
-use crate::painting::{Rectangle, changed_by_paint};
-use crate::placing::put_painted;
-use crate::scene::Shift;
-use layer_tiles::{Cell, Extent, Tally};
+use crate::halted::refused;
+use crate::limits::has;
+use crate::painting::{Painted, Rectangle, changed_by_paint};
+use crate::settling::settle;
+use kept_map::{KeptMap, prepare_kept};
+use layer_tiles::{Cell, Extent, Patch, Tally};
+use map_waves::Shift;
 use map_words::Name;
 use std::alloc::Global;
+use std::thread::Threads;
+use tile_workers::Gate;
 
 /// Whether a rectangle lies on the map.
 fn is_within(extent: Extent, rectangle: Rectangle) -> bool
-    ensures { result ≡ edits.is_within extent (rectangle_of rectangle) }
+    ensures { result ≡ painting_specs.is_within extent (rectangle_of rectangle) }
 {
     rectangle.top <= rectangle.bottom
         && rectangle.left <= rectangle.right
@@ -27,34 +36,75 @@ fn is_within(extent: Extent, rectangle: Rectangle) -> bool
         && rectangle.right <= extent.columns()
 }
 
+/// The place of a source that is to be painted.
+fn place_of(map: &KeptMap, name: Name) -> Result<usize, Refusal>
+    requires { IsKept map.now }
+    ensures place { IfOk result (λ i. position (bytes_eq name) map.now.sources.names.keys ≡ Some i) }
+    ensures refused { (r : AnyRectangle) (cell : Option ℤ) → IfErr result (Refuses (seen map.now) (seen map.now) (of_names (any_paint name r cell))) }
+{
+    match map.sources.names.get_index_of(&name) {
+        Some(place) => Ok(place),
+        None => if has(map, &name) {
+            Err(Refusal::Derived(name))
+        } else {
+            Err(Refusal::Unknown(name))
+        },
+    }
+}
+
+/// Puts a patch into the layer of a source.
+fn repaint(map: &mut KeptMap, place: usize, patch: Patch)
+    requires { CanRepaint map.old place patch }
+    ensures { IsRepainted map.old map.new place patch }
+{
+    let number = map.number;
+    let layer = &mut map.sources.layers[place];
+    layer.commit(patch, number);
+    // Tells the proof that it is a layer.
+    let _extent = layer.extent();
+}
+
 /// Puts a cell into a rectangle of a source.
-pub(crate) fn paint<M: Tally>(
-    held: &mut Held,
+pub(crate) fn paint<M: Tally + Send, G: Gate + Sync, R: Threads + Sync>(
+    map: &mut KeptMap,
+    rt: &R,
     alloc: Global,
     name: Name,
     rectangle: Rectangle,
     cell: Cell,
+    workers: u32,
+    gate: &G,
     tally: &mut M,
 ) -> Result<Accepted, Refusal>
-    requires { IsKeptIn held.old }
-    ensures accepts { Accepts (seen_in held.old) (seen_in held.new) (edits.paint name (rectangle_of rectangle) cell) result }
-    ensures kept { IsKeptIn held.new }
-    ensures parts { KeepsParts (M.counts tally.old) (M.counts tally.new) }
+    requires kept { IsKept map.old }
+    requires formed { IsEdit (paints name rectangle.top rectangle.left rectangle.bottom rectangle.right cell) }
+    requires some { 1 ≤ workers }
+    requires most { workers ≤ 64 }
+    requires whole { 1 < workers → ((M.counts tally.old).is_part ≡ false) × ((M.counts tally.old).parts_out ≡ 0) }
+    ensures accepts { Accepts (seen map.old) (seen map.new) (of_names (any_paint name (rectangle_of rectangle) cell)) result }
+    ensures kept { IsKept map.new }
+    ensures reads { ReadsWithin (seen map.old) (of_names (any_paint name (rectangle_of rectangle) cell)) (M.counts tally.old) (M.counts tally.new) }
 {
-    let extent = held.extent;
-    match held.names.get(&name) {
-        None => Err(Refusal::Unknown(name)),
-        Some(Item::Statement(_)) => Err(Refusal::Derived(name)),
-        Some(Item::Source(layer)) => {
-            if !is_within(extent, rectangle) {
-                return Err(Refusal::Size(extent.rows() as u64, extent.columns() as u64));
-            }
-            let patch = changed_by_paint(alloc, layer, rectangle, cell, tally)?;
-            let shift = Shift::Painted(&name, layer, &patch);
-            match evaluated(alloc, held, shift, &held.graph, tally) {
-                Ok(values) => Ok(put_painted(held, &name, patch, values)),
-                Err(halt) => Err(refused(halt)),
-            }
-        }
+    let extent = map.extent;
+    let place = match place_of(map, name) {
+        Ok(place) => place,
+        Err(refusal) => return Err(refusal),
+    };
+    if !is_within(extent, rectangle) {
+        return Err(Refusal::Size(extent.rows() as u64, extent.columns() as u64));
     }
+    let layer = &map.sources.layers[place];
+    let Painted { patch, met } = changed_by_paint(alloc, layer, rectangle, cell, tally)?;
+    let shift = Shift::Painted(place, &patch);
+    let prepared = match prepare_kept(rt, alloc, workers, gate, map, shift, tally) {
+        Ok(prepared) => prepared,
+        Err(halt) => return Err(refused(halt)),
+    };
+    let counts = joined(patch.len(), met, prepared.counts);
+    settle(map, prepared);
+    repaint(map, place, patch);
+    Ok(Accepted {
+        number: map.number,
+        counts,
+    })
 }

@@ -124,6 +124,35 @@ fn depths_and_missing_names(rt: HostRuntime) -> Result<(), Fail> {
     stands(&rt, &graph, b"B1 C2 ")
 }
 
+/// The names of nodes, each with a blank behind it.
+fn names(alloc: Global, nodes: &[&Node]) -> Result<Vec<u8>, Fail> {
+    let mut text = Vec::new(alloc);
+    for node in nodes {
+        text.extend_from_slice(node.name.bytes())?;
+        text.push(b' ')?;
+    }
+    Ok(text)
+}
+
+#[test]
+fn lists_by_depth(rt: HostRuntime) -> Result<(), Fail> {
+    let alloc = rt.alloc();
+    let a = Name::plain(alloc, b"A")?;
+    let b = Name::plain(alloc, b"B")?;
+    let c = Name::plain(alloc, b"C")?;
+    let d = Name::plain(alloc, b"D")?;
+    let q = Name::plain(alloc, b"Q")?;
+    let mut graph = with_source(alloc, &a)?;
+    put(&mut graph, alloc, &c, None, &[&b, &a])?;
+    put(&mut graph, alloc, &b, None, &[&a])?;
+    put(&mut graph, alloc, &d, None, &[&q])?;
+    let all = names(alloc, &graph.ordered(alloc)?)?;
+    assert_eq!(rt; all.as_slice(), b"B D C ".as_slice());
+    let whole = names(alloc, &graph.whole(alloc)?)?;
+    assert_eq!(rt; whole.as_slice(), b"B C ".as_slice());
+    Ok(())
+}
+
 #[test]
 fn cycles_are_refused(rt: HostRuntime) -> Result<(), Fail> {
     let alloc = rt.alloc();

@@ -8,6 +8,10 @@ mod graphs;
 #[cfg(test)]
 mod grids;
 #[cfg(test)]
+mod plays;
+#[cfg(test)]
+mod refused_grids;
+#[cfg(test)]
 mod sessions;
 #[cfg(test)]
 mod shelves_and_sinks;

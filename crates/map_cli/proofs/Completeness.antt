@@ -1,6 +1,5 @@
 -- A run that no fault came to is done, where it can be.
 use Rattle.std.proofs.Common.{◌≡◌, ◌≤◌, ◌||◌, inl, inr, ℕ, true, List, ◌++◌, length, take, refl, sym, ap, ◌∙◌, subst, arith, Option, Some, None}
-use Rattle.std.specs.Prelude.{IfSome}
 use Rattle.std.specs.List.{list_any}
 use Rattle.std.proofs.lemmas.List.{length-append, take_at}
 use Rattle.std.proofs.lemmas.List.Folds.{list_any-append}
@@ -10,11 +9,9 @@ use Rattle.map_machine.specs.Text.{session_lines}
 use Rattle.map_machine.proofs.TextLemmas.{session_lines_begin}
 use Rattle.map_machine.specs.Steps.{is_quit}
 use Rattle.map_machine.specs.Openings.{Opening, goes_on}
-use Rattle.map_outside.specs.Contents.{Files}
 use Rattle.map_cli.specs.Completeness.{ComesToEnd, IsComplete, ComesToLimit, IsTooLong}
 use Rattle.map_cli.specs.FaultCounts.{RunCounts, NoneRose}
 use Rattle.map_cli.specs.Openings.{OpensSo}
-use Rattle.map_cli.specs.Seen.{WhereTold}
 use Rattle.map_cli.specs.Taken.{EndsDone, EndsTooLong, EndsSo}
 use Rattle.map_cli.specs.declared.status.Status.{Status}
 use Rattle.map_cli.specs.declared.status.Status.TheVariants.{Done, Usage, Load, ShelfFault, SourceFault, SinkFault, NoMemory, TooLong}
@@ -31,7 +28,7 @@ not_too_long limit session (Some rest) ends (inr quit) =
     let none = ends.none in
     absurd (cc)
 
-completes : (limit : ℕ) (session : List ℕ) (left' : Option (List ℕ)) (opening : Opening) (f f' s s' k k' : ℕ) (status : Status) → (status ≡ Usage → ⊥)
+pub completes : (limit : ℕ) (session : List ℕ) (left' : Option (List ℕ)) (opening : Opening) (f f' s s' k k' : ℕ) (status : Status) → (status ≡ Usage → ⊥)
     → RunCounts f f' s s' k k' status → OpensSo status opening → EndsSo limit (Some session) left' status → NoneRose f f' s s' k k'
     → opening ≡ goes_on → ComesToEnd limit session → IsComplete status
 completes limit session left' opening f f' s s' k k' Done form counts opens ends none is comes = tt
@@ -42,14 +39,6 @@ completes limit session left' opening f f' s s' k k' ShelfFault form counts open
 completes limit session left' opening f f' s s' k k' SourceFault form counts opens ends none is comes = none.1 counts.1
 completes limit session left' opening f f' s s' k k' SinkFault form counts opens ends none is comes = none.2 counts.2
 completes limit session left' opening f f' s s' k k' TooLong form counts opens ends none is comes = not_too_long limit session left' ends comes
-
-pub told_completes : (limit : ℕ) (files : Option Files) (left left' : Option (List ℕ)) (opening : Files → Opening) (f f' s s' k k' : ℕ) (status : Status) → (status ≡ Usage → ⊥)
-    → RunCounts f f' s s' k k' status → IfSome files (λ held. OpensSo status (opening held)) → EndsSo limit left left' status → NoneRose f f' s s' k k'
-    → WhereTold files left (λ held session. opening held ≡ goes_on → ComesToEnd limit session → IsComplete status)
-told_completes limit None left left' opening f f' s s' k k' status form counts opens ends none = tt
-told_completes limit (Some held) None left' opening f f' s s' k k' status form counts opens ends none = tt
-told_completes limit (Some held) (Some session) left' opening f f' s s' k k' status form counts opens ends none =
-    completes limit session left' (opening held) f f' s s' k k' status form counts opens ends none
 
 -- ---- a run that comes to the limit is too long
 
@@ -74,7 +63,7 @@ not_done limit session (Some rest) ends comes =
       | inr end ↦ absurd (omega (arith, long, length-append ends.taken rest, ap length end.0, end.1))
     ]
 
-too_long : (limit : ℕ) (session : List ℕ) (left' : Option (List ℕ)) (opening : Opening) (f f' s s' k k' : ℕ) (status : Status) → (status ≡ Usage → ⊥)
+pub too_long : (limit : ℕ) (session : List ℕ) (left' : Option (List ℕ)) (opening : Opening) (f f' s s' k k' : ℕ) (status : Status) → (status ≡ Usage → ⊥)
     → RunCounts f f' s s' k k' status → OpensSo status opening → EndsSo limit (Some session) left' status → NoneRose f f' s s' k k'
     → opening ≡ goes_on → ComesToLimit limit session → IsTooLong status
 too_long limit session left' opening f f' s s' k k' Done form counts opens ends none is comes = not_done limit session left' ends comes
@@ -85,11 +74,3 @@ too_long limit session left' opening f f' s s' k k' ShelfFault form counts opens
 too_long limit session left' opening f f' s s' k k' SourceFault form counts opens ends none is comes = none.1 counts.1
 too_long limit session left' opening f f' s s' k k' SinkFault form counts opens ends none is comes = none.2 counts.2
 too_long limit session left' opening f f' s s' k k' TooLong form counts opens ends none is comes = tt
-
-pub told_too_long : (limit : ℕ) (files : Option Files) (left left' : Option (List ℕ)) (opening : Files → Opening) (f f' s s' k k' : ℕ) (status : Status) → (status ≡ Usage → ⊥)
-    → RunCounts f f' s s' k k' status → IfSome files (λ held. OpensSo status (opening held)) → EndsSo limit left left' status → NoneRose f f' s s' k k'
-    → WhereTold files left (λ held session. opening held ≡ goes_on → ComesToLimit limit session → IsTooLong status)
-told_too_long limit None left left' opening f f' s s' k k' status form counts opens ends none = tt
-told_too_long limit (Some held) None left' opening f f' s s' k k' status form counts opens ends none = tt
-told_too_long limit (Some held) (Some session) left' opening f f' s s' k k' status form counts opens ends none =
-    too_long limit session left' (opening held) f f' s s' k k' status form counts opens ends none

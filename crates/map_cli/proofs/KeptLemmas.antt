@@ -2,7 +2,7 @@
 use Rattle.std.proofs.Common.{◌≡◌, ◌≤◌, ◌<◌, ◌+◌, ◌-◌, ℕ, Bool, true, false, List, [], ◌∷◌, ◌++◌, ◌==◌, cond, length, take, get_or, min, refl, sym, ap, ◌∙◌, arith}
 use Rattle.std.proofs.lemmas.List.{append-nil, append_assoc, length-append, take_all, take_at, take_more}
 use Rattle.std.proofs.lemmas.Bool.{eqb-true}
-use Rattle.map_machine.specs.Lines.{without_return}
+use Rattle.map_machine.specs.Lines.{without_return, last_line}
 use Rattle.map_machine.proofs.LinesLemmas.{without_return-push}
 use Rattle.map_cli.specs.Kept.{IsKept}
 
@@ -82,3 +82,8 @@ kept_nothing piece kept bytes n r was none = rw (none, append-nil piece) was
 pub no_bytes : (bytes : List ℕ) → length bytes ≡ 0 → bytes ≡ []
 no_bytes [] none = refl
 no_bytes (b ∷ bytes) none = absurd (omega (arith, none))
+
+-- bytes after the last line feed are a line
+pub last_line-some : (bytes : List ℕ) → (length bytes ≡ 0 → ⊥) → last_line bytes ≡ bytes ∷ []
+last_line-some [] some = absurd (some refl)
+last_line-some (b ∷ bytes) some = refl

@@ -1,43 +1,31 @@
--- What the loads came to.
-use Rattle.std.proofs.Common.{◌≡◌, ◌≤◌, ℕ, Bool, List, [], ◌∷◌, ◌++◌, length, take, drop, refl, sym, ap, ◌∙◌, subst, append_assoc, Option, Some, None, Result, Ok, Err, Vec, codes, decimal, arith}
+-- What one load came to.
+use Rattle.std.proofs.Common.{◌≡◌, ◌≤◌, ℕ, Bool, cond, List, [], ◌∷◌, ◌++◌, length, refl, sym, ap, ◌∙◌, subst, append_assoc, Option, Some, None, Result, Ok, Err, Vec, codes, decimal, arith}
 use Rattle.std.specs.Prelude.{IsTrue}
 use Rattle.std.specs.List.{All}
 use Rattle.std.specs.declared.alloc.Global.{Global}
+use Rattle.std.proofs.lemmas.Bool.{lt-ltb, le-ltb}
 use Rattle.std.proofs.lemmas.List.Elements.{All-head, All-tail}
-use Rattle.std.proofs.lemmas.List.{append-nil, take-append-drop}
 use Rattle.map_defs.specs.Ops.{Name}
+use Rattle.map_edits.specs.Allowances.{no_reads}
+use Rattle.map_machine.specs.Pairs.{Pair}
 use Rattle.map_machine.specs.States.{MapState}
 use Rattle.map_machine.specs.Loads.{Opened, ready, turned_away, long_file_reply}
-use Rattle.map_machine.specs.Words.{Pair}
-use Rattle.map_machine.specs.Play.{opened_text, file_text, further_text}
-use Rattle.map_machine.specs.Openings.{Opening, opened_opening, file_opening, further_opening}
-use Rattle.map_machine.proofs.OpeningLemmas.{file_text-long, file_text-fits, file_opening-long, file_opening-fits}
+use Rattle.map_machine.specs.LoadTexts.{opened_text}
+use Rattle.map_machine.specs.Openings.{turned_back, opened_opening}
+use Rattle.map_machine.specs.OpeningReads.{opened_reads}
 use Rattle.map_machine.specs.declared.Kind.TheVariants.{Accepted}
 use Rattle.map_session.specs.Answered.{Opens}
 use Rattle.map_session.specs.declared.replies.Reply.{Reply}
-use Rattle.map_outside.specs.Contents.{Files, Fetches, Grows}
+use Rattle.map_outside.specs.Contents.{Files, Fetches}
 use Rattle.map_outside.specs.declared.shelves.FetchFault.TheVariants.{Long}
-use Rattle.map_outside.proofs.Tellings.{grows_nil, grows_then}
-use Rattle.map_cli.specs.Loads.{Loads, LoadsAs, LeavesOf, OneOpens, AllOpen, StopsLoad, opened_reply}
-use Rattle.map_cli.specs.declared.words.Pair.{Pair as Read}
+use Rattle.map_cli.specs.Forms.{pair_read, pairs_read}
+use Rattle.map_cli.specs.Progress.{Progress}
+use Rattle.map_cli.specs.Stages.{Stage, then_stage, Comes}
+use Rattle.map_cli.specs.Loads.{Loads, LoadsAs, load_on, load_reads_on, opened_stage, file_stage, further_stage, pairs_stage, model_file_stage, model_stage, files_stage}
+use Rattle.map_cli.specs.declared.forms.Pair.{Pair as Read}
 use Rattle.map_cli.specs.declared.stop.Stop.{Stop}
-use Rattle.map_cli.specs.declared.stop.Stop.TheVariants.{Load, ShelfFault, SinkFault, NoMemory}
-
--- the text of a file and of those after it
-abbrev pub file_then_text : ℕ → (Name → List ℕ → Opened) → Pair → List Pair → Files → (MapState → List ℕ) → List ℕ
-file_then_text most opens p ps f next = file_text most opens p.name (f p.file) (λ t. further_text most f ps t next)
-
-abbrev pub file_then_opening : ℕ → (Name → List ℕ → Opened) → Pair → List Pair → Files → Opening
-file_then_opening most opens p ps f = file_opening most opens p.name (f p.file) (λ t. further_opening most f ps t)
-
-abbrev pub LoadsOne : Option Files → ℕ → (Name → List ℕ → Opened) → Pair → Option (List ℕ) → Option (List ℕ) → Result MapState Stop → Type 0
-LoadsOne files most opens p h h' loaded = Loads files (λ f. file_text most opens p.name (f p.file)) (λ f. OneOpens (file_opening most opens p.name (f p.file))) h h' loaded
-
-abbrev pub LoadsThen : Option Files → ℕ → (Name → List ℕ → Opened) → Pair → List Pair → Option (List ℕ) → Option (List ℕ) → Result MapState Stop → Type 0
-LoadsThen files most opens p ps h h' loaded = Loads files (file_then_text most opens p ps) (λ f. AllOpen (file_then_opening most opens p ps f)) h h' loaded
-
-abbrev pub LoadsFurther : Option Files → ℕ → List Pair → MapState → Option (List ℕ) → Option (List ℕ) → Result MapState Stop → Type 0
-LoadsFurther files most ps s h h' loaded = Loads files (λ f. further_text most f ps s) (λ f. AllOpen (further_opening most f ps s)) h h' loaded
+use Rattle.map_cli.proofs.Rising.{rises_nothing}
+use Rattle.map_cli.proofs.StageLemmas.{opened_comes, loads_then, loads_nothing}
 
 pub long_file_bytes : (name : List ℕ) (most : ℕ) → (((codes "refused load " ++ name) ++ codes " long ") ++ decimal most) ++ codes "\n" ≡ long_file_reply most name
 unfolding long_file_reply
@@ -45,51 +33,6 @@ long_file_bytes name most =
     let front = codes "refused load " ++ name in
     let cause = codes "long" ++ codes " " ++ decimal most in
     ap (λ l. l ++ codes "\n") (append_assoc front (codes " long ") (decimal most) ∙ sym (append_assoc front (codes " ") cause))
-
--- these bytes are a front of the text, whatever comes next
-abbrev HasFront : ((MapState → List ℕ) → List ℕ) → List ℕ → Type 0
-HasFront text front = (next : MapState → List ℕ) → (rest : List ℕ) × (text next ≡ front ++ rest)
-
-part_begins : (text rest : (MapState → List ℕ) → List ℕ) (reply : List ℕ) (n : ℕ) → ((next : MapState → List ℕ) → text next ≡ reply ++ rest next)
-    → HasFront text (take n reply)
-part_begins text rest reply n is next = (
-  drop n reply ++ rest next,
-  is next ∙ ap (λ l. l ++ rest next) (sym (take-append-drop n reply)) ∙ append_assoc (take n reply) (drop n reply) (rest next),
-)
-
-opened_begins : (o : Opened) (n : ℕ) → HasFront (opened_text o) (take n (opened_reply o))
-opened_begins (ready s reply) n = part_begins (opened_text (ready s reply)) (λ next. next s) reply n (λ next. refl)
-opened_begins (turned_away reply) n = part_begins (opened_text (turned_away reply)) (λ next. []) reply n (λ next. sym (append-nil reply))
-
--- one load that came out so, by its text and its opening
-record Leaves (o : Opened) (h h' : Option (List ℕ)) (loaded : Result MapState Stop) : Type 0 where
-  form : StopsLoad loaded
-  front : List ℕ
-  wrote : Grows h h' front
-  leaves : LeavesOf (opened_text o) front loaded
-  opens : OneOpens (opened_opening o) loaded
-
-leaves_as : (o : Opened) (h h' : Option (List ℕ)) (loaded : Result MapState Stop) → LoadsAs o h h' loaded → Leaves o h h' loaded
-leaves_as (ready s reply) h h' (Ok t) l = record { form = tt; front = reply; wrote = l.1; leaves = λ next. ap (λ u. reply ++ next u) (sym l.0); opens = λ next. ap next (sym l.0) }
-leaves_as (turned_away reply) h h' (Err Load) l = record { form = tt; front = reply; wrote = l; leaves = λ next. refl; opens = λ next. refl }
-leaves_as (ready s reply) h h' (Err SinkFault) l = record { form = tt; front = take l.0 reply; wrote = l.1; leaves = opened_begins (ready s reply) l.0; opens = tt }
-leaves_as (turned_away reply) h h' (Err SinkFault) l = record { form = tt; front = take l.0 reply; wrote = l.1; leaves = opened_begins (turned_away reply) l.0; opens = tt }
-leaves_as (ready s reply) h h' (Err NoMemory) l = record { form = tt; front = take l.0 reply; wrote = l.1; leaves = opened_begins (ready s reply) l.0; opens = tt }
-leaves_as (turned_away reply) h h' (Err NoMemory) l = record { form = tt; front = take l.0 reply; wrote = l.1; leaves = opened_begins (turned_away reply) l.0; opens = tt }
-leaves_as (ready s reply) h h' (Err _) l = absurd l
-leaves_as (turned_away reply) h h' _ l = absurd l
-
-leaves_same : (text text' : (MapState → List ℕ) → List ℕ) (front : List ℕ) (loaded : Result MapState Stop) → ((next : MapState → List ℕ) → text next ≡ text' next)
-    → LeavesOf text' front loaded → LeavesOf text front loaded
-leaves_same text text' front (Ok s) e l = λ next. e next ∙ l next
-leaves_same text text' front (Err Load) e l = λ next. e next ∙ l next
-leaves_same text text' front (Err _) e l = λ next. let r = l next in (r.0, e next ∙ r.1)
-
-opens_same : (opening opening' : (MapState → Opening) → Opening) (loaded : Result MapState Stop) → ((next : MapState → Opening) → opening next ≡ opening' next)
-    → OneOpens opening' loaded → OneOpens opening loaded
-opens_same opening opening' (Ok s) e l = λ next. e next ∙ l next
-opens_same opening opening' (Err Load) e l = λ next. e next ∙ l next
-opens_same opening opening' (Err _) e l = tt
 
 -- the reply to a load that the session accepted, and to one that it refused
 pub accepted_as : (old new : MapState) (reply : Reply) (o : Opened) → Opens old new reply o → reply.kind ≡ Accepted → ready new reply.bytes.items ≡ o
@@ -100,100 +43,49 @@ pub refused_as : (old new : MapState) (reply : Reply) (o : Opened) → Opens old
 refused_as old new reply (ready s bytes) opens apart = absurd (apart opens.2)
 refused_as old new reply (turned_away bytes) opens apart = ap turned_away opens.1
 
--- nothing was written, for want of memory
-pub lacks_memory : (o : Opened) (h : Option (List ℕ)) → LoadsAs o h h (Err NoMemory)
-lacks_memory (ready s reply) h = (0, grows_nil h)
-lacks_memory (turned_away reply) h = (0, grows_nil h)
+-- the load of a file's bytes, by whether they are too long
+abbrev file_by : ℕ → Option MapState → Name → List ℕ → Bool → Stage
+file_by most o name bytes t = record {
+  text = λ next. cond t (long_file_reply most name) (opened_text (load_on o name bytes) next);
+  opening = λ next. cond t turned_back (opened_opening (load_on o name bytes) next);
+  reads = λ n next. cond t no_reads (opened_reads (load_reads_on o name bytes) (load_on o name bytes) n next);
+}
+
+file_fits : (most : ℕ) (o : Option MapState) (name : Name) (bytes : List ℕ) (a b : Progress) (came : Result MapState Stop) → length bytes ≤ most
+    → Comes (opened_stage (load_reads_on o name bytes) (load_on o name bytes)) a b came → Comes (file_stage most o name (Some bytes)) a b came
+file_fits most o name bytes a b came fits c = subst (λ t. Comes (file_by most o name bytes t) a b came) (sym (le-ltb most (length bytes) fits)) c
+
+-- the same bytes, under the same name, after the same loads
+pub load_same : (o o' : Option MapState) (n n' : Name) (bytes : List ℕ) (a b : Progress) (came : Result MapState Stop) → o' ≡ o → n ≡ n'
+    → Comes (opened_stage (load_reads_on o n bytes) (load_on o n bytes)) a b came → Comes (opened_stage (load_reads_on o' n' bytes) (load_on o' n' bytes)) a b came
+load_same o o' n n' bytes a b came e f c =
+    let P : Option MapState → Name → Type 0 = λ p m. Comes (opened_stage (load_reads_on p m bytes) (load_on p m bytes)) a b came in
+    subst (λ p. P p n') (sym e) (subst (λ m. P o m) f c)
 
 -- the bytes that were fetched are those that are held
-pub fetched : (files : Option Files) (most : ℕ) (opens : Name → List ℕ → Opened) (p : Pair) (v : Vec ℕ Global) (h h' : Option (List ℕ)) (loaded : Result MapState Stop)
-    → Fetches files p.file most (Ok v) → length v.items ≤ most → LoadsAs (opens p.name v.items) h h' loaded → LoadsOne files most opens p h h' loaded
-fetched None most opens p v h h' loaded is fits a =
-    let l = leaves_as (opens p.name v.items) h h' loaded a in
-    record { form = l.form; front = l.front; wrote = l.wrote; told = tt }
-fetched (Some f) most opens p v h h' loaded is fits a =
-    let l = leaves_as (opens p.name v.items) h h' loaded a in
-    record {
-      form = l.form;
-      front = l.front;
-      wrote = l.wrote;
-      told = (
-        leaves_same (file_text most opens p.name (f p.file)) (opened_text (opens p.name v.items)) l.front loaded
-            (λ next. ap (λ held. file_text most opens p.name held next) is ∙ file_text-fits most opens p.name v.items next fits) l.leaves,
-        opens_same (file_opening most opens p.name (f p.file)) (opened_opening (opens p.name v.items)) loaded
-            (λ next. ap (λ held. file_opening most opens p.name held next) is ∙ file_opening-fits most opens p.name v.items next fits) l.opens,
-      );
-    }
+pub fetched : (files : Option Files) (most : ℕ) (o : Option MapState) (name file : List ℕ) (v : Vec ℕ Global) (a b : Progress) (came : Result MapState Stop)
+    → Fetches files file most (Ok v) → length v.items ≤ most → Comes (opened_stage (load_reads_on o name v.items) (load_on o name v.items)) a b came
+    → Loads files (λ f. file_stage most o name (f file)) a b came
+fetched None most o name file v a b came is fits c = (c.form, tt)
+fetched (Some f) most o name file v a b came is fits c =
+    (c.form, subst (λ held. Comes (file_stage most o name held) a b came) (sym is) (file_fits most o name v.items a b came fits c))
 
 -- the file was too long
-pub fetched_long : (files : Option Files) (most : ℕ) (opens : Name → List ℕ → Opened) (p : Pair) (h h' : Option (List ℕ)) (loaded : Result MapState Stop)
-    → Fetches files p.file most (Err Long) → LoadsAs (turned_away (long_file_reply most p.name)) h h' loaded → LoadsOne files most opens p h h' loaded
-fetched_long None most opens p h h' loaded is a =
-    let l = leaves_as (turned_away (long_file_reply most p.name)) h h' loaded a in
-    record { form = l.form; front = l.front; wrote = l.wrote; told = tt }
-fetched_long (Some f) most opens p h h' loaded is a =
-    let l = leaves_as (turned_away (long_file_reply most p.name)) h h' loaded a in
-    let held = is refl in
-    record {
-      form = l.form;
-      front = l.front;
-      wrote = l.wrote;
-      told = (
-        leaves_same (file_text most opens p.name (f p.file)) (opened_text (turned_away (long_file_reply most p.name))) l.front loaded
-            (λ next. ap (λ bytes. file_text most opens p.name bytes next) held.1 ∙ file_text-long most opens p.name held.0 next held.2) l.leaves,
-        opens_same (file_opening most opens p.name (f p.file)) (opened_opening (turned_away (long_file_reply most p.name))) loaded
-            (λ next. ap (λ bytes. file_opening most opens p.name bytes next) held.1 ∙ file_opening-long most opens p.name held.0 next held.2) l.opens,
-      );
-    }
+pub fetched_long : (files : Option Files) (most : ℕ) (o : Option MapState) (name file : List ℕ) (a b : Progress) (came : Result MapState Stop)
+    → Fetches files file most (Err Long) → LoadsAs (turned_away (long_file_reply most name)) a.held b.held came → b.tally ≡ a.tally
+    → Loads files (λ f. file_stage most o name (f file)) a b came
+fetched_long files most o name file a b came is l same = on files is
+  where
+    c : Comes (opened_stage no_reads (turned_away (long_file_reply most name))) a b came
+    c = opened_comes no_reads (turned_away (long_file_reply most name)) a b came l (rw same (rises_nothing no_reads a.tally))
 
--- nothing was fetched or written
-pub unfetched : (files : Option Files) (text : Files → (MapState → List ℕ) → List ℕ) (opening : Files → (MapState → Opening) → Opening) (h : Option (List ℕ))
-    → Loads files text (λ f. OneOpens (opening f)) h h (Err ShelfFault) × Loads files text (λ f. OneOpens (opening f)) h h (Err NoMemory)
-unfetched None text opening h = (record { form = tt; front = []; wrote = grows_nil h; told = tt }, record { form = tt; front = []; wrote = grows_nil h; told = tt })
-unfetched (Some f) text opening h = (
-  record { form = tt; front = []; wrote = grows_nil h; told = (λ next. (text f next, refl), tt) },
-  record { form = tt; front = []; wrote = grows_nil h; told = (λ next. (text f next, refl), tt) },
-)
+    on : (files : Option Files) → Fetches files file most (Err Long) → Loads files (λ f. file_stage most o name (f file)) a b came
+    on None is = (c.form, tt)
+    on (Some f) is =
+        let held = is refl in
+        (c.form, subst (λ (bytes : Option (List ℕ)). Comes (file_stage most o name bytes) a b came) (sym held.1) (subst (λ t. Comes (file_by most o name held.0 t) a b came) (sym (lt-ltb most (length held.0) held.2)) c))
 
--- ---- several loads
-
--- there are no further files
-pub none_further : (files : Option Files) (most : ℕ) (s : MapState) (h : Option (List ℕ)) → LoadsFurther files most [] s h h (Ok s)
-none_further None most s h = record { form = tt; front = []; wrote = grows_nil h; told = tt }
-none_further (Some f) most s h = record { form = tt; front = []; wrote = grows_nil h; told = (λ next. refl, refl) }
-
-leaves_then : (text : (MapState → List ℕ) → List ℕ) (further : MapState → (MapState → List ℕ) → List ℕ) (first rest : List ℕ) (s : MapState) (loaded : Result MapState Stop)
-    → ((next : MapState → List ℕ) → text next ≡ first ++ next s) → LeavesOf (further s) rest loaded
-    → LeavesOf (λ next. text (λ t. further t next)) (first ++ rest) loaded
-leaves_then text further first rest s (Ok u) a b = λ next. a (λ t. further t next) ∙ ap (λ l. first ++ l) (b next) ∙ sym (append_assoc first rest (next u))
-leaves_then text further first rest s (Err Load) a b = λ next. a (λ t. further t next) ∙ ap (λ l. first ++ l) (b next)
-leaves_then text further first rest s (Err _) a b = λ next. let r = b next in (r.0, a (λ t. further t next) ∙ ap (λ l. first ++ l) r.1 ∙ sym (append_assoc first rest r.0))
-
--- a file that was accepted, and then the further ones
-pub load_then : (files : Option Files) (most : ℕ) (opens : Name → List ℕ → Opened) (p : Pair) (ps : List Pair) (h h' h'' : Option (List ℕ)) (s : MapState) (loaded : Result MapState Stop)
-    → LoadsOne files most opens p h h' (Ok s) → LoadsFurther files most ps s h' h'' loaded → LoadsThen files most opens p ps h h'' loaded
-load_then None most opens p ps h h' h'' s loaded a b = record { form = b.form; front = a.front ++ b.front; wrote = grows_then h h' h'' a.front b.front a.wrote b.wrote; told = tt }
-load_then (Some f) most opens p ps h h' h'' s loaded a b = record {
-  form = b.form;
-  front = a.front ++ b.front;
-  wrote = grows_then h h' h'' a.front b.front a.wrote b.wrote;
-  told = (
-    leaves_then (file_text most opens p.name (f p.file)) (λ t. further_text most f ps t) a.front b.front s loaded a.told.0 b.told.0,
-    subst (λ o. AllOpen o loaded) (sym (a.told.1 (λ t. further_opening most f ps t))) b.told.1,
-  );
-}
-
--- a file at which it stopped
-pub load_stops : (files : Option Files) (most : ℕ) (opens : Name → List ℕ → Opened) (p : Pair) (ps : List Pair) (h h' : Option (List ℕ)) (stop : Stop)
-    → LoadsOne files most opens p h h' (Err stop) → LoadsThen files most opens p ps h h' (Err stop)
-load_stops None most opens p ps h h' stop a = record { form = a.form; front = a.front; wrote = a.wrote; told = tt }
-load_stops (Some f) most opens p ps h h' Load a = record {
-  form = a.form;
-  front = a.front;
-  wrote = a.wrote;
-  told = (λ next. a.told.0 (λ t. further_text most f ps t next), a.told.1 (λ t. further_opening most f ps t));
-}
-load_stops (Some f) most opens p ps h h' _ a = record { form = a.form; front = a.front; wrote = a.wrote; told = (λ next. a.told.0 (λ t. further_text most f ps t next), tt) }
+-- ---- the pairs of a run
 
 -- the further files are served too
 pub serves_rest : (serves serves' : List ℕ → Bool) (ps rest : List Read) (p : Read) → serves' ≡ serves → ps ≡ p ∷ rest
@@ -211,3 +103,42 @@ rest_of_all P ps rest p e all = All-tail P p rest (subst (λ l. All P l) e all)
 pub no_pairs : (ps : List Read) → length ps ≡ 0 → ps ≡ []
 no_pairs [] e = refl
 no_pairs (p ∷ ps) e = absurd (omega (arith, e))
+
+-- a load that was accepted, and then the further ones
+pub first_then : (files files' : Option Files) (most : ℕ) (o : Option MapState) (p : Pair) (ps : List Pair) (a b c : Progress) (s : MapState) (came : Result MapState Stop) → files' ≡ files
+    → Loads files (λ f. file_stage most o p.name (f p.file)) a b (Ok s) → Loads files' (λ f. further_stage most f ps s) b c came
+    → Loads files (λ f. then_stage (file_stage most o p.name (f p.file)) (further_stage most f ps)) a c came
+first_then files files' most o p ps a b c s came same m n =
+    loads_then files (λ f. file_stage most o p.name (f p.file)) (λ f. further_stage most f ps) a b c s came m
+    (subst (λ fs. Loads fs (λ f. further_stage most f ps s) b c came) same n)
+
+pub pairs_cut : (ps rest : List Read) (p : Read) → ps ≡ p ∷ rest → pairs_read ps ≡ pair_read p ∷ pairs_read rest
+pairs_cut ps rest p e = ap pairs_read e
+
+-- the first of the pairs, and then the rest
+pub further_at : (files : Option Files) (most : ℕ) (s : MapState) (all : List Pair) (p : Pair) (ps : List Pair) (a b : Progress) (came : Result MapState Stop) → all ≡ p ∷ ps
+    → Loads files (λ f. then_stage (file_stage most (Some s) p.name (f p.file)) (further_stage most f ps)) a b came → Loads files (λ f. further_stage most f all s) a b came
+further_at files most s all p ps a b came cut m = subst (λ l. Loads files (λ f. further_stage most f l s) a b came) (sym cut) m
+
+pub pairs_at : (files : Option Files) (most : ℕ) (all : List Pair) (p : Pair) (ps : List Pair) (a b : Progress) (came : Result MapState Stop) → all ≡ p ∷ ps
+    → Loads files (λ f. then_stage (file_stage most None p.name (f p.file)) (further_stage most f ps)) a b came → Loads files (λ f. pairs_stage most f all) a b came
+pairs_at files most all p ps a b came cut m = subst (λ l. Loads files (λ f. pairs_stage most f l) a b came) (sym cut) m
+
+-- there are no further files
+pub further_none : (files : Option Files) (most : ℕ) (s : MapState) (ps : List Read) (a : Progress) → ps ≡ [] → Loads files (λ f. further_stage most f (pairs_read ps) s) a a (Ok s)
+further_none files most s ps a none = subst (λ l. Loads files (λ f. further_stage most f (pairs_read l) s) a a (Ok s)) (sym none) (loads_nothing files s a)
+
+-- ---- the pairs, and then the model file
+
+pub without_model : (files : Option Files) (most : ℕ) (o : Option (List ℕ)) (ps : List Pair) (a b : Progress) (s : MapState) → o ≡ None
+    → Loads files (λ f. pairs_stage most f ps) a b (Ok s) → Loads files (files_stage most o ps) a b (Ok s)
+without_model files most o ps a b s none l =
+    subst (λ m. Loads files (files_stage most m ps) a b (Ok s)) (sym none)
+    (loads_then files (λ f. pairs_stage most f ps) (λ f. model_stage most f None) a b b s (Ok s) l (loads_nothing files s b))
+
+pub with_model : (files files' : Option Files) (most : ℕ) (o : Option (List ℕ)) (file : List ℕ) (ps : List Pair) (a b c : Progress) (s : MapState) (came : Result MapState Stop) → o ≡ Some file
+    → files' ≡ files → Loads files (λ f. pairs_stage most f ps) a b (Ok s) → Loads files' (λ f. model_file_stage most (f file) s) b c came → Loads files (files_stage most o ps) a c came
+with_model files files' most o file ps a b c s came some same l n =
+    subst (λ m. Loads files (files_stage most m ps) a c came) (sym some)
+    (loads_then files (λ f. pairs_stage most f ps) (λ f. model_stage most f (Some file)) a b c s came l
+    (subst (λ fs. Loads fs (λ f. model_file_stage most (f file) s) b c came) same n))

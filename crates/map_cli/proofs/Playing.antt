@@ -9,9 +9,10 @@ use Rattle.map_machine.proofs.LinesLemmas.{ended_lines-append}
 use Rattle.map_cli.specs.Kept.{IsKept}
 use Rattle.map_cli.specs.Answered.{Answered, AnswersAll}
 use Rattle.map_cli.specs.FaultCounts.{RunCounts}
+use Rattle.map_cli.specs.Progress.{Progress}
 use Rattle.map_cli.specs.Played.{CameTo, Plays}
 use Rattle.map_cli.specs.Stops.{status_of}
-use Rattle.map_cli.specs.declared.status.Status.TheVariants.{NoMemory as Lacking}
+use Rattle.map_cli.specs.declared.status.Status.TheVariants.{NoMemory as Lacking, SourceFault as Faulty, TooLong as Full}
 use Rattle.map_cli.specs.declared.lines.Fed.{Fed}
 use Rattle.map_cli.specs.declared.lines.Fed.TheVariants.{More, Quit}
 use Rattle.map_cli.specs.declared.stop.Stop.{Stop}
@@ -19,82 +20,112 @@ use Rattle.map_cli.specs.declared.stop.Stop.TheVariants.{SinkFault, NoMemory}
 use Rattle.map_cli.proofs.AnsweredLemmas.{answered_then, nothing_answered, stopped_before}
 
 -- the lines that ended among the bytes taken were answered, and what follows the last line feed is kept
-pub record Playing (old now : MapState) (left left' held held' : Option (List ℕ)) (faults faults' : ℕ) (kept : List ℕ) (count : ℕ) (returns : Bool) (taken : ℕ) : Type 0 where
+pub record Playing (old now : MapState) (left left' : Option (List ℕ)) (a b : Progress) (kept : List ℕ) (count : ℕ) (returns : Bool) (taken : ℕ) : Type 0 where
   pub bytes : List ℕ
   pub size : taken ≡ length bytes
   pub moved : Consumes left left' bytes
-  pub answered : AnswersAll old now (ended_lines bytes) held held' faults faults'
+  pub answered : AnswersAll old now (ended_lines bytes) a b
   pub kept_so : IsKept (open_piece bytes) kept count returns
 
-pub begins : (s : MapState) (left held : Option (List ℕ)) (faults : ℕ) (kept : List ℕ) (count : ℕ) (returns : Bool) → IsKept [] kept count returns
-    → Playing s s left left held held faults faults kept count returns 0
-begins s left held faults kept count returns k = record {
+pub begins : (s : MapState) (left : Option (List ℕ)) (a : Progress) (kept : List ℕ) (count : ℕ) (returns : Bool) → IsKept [] kept count returns
+    → Playing s s left left a a kept count returns 0
+begins s left a kept count returns k = record {
   bytes = [];
   size = refl;
   moved = Consumes-nil left;
-  answered = nothing_answered s held faults;
+  answered = nothing_answered s a;
   kept_so = k;
 }
 
 -- a chunk of bytes, after those so far
-pub chunk_then : (old mid new : MapState) (held held' held'' : Option (List ℕ)) (f f' f'' : ℕ) (bytes chunk : List ℕ) (fed : Result Fed Stop)
-    → AnswersAll old mid (ended_lines bytes) held held' f f' → Answered mid new (further_lines bytes chunk) held' held'' f' f'' fed
-    → Answered old new (ended_lines (bytes ++ chunk)) held held'' f f'' fed
-chunk_then old mid new held held' held'' f f' f'' bytes chunk fed a b =
-    let P : List (List ℕ) → Type 0 = λ lines. Answered old new lines held held'' f f'' fed in
-    subst P (sym (ended_lines-append bytes chunk)) (answered_then old mid new (ended_lines bytes) (further_lines bytes chunk) held held' held'' f f' f'' fed a b)
+pub chunk_then : (old mid new : MapState) (a b c : Progress) (bytes chunk : List ℕ) (fed : Result Fed Stop)
+    → AnswersAll old mid (ended_lines bytes) a b → Answered mid new (further_lines bytes chunk) b c fed
+    → Answered old new (ended_lines (bytes ++ chunk)) a c fed
+chunk_then old mid new a b c bytes chunk fed m n =
+    let P : List (List ℕ) → Type 0 = λ lines. Answered old new lines a c fed in
+    subst P (sym (ended_lines-append bytes chunk)) (answered_then old mid new (ended_lines bytes) (further_lines bytes chunk) a b c fed m n)
+
+-- the front of a buffer that was fed
+pub fed_front : (mid new : MapState) (bytes chunk chunk' : List ℕ) (b c : Progress) (fed fed' : Result Fed Stop) → chunk ≡ chunk' → fed ≡ fed'
+    → Answered mid new (further_lines bytes chunk) b c fed → Answered mid new (further_lines bytes chunk') b c fed'
+fed_front mid new bytes chunk chunk' b c fed fed' e f m =
+    let P : List ℕ → Result Fed Stop → Type 0 = λ bs r. Answered mid new (further_lines bytes bs) b c r in
+    subst (P chunk') f (subst (λ (bs : List ℕ). P bs fed) e m)
 
 -- nothing was taken, for want of memory
-pub plays_nothing : (limit : ℕ) (s : MapState) (left held : Option (List ℕ)) → Plays limit s left left held held Lacking
-plays_nothing limit s left held = record {
+pub plays_nothing : (limit : ℕ) (s : MapState) (left : Option (List ℕ)) (a : Progress) → Plays limit s left left a a Lacking
+plays_nothing limit s left a = record {
   taken = [];
   ended = false;
   within = omega arith;
   moved = Consumes-nil left;
   at_end = λ e. absurd (cc);
-  came = stopped_before s [] held;
+  came = stopped_before s [] a;
 }
 
-stopped_so : (limit : ℕ) (old new : MapState) (held held' : Option (List ℕ)) (f f' : ℕ) (taken : List ℕ) (fed : Result Fed Stop) → (fed ≡ Ok More → ⊥)
-    → Answered old new (ended_lines taken) held held' f f' fed → CameTo limit old taken false held held' (status_of fed)
-stopped_so limit old new held held' f f' taken (Ok More) apart a = absurd (apart refl)
-stopped_so limit old new held held' f f' taken (Ok Quit) apart a = (inr a.some, a.wrote)
-stopped_so limit old new held held' f f' taken (Err SinkFault) apart a = a.at
-stopped_so limit old new held held' f f' taken (Err NoMemory) apart a = a.at
-stopped_so limit old new held held' f f' taken (Err _) apart a = absurd a
+stopped_so : (limit : ℕ) (old new : MapState) (a b : Progress) (taken : List ℕ) (fed : Result Fed Stop) → (fed ≡ Ok More → ⊥)
+    → Answered old new (ended_lines taken) a b fed → CameTo limit old taken false a b (status_of fed)
+stopped_so limit old new a b taken (Ok More) apart m = absurd (apart refl)
+stopped_so limit old new a b taken (Ok Quit) apart m = (inr m.some, m.whole)
+stopped_so limit old new a b taken (Err SinkFault) apart m = m.at
+stopped_so limit old new a b taken (Err NoMemory) apart m = m.at
+stopped_so limit old new a b taken (Err _) apart m = absurd m
 
-finished_so : (limit : ℕ) (old new : MapState) (held held' : Option (List ℕ)) (f f' : ℕ) (taken : List ℕ) (fed : Result Fed Stop)
-    → Answered old new (lines_of taken) held held' f f' fed → CameTo limit old taken true held held' (status_of fed)
-finished_so limit old new held held' f f' taken (Ok More) a = (inl refl, a.wrote)
-finished_so limit old new held held' f f' taken (Ok Quit) a = (inl refl, a.wrote)
-finished_so limit old new held held' f f' taken (Err SinkFault) a = a.at
-finished_so limit old new held held' f f' taken (Err NoMemory) a = a.at
-finished_so limit old new held held' f f' taken (Err _) a = absurd a
+finished_so : (limit : ℕ) (old new : MapState) (a b : Progress) (taken : List ℕ) (fed : Result Fed Stop)
+    → Answered old new (lines_of taken) a b fed → CameTo limit old taken true a b (status_of fed)
+finished_so limit old new a b taken (Ok More) m = (inl refl, m.whole)
+finished_so limit old new a b taken (Ok Quit) m = (inl refl, m.whole)
+finished_so limit old new a b taken (Err SinkFault) m = m.at
+finished_so limit old new a b taken (Err NoMemory) m = m.at
+finished_so limit old new a b taken (Err _) m = absurd m
 
 -- the session stopped before its end
-pub plays_stopped : (limit : ℕ) (old new : MapState) (left left' held held' : Option (List ℕ)) (f f' : ℕ) (taken : List ℕ) (fed : Result Fed Stop) → (fed ≡ Ok More → ⊥)
-    → length taken ≤ limit → Consumes left left' taken → Answered old new (ended_lines taken) held held' f f' fed
-    → Plays limit old left left' held held' (status_of fed)
-plays_stopped limit old new left left' held held' f f' taken fed apart within moved a = record {
+pub plays_stopped : (limit : ℕ) (old new : MapState) (left left' : Option (List ℕ)) (a b : Progress) (taken : List ℕ) (fed : Result Fed Stop) → (fed ≡ Ok More → ⊥)
+    → length taken ≤ limit → Consumes left left' taken → Answered old new (ended_lines taken) a b fed
+    → Plays limit old left left' a b (status_of fed)
+plays_stopped limit old new left left' a b taken fed apart within moved m = record {
   taken = taken;
   ended = false;
   within = within;
   moved = moved;
   at_end = λ e. absurd (cc);
-  came = stopped_so limit old new held held' f f' taken fed apart a;
+  came = stopped_so limit old new a b taken fed apart m;
 }
 
 -- the end was seen
-pub plays_finished : (limit : ℕ) (old new : MapState) (left left' held held' : Option (List ℕ)) (f f' : ℕ) (taken : List ℕ) (fed : Result Fed Stop)
-    → length taken < limit → Consumes left left' taken → IsAtEnd left' → Answered old new (lines_of taken) held held' f f' fed
-    → Plays limit old left left' held held' (status_of fed)
-plays_finished limit old new left left' held held' f f' taken fed short moved at_end a = record {
+pub plays_finished : (limit : ℕ) (old new : MapState) (left left' : Option (List ℕ)) (a b : Progress) (taken : List ℕ) (fed : Result Fed Stop)
+    → length taken < limit → Consumes left left' taken → IsAtEnd left' → Answered old new (lines_of taken) a b fed
+    → Plays limit old left left' a b (status_of fed)
+plays_finished limit old new left left' a b taken fed short moved at_end m = record {
   taken = taken;
   ended = true;
   within = omega arith;
   moved = moved;
   at_end = λ e. (at_end, short);
-  came = finished_so limit old new held held' f f' taken fed a;
+  came = finished_so limit old new a b taken fed m;
+}
+
+-- the source failed, or the limit was reached
+pub plays_faulty : (limit : ℕ) (old now : MapState) (left left' : Option (List ℕ)) (a b : Progress) (taken : List ℕ)
+    → length taken < limit → Consumes left left' taken → AnswersAll old now (ended_lines taken) a b → Plays limit old left left' a b Faulty
+plays_faulty limit old now left left' a b taken few moved m = record {
+  taken = taken;
+  ended = false;
+  within = omega arith;
+  moved = moved;
+  at_end = λ e. absurd (cc);
+  came = (refl, few, m.none, m.whole);
+}
+
+pub plays_full : (limit : ℕ) (old now : MapState) (left left' : Option (List ℕ)) (a b : Progress) (taken : List ℕ)
+    → length taken ≡ limit → Consumes left left' taken → AnswersAll old now (ended_lines taken) a b → Plays limit old left left' a b Full
+plays_full limit old now left left' a b taken full moved m = record {
+  taken = taken;
+  ended = false;
+  within = omega arith;
+  moved = moved;
+  at_end = λ e. absurd (cc);
+  came = (refl, full, m.none, m.whole);
 }
 
 -- nothing more was taken
@@ -103,26 +134,26 @@ moved_nothing left left' left'' taken none is a b =
     subst (Consumes left left'') (ap (λ l. taken ++ l) is ∙ append-nil taken) (Consumes-trans left left' left'' taken none a b)
 
 -- one more chunk
-pub goes_on : (old mid new : MapState) (left left' left'' held held' held'' : Option (List ℕ)) (f f' f'' : ℕ) (kept kept' : List ℕ) (count count' : ℕ) (returns returns' : Bool)
-    (taken n : ℕ) (chunk : List ℕ) → (p : Playing old mid left left' held held' f f' kept count returns taken) → n ≡ length chunk → Consumes left' left'' chunk
-    → AnswersAll mid new (further_lines p.bytes chunk) held' held'' f' f'' → IsKept (open_piece (p.bytes ++ chunk)) kept' count' returns'
-    → Playing old new left left'' held held'' f f'' kept' count' returns' (taken + n)
-goes_on old mid new left left' left'' held held' held'' f f' f'' kept kept' count count' returns returns' taken n chunk p size moved answered kept_so = record {
+pub goes_on : (old mid new : MapState) (left left' left'' : Option (List ℕ)) (a b c : Progress) (kept kept' : List ℕ) (count count' : ℕ) (returns returns' : Bool)
+    (taken n : ℕ) (chunk : List ℕ) → (p : Playing old mid left left' a b kept count returns taken) → n ≡ length chunk → Consumes left' left'' chunk
+    → AnswersAll mid new (further_lines p.bytes chunk) b c → IsKept (open_piece (p.bytes ++ chunk)) kept' count' returns'
+    → Playing old new left left'' a c kept' count' returns' (taken + n)
+goes_on old mid new left left' left'' a b c kept kept' count count' returns returns' taken n chunk p size moved answered kept_so = record {
   bytes = p.bytes ++ chunk;
   size = omega (arith, p.size, length-append p.bytes chunk);
   moved = Consumes-trans left left' left'' p.bytes chunk p.moved moved;
-  answered = chunk_then old mid new held held' held'' f f' f'' p.bytes chunk (Ok More) p.answered answered;
+  answered = chunk_then old mid new a b c p.bytes chunk (Ok More) p.answered answered;
   kept_so = kept_so;
 }
 
 -- the counts at such an ending
-pub counts_for : (old new : MapState) (lines : List (List ℕ)) (held held' : Option (List ℕ)) (shelf s s' f f' : ℕ) (fed : Result Fed Stop) → s' ≡ s
-    → Answered old new lines held held' f f' fed → RunCounts shelf shelf s s' f f' (status_of fed)
-counts_for old new lines held held' shelf s s' f f' (Ok More) same a = (refl, same, a.same)
-counts_for old new lines held held' shelf s s' f f' (Ok Quit) same a = (refl, same, a.same)
-counts_for old new lines held held' shelf s s' f f' (Err SinkFault) same a = (refl, same, a.rose)
-counts_for old new lines held held' shelf s s' f f' (Err NoMemory) same a = (refl, same, a.same)
-counts_for old new lines held held' shelf s s' f f' (Err _) same a = absurd a
+pub counts_for : (old new : MapState) (lines : List (List ℕ)) (a b : Progress) (shelf s s' : ℕ) (fed : Result Fed Stop) → s' ≡ s
+    → Answered old new lines a b fed → RunCounts shelf shelf s s' a.faults b.faults (status_of fed)
+counts_for old new lines a b shelf s s' (Ok More) same m = (refl, same, m.same)
+counts_for old new lines a b shelf s s' (Ok Quit) same m = (refl, same, m.same)
+counts_for old new lines a b shelf s s' (Err SinkFault) same m = (refl, same, m.rose)
+counts_for old new lines a b shelf s s' (Err NoMemory) same m = (refl, same, m.same)
+counts_for old new lines a b shelf s s' (Err _) same m = absurd m
 
 -- ---- how many bytes a call asks for
 

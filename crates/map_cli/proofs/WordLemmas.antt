@@ -1,17 +1,18 @@
 -- Where a word is cut, and the pairs that were read so far.
-use Rattle.std.proofs.Common.{◌≡◌, ◌<◌, ◌≤◌, ◌+◌, ◌-◌, ◌||◌, take, drop, get_or, ◌&&◌, cond, codes, ℕ, Bool, true, false, List, [], ◌∷◌, ◌++◌, length, refl, sym, ap, ◌∙◌, Option, Some, None, arith, bytes_eq, lit<}
+use Rattle.std.proofs.Common.{◌≡◌, ◌<◌, ◌≤◌, ◌+◌, ◌||◌, take, drop, get_or, ℕ, Bool, true, false, List, [], ◌∷◌, ◌++◌, length, map, refl, sym, ap, ◌∙◌, Option, Some, None, arith, bytes_eq, lit<}
 use Rattle.std.specs.Prelude.{MatchOption, IfSome, IsTrue, String, string_bytes}
 use Rattle.std.specs.List.{list_any, All}
 use Rattle.std.specs.declared.alloc.Global.{Global}
-use Rattle.std.proofs.lemmas.List.{length-append, map-append, length-map, take-append-drop, drop_more, take_more, take_all, length-drop}
+use Rattle.std.proofs.lemmas.List.{length-append, map-append, length-map, take-append-drop, drop_more, take_more}
 use Rattle.std.proofs.lemmas.List.Elements.{All-nil, All-push, All-cons, All-head, All-tail}
 use Rattle.std.proofs.lemmas.Str.Pattern.{IsSplitOnceResult, split_parts}
 use Rattle.map_words.specs.Names.{is_plain}
-use Rattle.map_machine.specs.Words.{Pair, cut, pair_of, all_pairs, are_apart, pairs_of, is_workers, run_pairs}
+use Rattle.map_machine.specs.Pairs.{Pair, cut, pair_of, all_pairs, are_apart, pairs_of}
+use Rattle.map_machine.specs.Words.{Form, of_files, model_files, files_of}
 use Rattle.map_machine.proofs.WordsLemmas.{cut-none, cut-at}
 use Rattle.map_machine.proofs.PairsLemmas.{is_named, all_pairs-more, apart_more, pairs_good, pairs_too_many, pairs_twice}
-use Rattle.map_cli.specs.Pairs.{pair_read, pairs_read}
-use Rattle.map_cli.specs.declared.words.Pair.{Pair as Read}
+use Rattle.map_cli.specs.Forms.{pair_read, pairs_read}
+use Rattle.map_cli.specs.declared.forms.Pair.{Pair as Read}
 use denote.Ref.{Bor}
 
 pub cut_once : (bytes : List ℕ) (parts : Option (Bor (List ℕ) × Bor (List ℕ))) → IsSplitOnceResult 61 bytes parts
@@ -72,58 +73,21 @@ pub read_empty : (words : List (String Global)) (ps : List Read) → ReadSoFar w
 read_empty words [] so none = ap pairs_of so.read
 read_empty words (p ∷ ps) so none = absurd (omega (arith, none))
 
--- ---- the form of a run
+-- where every file of a form is served, those of its pairs are, and its model file
+pub pairs_served : (serves : List ℕ → Bool) (model : Option (List ℕ)) (ps : List Read) → All (λ f. IsTrue (serves f)) (files_of (of_files model (pairs_read ps)))
+    → All (λ (q : Read). IsTrue (serves q.file.now)) ps
+pairs_served serves model [] all = All-nil (λ (q : Read). IsTrue (serves q.file.now))
+pairs_served serves model (p ∷ ps) all =
+    let rest = map (λ (q : Pair). q.file) (pairs_read ps) ++ model_files model in
+    All-cons (λ (q : Read). IsTrue (serves q.file.now)) p ps (All-head (λ f. IsTrue (serves f)) p.file.now rest all)
+    (pairs_served serves model ps (All-tail (λ f. IsTrue (serves f)) p.file.now rest all))
 
--- three words, and those after them
-pub three_words : (ws : List (String Global)) (r w m : String Global) → 3 ≤ length ws → r ≡ get_or ws 0 r → w ≡ get_or ws 1 w → m ≡ get_or ws 2 m → ws ≡ r ∷ w ∷ m ∷ drop 3 ws
-three_words [] r w m long er ew em = absurd (omega (arith, long))
-three_words (a ∷ []) r w m long er ew em = absurd (omega (arith, long))
-three_words (a ∷ b ∷ []) r w m long er ew em = absurd (omega (arith, long))
-three_words (a ∷ b ∷ c ∷ ws) r w m long er ew em = ap (λ x. x ∷ b ∷ c ∷ ws) (sym er) ∙ ap (λ x. r ∷ x ∷ c ∷ ws) (sym ew) ∙ ap (λ x. r ∷ w ∷ x ∷ ws) (sym em)
-
-pub rest_whole : (ws : List (String Global)) → take (length ws - 3) (drop 3 ws) ≡ drop 3 ws
-rest_whole ws = take_all (length ws - 3) (drop 3 ws) (omega (arith, length-drop 3 ws))
-
-none_by_frame : (a b c : Bool) (o : Option (List Pair)) → (a && c) ≡ false → cond (a && b && c) o None ≡ None
-none_by_frame true true true o e = absurd (cc)
-none_by_frame true true false o e = refl
-none_by_frame true false c o e = refl
-none_by_frame false b c o e = refl
-
-none_by_workers : (a b c : Bool) (o : Option (List Pair)) → b ≡ false → cond (a && b && c) o None ≡ None
-none_by_workers true true c o e = absurd (cc)
-none_by_workers true false c o e = refl
-none_by_workers false b c o e = refl
-
-all_by_form : (a b c : Bool) (o : Option (List Pair)) → (a && c) ≡ true → b ≡ true → cond (a && b && c) o None ≡ o
-all_by_form true true true o e f = refl
-all_by_form true true false o e f = absurd (cc)
-all_by_form true false c o e f = absurd (cc)
-all_by_form false b c o e f = absurd (cc)
-
-abbrev pub is_frame : String Global → String Global → Bool
-is_frame r m = bytes_eq (string_bytes r) (codes "run") && bytes_eq (string_bytes m) (codes "-")
-
-pub run_of_another : (r w m : String Global) (ws : List (String Global)) → is_frame r m ≡ false → run_pairs (r ∷ w ∷ m ∷ ws) ≡ None
-run_of_another r w m ws e = none_by_frame (bytes_eq (string_bytes r) (codes "run")) (is_workers (string_bytes w)) (bytes_eq (string_bytes m) (codes "-")) (pairs_of (all_pairs ws)) e
-
-pub run_of_no_workers : (r w m : String Global) (ws : List (String Global)) → is_workers (string_bytes w) ≡ false → run_pairs (r ∷ w ∷ m ∷ ws) ≡ None
-run_of_no_workers r w m ws e = none_by_workers (bytes_eq (string_bytes r) (codes "run")) (is_workers (string_bytes w)) (bytes_eq (string_bytes m) (codes "-")) (pairs_of (all_pairs ws)) e
-
-pub run_of_pairs : (r w m : String Global) (ws : List (String Global)) → is_frame r m ≡ true → is_workers (string_bytes w) ≡ true → run_pairs (r ∷ w ∷ m ∷ ws) ≡ pairs_of (all_pairs ws)
-run_of_pairs r w m ws e f = all_by_form (bytes_eq (string_bytes r) (codes "run")) (is_workers (string_bytes w)) (bytes_eq (string_bytes m) (codes "-")) (pairs_of (all_pairs ws)) e f
-
-pub frame_is : (r m : String Global) (a b : List ℕ) (found : Bool) → a ≡ string_bytes r → b ≡ string_bytes m → found ≡ (bytes_eq a (codes "run") && bytes_eq b (codes "-"))
-    → is_frame r m ≡ found
-frame_is r m a b found ea eb e =
-    ap (λ t. bytes_eq t (codes "run") && bytes_eq (string_bytes m) (codes "-")) (sym ea) ∙ ap (λ t. bytes_eq a (codes "run") && bytes_eq t (codes "-")) (sym eb) ∙ sym e
-
--- what holds of all pairs holds of all that were read
-pub all_read : (P : Pair → Type 0) (ps : List Read) → All P (pairs_read ps) → All (λ (q : Read). P (pair_read q)) ps
-all_read P [] all = All-nil (λ (q : Read). P (pair_read q))
-all_read P (p ∷ ps) all = All-cons (λ (q : Read). P (pair_read q)) p ps (All-head P (pair_read p) (pairs_read ps) all) (all_read P ps (All-tail P (pair_read p) (pairs_read ps) all))
+pub model_served : (serves : List ℕ → Bool) (file : List ℕ) (ps : List Read) → All (λ f. IsTrue (serves f)) (files_of (of_files (Some file) (pairs_read ps))) → IsTrue (serves file)
+model_served serves file [] all = All-head (λ f. IsTrue (serves f)) file [] all
+model_served serves file (p ∷ ps) all =
+    model_served serves file ps (All-tail (λ f. IsTrue (serves f)) p.file.now (map (λ (q : Pair). q.file) (pairs_read ps) ++ model_files (Some file)) all)
 
 -- where every file is served
-pub all_served : (o : Option (List Pair)) → IfSome o (λ ps. All (λ (p : Pair). IsTrue true) ps)
+pub all_served : (o : Option Form) → IfSome o (λ form. All (λ (f : List ℕ). IsTrue true) (files_of form))
 all_served None = tt
-all_served (Some ps) = λ k d within. refl
+all_served (Some form) = λ k d within. refl

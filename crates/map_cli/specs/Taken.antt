@@ -1,9 +1,10 @@
 -- How the bytes that a run took and its answer go together.
-use Rattle.std.specs.Prelude.{ℕ, ◌≡◌, ◌≤◌, ◌<◌, ◌⊎◌, true, false, List, length, Option}
+use Rattle.std.specs.Prelude.{ℕ, ◌≡◌, ◌≤◌, ◌<◌, ◌⊎◌, ⊤, true, false, List, length, Option, Some}
 use Rattle.std.specs.List.{list_any}
 use Rattle.std.specs.Io.KnownBytes.{Consumes, IsAtEnd, Keeps}
 use Rattle.map_machine.specs.Lines.{ended_lines}
 use Rattle.map_machine.specs.Steps.{is_quit}
+use Rattle.map_machine.specs.Words.{Form, of_sample}
 use Rattle.map_cli.specs.declared.status.Status.{Status}
 use Rattle.map_cli.specs.declared.status.Status.TheVariants.{Done, Usage, Load, ShelfFault, SourceFault, SinkFault, NoMemory, TooLong}
 
@@ -43,3 +44,15 @@ EndsSo limit left left' NoMemory = EndsWithin limit left left'
 EndsSo limit left left' Usage = Keeps left left'
 EndsSo limit left left' Load = Keeps left left'
 EndsSo limit left left' ShelfFault = Keeps left left'
+
+-- a sample is done, or the sink failed, or memory was wanted
+abbrev pub EndsSample : Status → Type 0
+EndsSample Done = ⊤
+EndsSample SinkFault = ⊤
+EndsSample NoMemory = ⊤
+EndsSample _ = ⊥
+
+-- a sample takes nothing
+abbrev pub EndsFor : Option Form → ℕ → Option (List ℕ) → Option (List ℕ) → Status → Type 0
+EndsFor (Some (of_sample n)) limit left left' status = Keeps left left' × EndsSample status
+EndsFor form limit left left' status = EndsSo limit left left' status

@@ -2,17 +2,23 @@
 //!
 //! [`run`] does all that the program does, over any shelf, source, sink and tally. `main` hands it the arguments, the
 //! system's files, the standard streams and a tally, and ends with the code of the [`Status`] that it answers. A run
-//! loads the files that its words name (`words`, `workers`, `opening`), and then answers the session's lines (`session`,
-//! `lines`), of which `piece` keeps the one that no line feed has ended yet. Each part answers what it came to, or by a
-//! `Stop` why the run stops. What is written is proved to be the text of the map machine.
+//! loads the files that its words name and plays its model file (`words`, `workers`, `opening`, `loads`, `model`), and then
+//! answers the session's lines (`session`, `lines`), of which `piece` keeps the one that no line feed has ended yet; a run
+//! over the sample has grids and lines of its own (`sample`). Each part answers what it came to, or by a `Stop` why the run
+//! stops. What is written is proved to be the text of the map machine, and the tally to rise by no more than the machine
+//! allows for it.
 #![tactic(auto)]
 
 ghost use Rattle.std.specs.Prelude.{◌≡◌, ◌↔◌, IsNone};
-ghost use Rattle.map_machine.specs.Words.{run_pairs};
+ghost use Rattle.map_machine.specs.Words.{form_of};
 
+mod forms;
 mod lines;
+mod loads;
+mod model;
 mod opening;
 mod piece;
+mod sample;
 mod session;
 mod setup;
 mod status;
@@ -26,7 +32,9 @@ mod workers;
 use map_outside::{Counts, FileShelf, ReadSource, WriteSink};
 pub use status::Status;
 use std::process::ExitCode;
+use std::thread::Threads;
 use std::{env, io};
+use tile_workers::NoGate;
 pub use top::run;
 
 // The words after the program's name.
@@ -39,19 +47,21 @@ fn arguments(rt: &HostRuntime) -> io::Result<Vec<String>> {
 }
 
 // A run of these words over the system's files and the standard streams.
-fn run_here(rt: &HostRuntime, words: &[String]) -> Status
-    ensures { (result ≡ Status.Usage) ↔ IsNone (run_pairs words.now) }
+fn run_here<R: Threads + Sync>(rt: &HostRuntime, threads: &R, words: &[String]) -> Status
+    ensures { (result ≡ Status.Usage) ↔ IsNone (form_of words.now) }
 {
     let mut shelf = FileShelf::new(rt);
     let mut source = ReadSource::new(rt.stdin());
     let mut sink = WriteSink::new(rt.stdout());
     let mut tally = Counts::new();
     run(
+        threads,
         rt.alloc(),
         words,
         &mut shelf,
         &mut source,
         &mut sink,
+        &NoGate,
         &mut tally,
     )
 }
@@ -59,7 +69,7 @@ fn run_here(rt: &HostRuntime, words: &[String]) -> Status
 // Words that are not UTF-8 are of no form.
 fn main(rt: HostRuntime) -> ExitCode {
     let status = match arguments(&rt) {
-        Ok(words) => run_here(&rt, &words),
+        Ok(words) => run_here(&rt, &rt, &words),
         Err(error) => match error.kind() {
             io::ErrorKind::OutOfMemory => Status::NoMemory,
             _ => Status::Usage,

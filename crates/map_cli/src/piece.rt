@@ -35,6 +35,16 @@ pub fn ends_with_return(bytes: &[u8]) -> bool
     bytes[bytes.len() - 1] == b'\r'
 }
 
+/// A line without one carriage return at its end.
+pub fn without_return(line: &[u8]) -> &[u8]
+    ensures { result.now ≡ without_return line.now }
+{
+    if ends_with_return(line) {
+        return &line[..line.len() - 1];
+    }
+    line
+}
+
 impl Piece {
     /// An empty piece.
     pub fn new(alloc: Global) -> Self

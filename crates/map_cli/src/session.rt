@@ -1,6 +1,7 @@
 //! The session, from a source to a sink.
 ghost use Rattle.std.specs.Prelude.{◌≡◌, ◌≤◌, ◌<◌, ℕ, length, vec_len, IfOk};
 ghost use Rattle.layer_tiles.specs.Tallies.{KeepsParts};
+ghost use Rattle.map_cli.specs.Progress.{IsUndivided};
 ghost use Rattle.map_cli.specs.FaultCounts.{RunCounts};
 ghost use Rattle.map_cli.specs.Played.{Plays};
 ghost use Rattle.map_cli.specs.Stops.{status_of};
@@ -14,6 +15,8 @@ use map_nums::NoMemory;
 use map_outside::{Failed, Sink, Source};
 use map_session::Session;
 use std::alloc::Global;
+use std::thread::Threads;
+use tile_workers::Gate;
 
 /// How many bytes are asked for at once.
 const CHUNK: usize = 65_536;
@@ -25,18 +28,21 @@ fn zeroed(alloc: Global, size: usize) -> Result<Vec<u8>, NoMemory>
 }
 
 // Plays a session through a buffer.
-fn play_chunks<S: Source, K: Sink, M: Tally + Send>(
-    setup: Setup,
+fn play_chunks<S: Source, K: Sink, M: Tally + Send, G: Gate + Sync, R: Threads + Sync>(
+    setup: &Setup<'_, G, R>,
     session: &mut Session,
     source: &mut S,
     sink: &mut K,
     tally: &mut M,
     chunk: &mut [u8],
 ) -> Result<(), Stop>
-    requires { 0 < length chunk.old }
+    requires some { 0 < length chunk.old }
+    requires whole { IsUndivided (M.counts tally.old) }
     ensures counts { (shelf : ℕ) → RunCounts shelf shelf (S.faults source.old) (S.faults source.new) (K.faults sink.old) (K.faults sink.new) (status_of result) }
     ensures parts { KeepsParts (M.counts tally.old) (M.counts tally.new) }
-    ensures plays { Plays setup.limits.session session.old (S.left source.old) (S.left source.new) (K.held sink.old) (K.held sink.new) (status_of result) }
+    ensures plays { Plays setup.now.limits.session session.old (S.left source.old) (S.left source.new)
+        (record { held = K.held sink.old; faults = K.faults sink.old; tally = M.counts tally.old })
+        (record { held = K.held sink.new; faults = K.faults sink.new; tally = M.counts tally.new }) (status_of result) }
 {
     let limit = setup.limits.session;
     let mut piece = Piece::new(setup.alloc);
@@ -62,16 +68,19 @@ fn play_chunks<S: Source, K: Sink, M: Tally + Send>(
 }
 
 /// Answers the lines of a source, up to its end, to a line that ends the session, or to so many bytes.
-pub fn play_session<S: Source, K: Sink, M: Tally + Send>(
-    setup: Setup,
+pub fn play_session<S: Source, K: Sink, M: Tally + Send, G: Gate + Sync, R: Threads + Sync>(
+    setup: &Setup<'_, G, R>,
     session: &mut Session,
     source: &mut S,
     sink: &mut K,
     tally: &mut M,
 ) -> Result<(), Stop>
+    requires whole { IsUndivided (M.counts tally.old) }
     ensures counts { (shelf : ℕ) → RunCounts shelf shelf (S.faults source.old) (S.faults source.new) (K.faults sink.old) (K.faults sink.new) (status_of result) }
     ensures parts { KeepsParts (M.counts tally.old) (M.counts tally.new) }
-    ensures plays { Plays setup.limits.session session.old (S.left source.old) (S.left source.new) (K.held sink.old) (K.held sink.new) (status_of result) }
+    ensures plays { Plays setup.now.limits.session session.old (S.left source.old) (S.left source.new)
+        (record { held = K.held sink.old; faults = K.faults sink.old; tally = M.counts tally.old })
+        (record { held = K.held sink.new; faults = K.faults sink.new; tally = M.counts tally.new }) (status_of result) }
 {
     let mut chunk = zeroed(setup.alloc, CHUNK)?;
     play_chunks(setup, session, source, sink, tally, &mut chunk)

@@ -13,9 +13,22 @@ pub struct Limits {
 }
 
 /// What all parts of a run are handed, and none changes.
-#[derive(Clone, Copy)]
-pub struct Setup {
+pub struct Setup<'a, G, R> {
+    pub rt: &'a R,
+    pub gate: &'a G,
     pub alloc: Global,
     pub workers: Workers,
     pub limits: Limits,
+}
+
+impl<G, R> Drop for Setup<'_, G, R> {
+    fn drop(self) {
+        let Setup {
+            rt: _,
+            gate: _,
+            alloc: _,
+            workers: _,
+            limits: _,
+        } = self;
+    }
 }

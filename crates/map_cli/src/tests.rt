@@ -8,6 +8,8 @@ use map_outside::{
 };
 use std::alloc::{AllocError, Global};
 use std::test::Fail;
+use std::thread::Threads;
+use tile_workers::NoGate;
 
 const WORDS: [&str; 4] = ["run", "1", "-", "A=a"];
 
@@ -22,12 +24,12 @@ const SPACED: &[u8] =
 const SESSION: &[u8] = b"B = LocalSum of A and 3\ngrid B\n";
 
 // The replies to the load, then to the first line too, then to both lines.
-const LOADED: &[u8] = b"ok 1\n";
+const LOADED: &[u8] = b"ok 1 changed 1 evaluated 1 worked 0\n";
 
-const SUMMED: &[u8] = b"ok 1\nok 2\n";
+const SUMMED: &[u8] = b"ok 1 changed 1 evaluated 1 worked 0\nok 2 changed 1 evaluated 1 worked 0\n";
 
 const SHOWN: &[u8] =
-    b"ok 1\nok 2\nncols 3\nnrows 3\nxllcorner 0\nyllcorner 0\ncellsize 1\nNODATA_value -2000000001\n4 5 6\n7 8 9\n10 11 12\n";
+    b"ok 1 changed 1 evaluated 1 worked 0\nok 2 changed 1 evaluated 1 worked 0\nncols 3\nnrows 3\nxllcorner 0\nyllcorner 0\ncellsize 1\nNODATA_value -2000000001\n4 5 6\n7 8 9\n10 11 12\n";
 
 /// The numbers of the calls that fail. No call has the number 0.
 #[derive(Clone, Copy)]
@@ -64,7 +66,8 @@ fn shelf_of(
 }
 
 // A run of these words: its code, and what it wrote.
-fn play_words(
+fn play_words<R: Threads + Sync>(
+    rt: &R,
     alloc: Global,
     words: &[String],
     files: &[(&str, &[u8])],
@@ -75,11 +78,21 @@ fn play_words(
     let mut source = MemorySource::new(session.to_vec(alloc)?, 12, vec![in alloc; fails.source]?);
     let mut sink = MemorySink::new(alloc, vec![in alloc; fails.sink]?);
     let mut tally = Counts::new();
-    let status = run(alloc, words, &mut shelf, &mut source, &mut sink, &mut tally);
+    let status = run(
+        rt,
+        alloc,
+        words,
+        &mut shelf,
+        &mut source,
+        &mut sink,
+        &NoGate,
+        &mut tally,
+    );
     Ok((status.code(), sink.bytes().to_vec(alloc)?))
 }
 
-fn play_with(
+fn play_with<R: Threads + Sync>(
+    rt: &R,
     alloc: Global,
     texts: &[&str],
     files: &[(&str, &[u8])],
@@ -87,33 +100,38 @@ fn play_with(
     fails: Fails,
 ) -> Result<(u8, Vec<u8>), AllocError> {
     let words = owned(alloc, texts)?;
-    play_words(alloc, &words, files, session, fails)
+    play_words(rt, alloc, &words, files, session, fails)
 }
 
 // A run over one file.
-fn play(
+fn play<R: Threads + Sync>(
+    rt: &R,
     alloc: Global,
     texts: &[&str],
     file: &[u8],
     session: &[u8],
     fails: Fails,
 ) -> Result<(u8, Vec<u8>), AllocError> {
-    play_with(alloc, texts, &[("a", file)], session, fails)
+    play_with(rt, alloc, texts, &[("a", file)], session, fails)
 }
 
 // A run with these limits.
-fn play_within(
+fn play_within<R: Threads + Sync>(
+    rt: &R,
     alloc: Global,
+    texts: &[&str],
+    files: &[(&str, &[u8])],
     most: u64,
     limit: u64,
     session: &[u8],
 ) -> Result<(Status, Vec<u8>), AllocError> {
-    let words = owned(alloc, &WORDS)?;
-    let mut shelf = shelf_of(alloc, &[("a", FILE)], NONE)?;
+    let words = owned(alloc, texts)?;
+    let mut shelf = shelf_of(alloc, files, NONE)?;
     let mut source = MemorySource::new(session.to_vec(alloc)?, 5, vec![in alloc]?);
     let mut sink = MemorySink::new(alloc, vec![in alloc]?);
     let mut tally = Counts::new();
     let status = run_within(
+        rt,
         alloc,
         &words,
         Limits {
@@ -123,6 +141,7 @@ fn play_within(
         &mut shelf,
         &mut source,
         &mut sink,
+        &NoGate,
         &mut tally,
     );
     Ok((status, sink.bytes().to_vec(alloc)?))
@@ -130,7 +149,7 @@ fn play_within(
 
 #[test]
 fn shows_a_sum(rt: HostRuntime) -> Result<(), Fail> {
-    let (code, wrote) = play(rt.alloc(), &WORDS, FILE, SESSION, NONE)?;
+    let (code, wrote) = play(&rt, rt.alloc(), &WORDS, FILE, SESSION, NONE)?;
     assert_eq!(rt; code, 0);
     assert_eq!(rt; wrote.as_slice(), SHOWN);
     Ok(())
@@ -143,28 +162,35 @@ fn answers_lines(rt: HostRuntime) -> Result<(), Fail> {
             "S=a",
             SEVEN,
             b"A = LocalSum of B and 1\nB = LocalSum of A and 1\nB = LocalSum of B and 1\nlist\n".as_slice(),
-            b"ok 1\nok 2\nrefused cycle B\nrefused cycle B\nlist 2\nsource S\nA = LocalSum of B and 1\n".as_slice(),
+            b"ok 1 changed 1 evaluated 1 worked 0\nok 2 changed 0 evaluated 0 worked 0\nrefused cycle B\nrefused cycle B\nlist 2\nsource S\nA = LocalSum of B and 1\n".as_slice(),
         ),
         (
             "A=a",
             FILE,
             b"C = LocalSum of A and Q\nvalue C 1 1\nA = LocalSum of A and 1\ndrop Q\n".as_slice(),
-            b"ok 1\nok 2\nundefined C: Q\nrefused exists A\nrefused unknown Q\n".as_slice(),
+            b"ok 1 changed 1 evaluated 1 worked 0\nok 2 changed 0 evaluated 0 worked 0\nundefined C: Q\nrefused exists A\nrefused unknown Q\n".as_slice(),
         ),
         (
             "A=a",
             SEVEN,
             b"B = LocalSum of C and 1\ngrid B\nnew C 1\nvalue B 1 1\ndrop C\nvalue B 1 1\nvalue C 1 1\nnew C 1\nvalue B 2 1\n".as_slice(),
-            b"ok 1\nok 2\nundefined B: C\nok 3\nvalue B 1 1 2\nok 4\nundefined B: C\nundefined C: C\nok 5\nvalue B 2 1 outside\n".as_slice(),
+            b"ok 1 changed 1 evaluated 1 worked 0\nok 2 changed 0 evaluated 0 worked 0\nundefined B: C\nok 3 changed 2 evaluated 2 worked 0\nvalue B 1 1 2\nok 4 changed 0 evaluated 0 worked 0\nundefined B: C\nundefined C: C\nok 5 changed 2 evaluated 2 worked 0\nvalue B 2 1 outside\n".as_slice(),
         ),
         (
             "A=a",
             SPACED,
             b"grid A\n".as_slice(),
-            b"ok 1\nncols 2\nnrows 2\nxllcorner 100.5\nyllcorner -20.000000000000\ncellsize 60.000000000000\nNODATA_value -2000000001\n1 2\n-2000000001 4\n".as_slice(),
+            b"ok 1 changed 1 evaluated 1 worked 0\nncols 2\nnrows 2\nxllcorner 100.5\nyllcorner -20.000000000000\ncellsize 60.000000000000\nNODATA_value -2000000001\n1 2\n-2000000001 4\n".as_slice(),
         ),
     ] {
-        let (code, wrote) = play(rt.alloc(), &["run", "1", "-", pair], file, session, NONE)?;
+        let (code, wrote) = play(
+            &rt,
+            rt.alloc(),
+            &["run", "1", "-", pair],
+            file,
+            session,
+            NONE,
+        )?;
         assert_eq!(rt; code, 0);
         assert_eq!(rt; wrote.as_slice(), replies);
     }
@@ -195,7 +221,7 @@ fn refuses_a_load(rt: HostRuntime) -> Result<(), Fail> {
             b"refused load A range 1\n".as_slice(),
         ),
     ] {
-        let (code, wrote) = play(rt.alloc(), &WORDS, file, SESSION, NONE)?;
+        let (code, wrote) = play(&rt, rt.alloc(), &WORDS, file, SESSION, NONE)?;
         assert_eq!(rt; code, 3);
         assert_eq!(rt; wrote.as_slice(), reply);
     }
@@ -206,6 +232,7 @@ fn refuses_a_load(rt: HostRuntime) -> Result<(), Fail> {
 fn refuses_a_second_load(rt: HostRuntime) -> Result<(), Fail> {
     let words = ["run", "64", "-", "A=a", "B=b"];
     let (code, wrote) = play_with(
+        &rt,
         rt.alloc(),
         &words,
         &[("a", FILE), ("b", SEVEN)],
@@ -215,9 +242,10 @@ fn refuses_a_second_load(rt: HostRuntime) -> Result<(), Fail> {
     assert_eq!(rt; code, 3);
     assert_eq!(rt;
         wrote.as_slice(),
-        b"ok 1\nrefused load B size 3 3\n".as_slice()
+        b"ok 1 changed 1 evaluated 1 worked 0\nrefused load B size 3 3\n".as_slice()
     );
     let (code, wrote) = play_with(
+        &rt,
         rt.alloc(),
         &words,
         &[("a", FILE), ("b", FILE)],
@@ -227,7 +255,7 @@ fn refuses_a_second_load(rt: HostRuntime) -> Result<(), Fail> {
     assert_eq!(rt; code, 0);
     assert_eq!(rt;
         wrote.as_slice(),
-        b"ok 1\nok 2\nlist 2\nsource A\nsource B\n".as_slice()
+        b"ok 1 changed 1 evaluated 1 worked 0\nok 2 changed 1 evaluated 1 worked 0\nlist 2\nsource A\nsource B\n".as_slice()
     );
     Ok(())
 }
@@ -235,11 +263,19 @@ fn refuses_a_second_load(rt: HostRuntime) -> Result<(), Fail> {
 #[test]
 fn refuses_words(rt: HostRuntime) -> Result<(), Fail> {
     for pair in ["A", "=a", "A=", "grid=a", "A.b=a"] {
-        let (code, wrote) = play(rt.alloc(), &["run", "1", "-", pair], FILE, SESSION, NONE)?;
+        let (code, wrote) = play(
+            &rt,
+            rt.alloc(),
+            &["run", "1", "-", pair],
+            FILE,
+            SESSION,
+            NONE,
+        )?;
         assert_eq!(rt; (code, wrote.len()), (2, 0), "{pair}");
     }
     for workers in ["0", "65", "01", "+1", "", "1 "] {
         let (code, wrote) = play(
+            &rt,
             rt.alloc(),
             &["run", workers, "-", "A=a"],
             FILE,
@@ -248,14 +284,25 @@ fn refuses_words(rt: HostRuntime) -> Result<(), Fail> {
         )?;
         assert_eq!(rt; (code, wrote.len()), (2, 0), "{workers}");
     }
-    let (code, wrote) = play(rt.alloc(), &[], FILE, SESSION, NONE)?;
+    let (code, wrote) = play(&rt, rt.alloc(), &[], FILE, SESSION, NONE)?;
     assert_eq!(rt; (code, wrote.len()), (2, 0));
-    let (code, wrote) = play(rt.alloc(), &["run", "1", "-"], FILE, SESSION, NONE)?;
+    let (code, wrote) = play(&rt, rt.alloc(), &["run", "1", "-"], FILE, SESSION, NONE)?;
     assert_eq!(rt; (code, wrote.len()), (2, 0));
-    let (code, wrote) = play(rt.alloc(), &["run", "1", "A=a"], FILE, SESSION, NONE)?;
+    let (code, wrote) = play(&rt, rt.alloc(), &["run", "1", "A=a"], FILE, SESSION, NONE)?;
     assert_eq!(rt; (code, wrote.len()), (2, 0));
+    for words in [
+        ["sample", "1", "0"].as_slice(),
+        ["sample", "1", "1225"].as_slice(),
+        ["sample", "1", "01"].as_slice(),
+        ["sample", "1", "1", "1"].as_slice(),
+        ["sample", "0", "1"].as_slice(),
+        ["run", "1", "", "A=a"].as_slice(),
+    ] {
+        let (code, wrote) = play(&rt, rt.alloc(), words, FILE, SESSION, NONE)?;
+        assert_eq!(rt; (code, wrote.len()), (2, 0));
+    }
     let twice = ["run", "1", "-", "A=a", "B=b", "A=b"];
-    let (code, wrote) = play(rt.alloc(), &twice, FILE, SESSION, NONE)?;
+    let (code, wrote) = play(&rt, rt.alloc(), &twice, FILE, SESSION, NONE)?;
     assert_eq!(rt; (code, wrote.len()), (2, 0));
     Ok(())
 }
@@ -268,7 +315,7 @@ fn loads_up_to_thirty_two_pairs(rt: HostRuntime) -> Result<(), Fail> {
         for pair in 0..pairs {
             words.push(format!(in alloc; "L{pair}=a")?)?;
         }
-        let came = play_words(alloc, &words, &[("a", SEVEN)], b"", NONE)?;
+        let came = play_words(&rt, alloc, &words, &[("a", SEVEN)], b"", NONE)?;
         assert_eq!(rt; came.0, code, "{pairs}");
         assert_eq!(rt;
             came.1.iter().filter(|byte| **byte == b'\n').count(),
@@ -293,7 +340,7 @@ fn stops_at_a_fault_of_the_source(rt: HostRuntime) -> Result<(), Fail> {
             source: call,
             sink: 0,
         };
-        let came = play(rt.alloc(), &WORDS, FILE, SESSION, fails)?;
+        let came = play(&rt, rt.alloc(), &WORDS, FILE, SESSION, fails)?;
         assert_eq!(rt; came.0, code, "{call}");
         assert_eq!(rt; came.1.as_slice(), wrote, "{call}");
     }
@@ -313,7 +360,7 @@ fn stops_at_a_fault_of_the_sink(rt: HostRuntime) -> Result<(), Fail> {
             source: 0,
             sink: call,
         };
-        let came = play(rt.alloc(), &WORDS, FILE, SESSION, fails)?;
+        let came = play(&rt, rt.alloc(), &WORDS, FILE, SESSION, fails)?;
         assert_eq!(rt; came.0, code, "{call}");
         assert_eq!(rt; came.1.as_slice(), wrote, "{call}");
     }
@@ -327,9 +374,16 @@ fn stops_at_a_fault_of_the_shelf(rt: HostRuntime) -> Result<(), Fail> {
         source: 0,
         sink: 0,
     };
-    let (code, wrote) = play(rt.alloc(), &WORDS, FILE, SESSION, fails)?;
+    let (code, wrote) = play(&rt, rt.alloc(), &WORDS, FILE, SESSION, fails)?;
     assert_eq!(rt; (code, wrote.len()), (4, 0));
-    let (code, wrote) = play(rt.alloc(), &["run", "1", "-", "A=b"], FILE, SESSION, NONE)?;
+    let (code, wrote) = play(
+        &rt,
+        rt.alloc(),
+        &["run", "1", "-", "A=b"],
+        FILE,
+        SESSION,
+        NONE,
+    )?;
     assert_eq!(rt; (code, wrote.len()), (4, 0));
     Ok(())
 }
@@ -342,19 +396,27 @@ fn keeps_to_the_limits(rt: HostRuntime) -> Result<(), Fail> {
             69,
             14,
             Status::Done,
-            b"ok 1\nundefined B: B\nundefined C: C\n".as_slice(),
+            b"ok 1 changed 1 evaluated 1 worked 0\nundefined B: B\nundefined C: C\n".as_slice(),
         ),
         (
             69,
             13,
             Status::TooLong,
-            b"ok 1\nundefined B: B\n".as_slice(),
+            b"ok 1 changed 1 evaluated 1 worked 0\nundefined B: B\n".as_slice(),
         ),
         (69, 6, Status::TooLong, LOADED),
         (69, 0, Status::TooLong, LOADED),
         (68, 14, Status::Load, b"refused load A long 68\n".as_slice()),
     ] {
-        let came = play_within(rt.alloc(), most, limit, session)?;
+        let came = play_within(
+            &rt,
+            rt.alloc(),
+            &WORDS,
+            &[("a", FILE)],
+            most,
+            limit,
+            session,
+        )?;
         assert_eq!(rt; came.0, status, "{most} {limit}");
         assert_eq!(rt; came.1.as_slice(), wrote, "{most} {limit}");
     }
@@ -366,11 +428,11 @@ fn refuses_a_long_line(rt: HostRuntime) -> Result<(), Fail> {
     let alloc = rt.alloc();
     let mut session = vec![in alloc; b' '; 4097]?;
     session.extend_from_slice(b"\ngrid B")?;
-    let came = play_within(alloc, 69, 5000, &session)?;
+    let came = play_within(&rt, alloc, &WORDS, &[("a", FILE)], 69, 5000, &session)?;
     assert_eq!(rt; came.0, Status::Done);
     assert_eq!(rt;
         came.1.as_slice(),
-        b"ok 1\nrefused long 4097\nundefined B: B\n".as_slice()
+        b"ok 1 changed 1 evaluated 1 worked 0\nrefused long 4097\nundefined B: B\n".as_slice()
     );
     Ok(())
 }
@@ -386,26 +448,129 @@ fn runs_over_the_adapters(rt: HostRuntime) -> Result<(), Fail> {
     {
         let mut sink = WriteSink::new(&mut wrote);
         let status = run(
+            &rt,
             alloc,
             &words,
             &mut shelf,
             &mut source,
             &mut sink,
+            &NoGate,
             &mut tally,
         );
         assert_eq!(rt; status, Status::Done);
         let mut files = FileShelf::new(&rt);
         let missing = owned(alloc, &["run", "1", "-", "A=no/such/file"])?;
         let status = run(
+            &rt,
             alloc,
             &missing,
             &mut files,
             &mut source,
             &mut sink,
+            &NoGate,
             &mut tally,
         );
         assert_eq!(rt; status, Status::ShelfFault);
     }
     assert_eq!(rt; wrote.as_slice(), SHOWN);
+    Ok(())
+}
+
+#[test]
+fn plays_a_model_file(rt: HostRuntime) -> Result<(), Fail> {
+    for (model, code, replies) in [
+        (
+            b"B = LocalSum of A and 3\n".as_slice(),
+            0,
+            b"ok 1 changed 1 evaluated 1 worked 0\nok 2 changed 1 evaluated 1 worked 0\nvalue B 1 1 4\n".as_slice(),
+        ),
+        (
+            b"B = LocalSum of A and".as_slice(),
+            3,
+            b"ok 1 changed 1 evaluated 1 worked 0\nrefused syntax 22\n".as_slice(),
+        ),
+        (
+            b"drop Q\nB = LocalSum of A and 3\n".as_slice(),
+            3,
+            b"ok 1 changed 1 evaluated 1 worked 0\nrefused unknown Q\n".as_slice(),
+        ),
+        (
+            b"\r\nquit\r\nB = LocalSum of A and 3\n".as_slice(),
+            0,
+            b"ok 1 changed 1 evaluated 1 worked 0\nundefined B: B\n".as_slice(),
+        ),
+    ] {
+        let came = play_with(
+            &rt,
+            rt.alloc(),
+            &["run", "1", "m", "A=a"],
+            &[("a", FILE), ("m", model)],
+            b"value B 1 1\n",
+            NONE,
+        )?;
+        assert_eq!(rt; came.0, code);
+        assert_eq!(rt; came.1.as_slice(), replies);
+    }
+    Ok(())
+}
+
+#[test]
+fn fetches_a_model_file_after_the_loads(rt: HostRuntime) -> Result<(), Fail> {
+    let words = ["run", "1", "m", "A=a"];
+    let (code, wrote) = play(&rt, rt.alloc(), &words, FILE, SESSION, NONE)?;
+    assert_eq!(rt; (code, wrote.as_slice()), (4, LOADED));
+    let model = vec![in rt.alloc(); b' '; 70]?;
+    let files: [(&str, &[u8]); 2] = [("a", FILE), ("m", &model)];
+    let came = play_within(&rt, rt.alloc(), &words, &files, 69, 5000, SESSION)?;
+    assert_eq!(rt; came.0, Status::Load);
+    assert_eq!(rt;
+        came.1.as_slice(),
+        b"ok 1 changed 1 evaluated 1 worked 0\nrefused model long 69\n".as_slice()
+    );
+    Ok(())
+}
+
+// What a sample of one row and one column writes, up to so many of its edits.
+fn smallest_sample(alloc: Global, edits: u32) -> Result<Vec<u8>, AllocError> {
+    let mut text = Vec::new(alloc);
+    for number in 1..61 {
+        if number > edits {
+            return Ok(text);
+        }
+        let counts = match number {
+            1..=6 | 10 => "changed 1 evaluated 1 worked 0",
+            7..=9 => "changed 1 evaluated 1 worked 2",
+            _ if number % 2 == 1 => "changed 1 evaluated 2 worked 1",
+            _ => "changed 2 evaluated 4 worked 1",
+        };
+        text.extend_from_slice(format!(in alloc; "ok {number} {counts}\n")?.as_bytes())?;
+    }
+    Ok(text)
+}
+
+#[test]
+fn runs_over_a_sample(rt: HostRuntime) -> Result<(), Fail> {
+    let alloc = rt.alloc();
+    let words = ["sample", "1", "1"];
+    let mut all = smallest_sample(alloc, 60)?;
+    all.extend_from_slice(b"legend M 1\n0 1 0\n")?;
+    let fails = Fails {
+        shelf: 1,
+        source: 1,
+        sink: 0,
+    };
+    let (code, wrote) = play_with(&rt, alloc, &words, &[], b"list\n", fails)?;
+    assert_eq!(rt; code, 0);
+    assert_eq!(rt; wrote.as_slice(), all.as_slice());
+    for edits in [0, 3, 10] {
+        let fails = Fails {
+            shelf: 0,
+            source: 0,
+            sink: edits as u64 + 1,
+        };
+        let (code, wrote) = play_with(&rt, alloc, &words, &[], b"", fails)?;
+        assert_eq!(rt; code, 6);
+        assert_eq!(rt; wrote.as_slice(), smallest_sample(alloc, edits)?.as_slice());
+    }
     Ok(())
 }

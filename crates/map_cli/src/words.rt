@@ -1,30 +1,15 @@
 //! The words of a run.
-ghost use Rattle.std.specs.Prelude.{◌≡◌, ◌<◌, ◌≤◌, MatchOption, Some, None, IsTrue, ◌&&◌, length, codes, bytes_eq};
+ghost use Rattle.std.specs.Prelude.{◌≡◌, ◌<◌, ◌≤◌, MatchOption, Some, None, IsTrue, length, option_map, bytes_eq};
 ghost use Rattle.std.specs.List.{list_any, All};
 ghost use Rattle.map_words.specs.Names.{is_plain};
-ghost use Rattle.map_machine.specs.Words.{cut, pair_of, all_pairs, pairs_of, run_pairs};
-ghost use Rattle.map_cli.specs.Pairs.{pair_read, pairs_read};
+ghost use Rattle.map_machine.specs.Pairs.{cut, pair_of, all_pairs, pairs_of};
+ghost use Rattle.map_machine.specs.Words.{model_of, files_form, sample_form, form_of};
+ghost use Rattle.map_cli.specs.Forms.{pair_read, pairs_read, model_read, form_read, form_by_verb};
 
-use crate::workers::{Workers, workers_in};
+use crate::forms::{FileWords, Form, MOST_PAIRS, Pair, Words};
+use crate::workers::{side_in, workers_in};
 use arrayvec::ArrayVec;
 use map_words::is_plain;
-
-/// The most pairs.
-pub const MOST_PAIRS: usize = 32;
-
-/// The name of a layer, and the file that is loaded under it.
-#[derive(Clone, Copy, Default)]
-pub struct Pair<'a> {
-    pub name: &'a str,
-    pub file: &'a str,
-}
-
-/// What the words of a run say: how many workers it has, and what it loads, in order.
-#[derive(Drop)]
-pub struct Words<'a> {
-    pub workers: Workers,
-    pub pairs: ArrayVec<Pair<'a>, MOST_PAIRS>,
-}
 
 // Cuts at the first sign =.
 fn cut_word(word: &str) -> Option<Pair<'_>>
@@ -85,34 +70,70 @@ fn pairs_in(words: &[String]) -> Option<ArrayVec<Pair<'_>, MOST_PAIRS>>
     Some(pairs)
 }
 
-// Whether the first word and the third, which names no model file, are those of a run.
-fn is_run(run: &str, model: &str) -> bool
-    ensures { result ≡ (bytes_eq run.now (codes "run") && bytes_eq model.now (codes "-")) }
+// The model file that a word names: - names none.
+fn model_in(word: &str) -> Option<&str>
+    ensures { model_read result ≡ model_of word.now }
 {
-    if run == "run" {
-        return model == "-";
+    if word == "-" {
+        return None;
     }
-    false
+    Some(word)
 }
 
-/// What the words say where they are of the form `run WORKERS - NAME=FILE {NAME=FILE}`.
+// What a run over files is of: its model file, and its pairs.
+fn files_in<'a>(model: &'a str, words: &'a [String]) -> Option<Form<'a>>
+    ensures { option_map form_read result ≡ files_form model.now (pairs_of (all_pairs words.now)) }
+{
+    if model.is_empty() {
+        return None;
+    }
+    match pairs_in(words) {
+        None => None,
+        Some(pairs) => Some(Form::Files(FileWords {
+            model: model_in(model),
+            pairs,
+        })),
+    }
+}
+
+// What a sample is of: its size, and no more words.
+fn sample_in<'a>(size: &str, words: &[String]) -> Option<Form<'a>>
+    ensures { option_map form_read result ≡ sample_form size.now words.now }
+{
+    if !words.is_empty() {
+        return None;
+    }
+    match side_in(size) {
+        None => None,
+        Some(side) => Some(Form::Sample(side)),
+    }
+}
+
+// The form of a run, by its first word and by the third and those after it.
+fn form_in<'a>(verb: &str, third: &'a str, words: &'a [String]) -> Option<Form<'a>>
+    ensures { option_map form_read result ≡ form_by_verb verb.now third.now words.now }
+{
+    if verb == "run" {
+        return files_in(third, words);
+    }
+    if verb == "sample" {
+        return sample_in(third, words);
+    }
+    None
+}
+
+/// What the words say where they are of the form `run WORKERS MODEL NAME=FILE {NAME=FILE}` or `sample WORKERS N`.
 pub fn words_in(words: &[String]) -> Option<Words<'_>>
-    ensures { MatchOption result (run_pairs words.now ≡ None)
-        (λ w. (run_pairs words.now ≡ Some (pairs_read w.pairs.items)) × (0 < length w.pairs.items) × All (λ p. IsTrue (is_plain p.name.now)) w.pairs.items) }
+    ensures { option_map (λ w. form_read w.form) result ≡ form_of words.now }
 {
     match words {
-        [run, workers, model, pairs @ ..] => {
-            if !is_run(run.as_str(), model.as_str()) {
-                return None;
-            }
-            match workers_in(workers.as_str()) {
+        [verb, workers, third, rest @ ..] => match workers_in(workers.as_str()) {
+            None => None,
+            Some(workers) => match form_in(verb.as_str(), third.as_str(), rest) {
                 None => None,
-                Some(workers) => match pairs_in(pairs) {
-                    None => None,
-                    Some(pairs) => Some(Words { workers, pairs }),
-                },
-            }
-        }
+                Some(form) => Some(Words { workers, form }),
+            },
+        },
         _ => None,
     }
 }

@@ -49,7 +49,7 @@ named_filter p n (x ∷ xs) e = go (p x) (named_filter p n xs parts.1)
     go true rest = or_from (bytes_eq x.name n) (is_named_in n (filter p xs)) parts.0 rest
     go false rest = rest
 
-once_filter : (p : Node → Bool) (xs : List Node) → IsOnce xs → IsOnce (filter p xs)
+pub once_filter : (p : Node → Bool) (xs : List Node) → IsOnce xs → IsOnce (filter p xs)
 once_filter p [] once = tt
 once_filter p (x ∷ xs) once = go (p x) (once_filter p xs once.1)
   where

@@ -14,13 +14,13 @@ and_none true = refl
 and_none false = refl
 
 module _ (f : Name → List ℕ) (p : Name → Bool) (n : Name) where
-  abbrev kept : List LayerDef → List Stamps
+  abbrev pub kept : List LayerDef → List Stamps
   kept ls = map (λ (l : LayerDef). record { name = l.name; stamps = f l.name }) (filter (λ (l : LayerDef). p l.name) ls)
 
-  abbrev told : Bool → Option (List ℕ)
+  abbrev pub told : Bool → Option (List ℕ)
   told b = if b then Some (f n) else None
 
-  kept_found : (ls : List LayerDef) → stamps_of (kept ls) n ≡ told (is_some (find_making ls n) && p n)
+  pub kept_found : (ls : List LayerDef) → stamps_of (kept ls) n ≡ told (is_some (find_making ls n) && p n)
   kept_found [] = refl
   kept_found (l ∷ ls) = go (p l.name) refl (bytes_eq l.name n) refl (kept_found ls)
     where
@@ -34,7 +34,7 @@ module _ (f : Name → List ℕ) (p : Name → Bool) (n : Name) where
           rest ∙ ap told (ap (λ b. is_some (find_making ls n) && b) no ∙ and_none (is_some (find_making ls n)) ∙ sym no)
       go false h false differs rest = rest
 
-value_there : (s : EngineState) (n : Name) → (is_some (find_making (layers s.entries) n) && is_some (value_of s n)) ≡ is_some (value_of s n)
+pub value_there : (s : EngineState) (n : Name) → (is_some (find_making (layers s.entries) n) && is_some (value_of s n)) ≡ is_some (value_of s n)
 unfolding value_of
 value_there s n = go (find_making (layers s.entries) n) refl
   where

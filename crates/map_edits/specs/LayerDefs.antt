@@ -2,7 +2,7 @@
 use Rattle.std.specs.Prelude.{ℕ, List, [], ◌∷◌, map, find, flat_map, Option, Some, None, option_map, bytes_eq}
 use Rattle.map_nums.specs.Grids.{Grid}
 use Rattle.map_defs.specs.Ops.{Name, Op, needs_of}
-use Rattle.map_defs.specs.Statements.{Flat, Written}
+use Rattle.map_defs.specs.Statements.{Flat}
 use Rattle.map_defs.specs.Nodes.{Node}
 use Rattle.map_edits.specs.Entries.{Def, source, statement, Entry}
 

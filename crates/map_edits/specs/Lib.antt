@@ -11,7 +11,6 @@ pub mod Edits
 pub mod LineEdits
 pub mod Laws
 pub mod Sound
-pub mod Sessions
 pub mod Marks
 pub mod WholeStates
 pub mod WholeEdits
@@ -23,9 +22,9 @@ pub mod EditCounts
 pub mod StampsAfter
 pub mod Counted
 pub mod Allowances
-pub mod CountedSessions
 pub mod SessionWords
-pub mod CountedRows
+pub mod Sessions
+pub mod SessionRows
 pub mod CountLaws
 pub mod HalfLaws
 pub mod GroupLaws

@@ -1,9 +1,24 @@
--- Statements and a procedure of worked sessions.
-use Rattle.std.specs.Prelude.{ℕ, pos, [], ◌∷◌, codes}
+-- The words of worked sessions: a map of one cell, statements, a procedure and edits.
+use Rattle.std.specs.Prelude.{ℕ, pos, [], ◌∷◌, Some, codes}
+use Rattle.map_nums.specs.Grids.{Size, Grid}
 use Rattle.map_nums.specs.declared.Stat.{Stat}
 use Rattle.map_nums.specs.declared.Stat.TheVariants as stats
 use Rattle.map_defs.specs.Ops.{Name, layer_term, number_term, local_op}
 use Rattle.map_defs.specs.Statements.{Written, plain, call, Procedure}
+use Rattle.map_edits.specs.EditForms.{Rectangle, load, paint, define}
+use Rattle.map_edits.specs.WholeEdits.{WholeEdit, of_names}
+
+abbrev pub cell : Size
+cell = record { rows = 1; columns = 1 }
+
+abbrev pub one_cell : ℕ → Grid
+one_cell n = record { size = cell; cells = Some (pos n) ∷ [] }
+
+abbrev pub corner : Rectangle
+corner = record { top = 1; left = 1; bottom = 1; right = 1 }
+
+abbrev pub beyond_corner : Rectangle
+beyond_corner = record { top = 1; left = 1; bottom = 2; right = 1 }
 
 -- a statistic of a layer and a number
 abbrev pub with_number : Stat → Name → ℕ → Written
@@ -21,3 +36,12 @@ twice = record {
 -- its call
 abbrev pub twice_of : Name → ℕ → Written
 twice_of n k = call (codes "Twice") (layer_term n ∷ number_term (pos k) ∷ [])
+
+abbrev pub put : Name → ℕ → WholeEdit
+put n k = of_names (load n (one_cell k))
+
+abbrev pub repaint : Name → ℕ → WholeEdit
+repaint n k = of_names (paint n corner (Some (pos k)))
+
+abbrev pub write : Name → Written → WholeEdit
+write n w = of_names (define n w)

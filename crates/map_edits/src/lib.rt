@@ -8,20 +8,14 @@
 
 mod laws;
 
-ghost use Rattle.map_edits.specs.CountedRows.{CountedRows};
-ghost use Rattle.map_edits.specs.Sessions.{Sessions};
+ghost use Rattle.map_edits.specs.SessionRows.{SessionRows};
 
 pub use laws::{
     allowance_law, depth_law, lawful_law, limit_law, listing_law, names_law, stamp_law,
     unchanged_law, value_law,
 };
 
-/// Worked sessions are what the definitions make of them.
+/// Worked sessions answer, count, stamp and read as the definitions say.
 pub fn worked_sessions()
-    ensures { Sessions }
-{}
-
-/// Worked sessions count, stamp and read as the definitions say.
-pub fn worked_counts()
-    ensures { CountedRows }
+    ensures { SessionRows }
 {}

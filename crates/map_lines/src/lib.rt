@@ -1,22 +1,23 @@
 //! Which lines of the map language are there: the rows of its operations and commands, and the reading of lines by them.
 //!
-//! [`parse_line`] gives the [`Line`] that a line of bytes is, or the first fault. A further row is a line here and in
-//! `specs/Present`, and its case in `specs/Formed`; what reads the row's lines is proved in `statement_parser` already.
+//! [`parse_line`] gives the [`Line`] that a line of bytes is, or the first fault. All rows are there that `statement_parser`
+//! knows; a further one is a row there and a line here.
 #![tactic(auto)]
 
 ghost use Rattle.std.specs.Prelude.{◌≡◌, IfOk};
 ghost use Rattle.statement_parser.specs.LineOf.{line_of, IsLineRead};
 ghost use Rattle.statement_parser.specs.Parsed.{IsParsed};
+ghost use Rattle.statement_parser.specs.Formed.{IsFormed};
 ghost use Rattle.statement_parser.specs.Views.{line_view, manner_of};
 ghost use Rattle.map_lines.specs.Present.{present};
-ghost use Rattle.map_lines.specs.Formed.{IsFormed};
 
 use map_nums::Stat;
 use statement_parser::{Command, Form, Line, LineRefusal, Operation, Rows};
 use std::alloc::Global;
 
-/// The operations that are there beside `LocalSum`.
-const OPERATIONS: [Operation; 36] = [
+/// The operations.
+const OPERATIONS: [Operation; 37] = [
+    Operation::Local(Stat::Sum),
     Operation::Local(Stat::Product),
     Operation::Local(Stat::Maximum),
     Operation::Local(Stat::Minimum),
@@ -55,13 +56,20 @@ const OPERATIONS: [Operation; 36] = [
     Operation::Drainage,
 ];
 
-/// The commands that are there.
-const COMMANDS: [Command; 7] = [
+/// The commands.
+const COMMANDS: [Command; 14] = [
+    Command::Procedure,
     Command::Paint,
     Command::New,
     Command::Drop,
+    Command::Label,
+    Command::Symbol,
     Command::Value,
     Command::Grid,
+    Command::Show,
+    Command::Legend,
+    Command::Table,
+    Command::Stamps,
     Command::List,
     Command::Quit,
 ];
@@ -77,7 +85,7 @@ pub fn parse_line(alloc: Global, line: &[u8]) -> Result<Line, LineRefusal>
         operations: &OPERATIONS,
         commands: &COMMANDS,
         sight: true,
-        calls: false,
+        calls: true,
     };
     statement_parser::parse_line(alloc, &rows, line)
 }

@@ -5,3 +5,5 @@ pub mod OpeningLemmas
 pub mod WordsLemmas
 pub mod PairsLemmas
 pub mod WorkersLemmas
+pub mod ReadsLemmas
+pub mod SampleLemmas

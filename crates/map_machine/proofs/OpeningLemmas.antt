@@ -4,7 +4,7 @@ use Rattle.std.proofs.lemmas.Bool.{lt-ltb, le-ltb}
 use Rattle.map_defs.specs.Ops.{Name}
 use Rattle.map_machine.specs.States.{MapState}
 use Rattle.map_machine.specs.Loads.{Opened, long_file_reply}
-use Rattle.map_machine.specs.Play.{opened_text, file_text}
+use Rattle.map_machine.specs.LoadTexts.{opened_text, file_text}
 use Rattle.map_machine.specs.Openings.{Opening, turned_back, opened_opening, file_opening}
 
 pub file_text-long : (most : ℕ) (opens : Name → List ℕ → Opened) (name : Name) (bytes : List ℕ) (next : MapState → List ℕ) → most < length bytes

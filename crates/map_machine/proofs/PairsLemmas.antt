@@ -7,7 +7,7 @@ use Rattle.std.proofs.lemmas.Bool.{false_from_ne_true, lt-ltb, le-leb, lt-leb}
 use Rattle.std.proofs.lemmas.List.{length-append}
 use Rattle.std.proofs.lemmas.List.Folds.{list_any-append}
 use Rattle.std.proofs.lemmas.Slice.Eq.{bytes_eq-Decides}
-use Rattle.map_machine.specs.Words.{Pair, pair_of, with_pair, all_pairs, are_apart, pairs_of}
+use Rattle.map_machine.specs.Pairs.{Pair, pair_of, with_pair, all_pairs, are_apart, pairs_of}
 
 -- one of the pairs has this name
 abbrev pub is_named : List Pair → List ℕ → Bool

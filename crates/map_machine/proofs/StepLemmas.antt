@@ -4,20 +4,20 @@ use Rattle.map_lines.specs.Present.{present}
 use Rattle.statement_parser.specs.Lines.{Line, blank, edit, ask, quit}
 use Rattle.statement_parser.specs.Texts.{Refusal as LineRefusal}
 use Rattle.statement_parser.specs.LineOf.{line_of}
-use Rattle.map_edits.specs.EngineStates.{EngineState}
-use Rattle.map_edits.specs.Edits.{Refusal, accept}
+use Rattle.map_edits.specs.Refusals.{Refusal}
+use Rattle.map_edits.specs.Counted.{Accepted, accept_counted}
+use Rattle.map_edits.specs.LineEdits.{line_edit}
 use Rattle.map_machine.specs.declared.Kind.TheVariants.{Quit}
 use Rattle.map_machine.specs.States.{MapState}
-use Rattle.map_edits.specs.LineEdits.{line_edit}
 use Rattle.map_machine.specs.Steps.{edited, step_by, step_of, ends, is_quit}
 
-edited_goes_on : (s : MapState) (r : Result EngineState Refusal) → (edited s r).kind ≡ Quit → ⊥
-edited_goes_on s (Ok t) e = cc
+edited_goes_on : (s : MapState) (r : Result Accepted Refusal) → (edited s r).kind ≡ Quit → ⊥
+edited_goes_on s (Ok a) e = cc
 edited_goes_on s (Err r) e = cc
 
 ends_kind : (s : MapState) (r : Result Line LineRefusal) → ((step_by s r).kind ≡ Quit) ↔ (ends r ≡ true)
 ends_kind s (Ok blank) = (λ e. absurd (cc), λ e. absurd (cc))
-ends_kind s (Ok (edit e)) = (λ k. absurd (edited_goes_on s (accept s.engine (line_edit e)) k), λ q. absurd (cc))
+ends_kind s (Ok (edit e)) = (λ k. absurd (edited_goes_on s (accept_counted s.whole (line_edit e)) k), λ q. absurd (cc))
 ends_kind s (Ok (ask r)) = (λ e. absurd (cc), λ e. absurd (cc))
 ends_kind s (Ok quit) = (λ e. refl, λ e. refl)
 ends_kind s (Err r) = (λ e. absurd (cc), λ e. absurd (cc))

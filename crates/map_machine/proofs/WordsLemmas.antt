@@ -1,7 +1,7 @@
 -- Where the word of a pair is cut.
 use Rattle.std.proofs.Common.{◌≡◌, ◌≢◌, ◌<◌, ℕ, suc, List, [], ◌∷◌, ◌++◌, length, get_or, refl, Some, None, arith}
 use Rattle.std.proofs.lemmas.Bool.{ne_eqb}
-use Rattle.map_machine.specs.Words.{cut}
+use Rattle.map_machine.specs.Pairs.{cut}
 
 -- the bytes have no sign =
 abbrev pub HasNoSign : List ℕ → Type 0

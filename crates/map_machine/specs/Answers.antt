@@ -1,17 +1,18 @@
 -- What a request is answered.
-use Rattle.std.specs.Prelude.{ℕ, ◌+◌, ◌-◌, ◌*◌, nat_le, Bool, ◌&&◌, List, [], ◌++◌, length, flat_map, Option, Some, None, unwrap_or, codes, if◌then◌else◌}
+use Rattle.std.specs.Prelude.{ℕ, ◌+◌, ◌-◌, ◌*◌, nat_le, Bool, ◌&&◌, List, [], Option, Some, None, unwrap_or, codes, if◌then◌else◌}
 use Rattle.map_nums.specs.Grids.{Size, Grid, cell_at}
 use Rattle.map_defs.specs.Ops.{Name}
 use Rattle.map_defs.specs.Nodes.{missing}
-use Rattle.statement_parser.specs.Lines.{Request, ask_value, ask_grid, ask_list}
-use Rattle.statement_parser.specs.Canonical.{cell_text, written_text}
+use Rattle.statement_parser.specs.Lines.{Request, ask_value, ask_grid, ask_show, ask_legend, ask_table, ask_stamps, ask_list}
+use Rattle.statement_parser.specs.Canonical.{cell_text}
 use Rattle.grid_text.specs.Printed.{grid_text}
-use Rattle.map_edits.specs.Entries.{Def, source, statement, Entry}
 use Rattle.map_edits.specs.LayerDefs.{nodes_of}
 use Rattle.map_edits.specs.EngineStates.{EngineState, value_of}
+use Rattle.map_edits.specs.WholeStates.{stamps_of}
 use Rattle.map_machine.specs.States.{MapState}
 use Rattle.map_machine.specs.Replies.{undefined_reply, value_reply}
-use Rattle.map_machine.specs.Causes.{counted}
+use Rattle.map_machine.specs.Displays.{show_reply, legend_reply, table_reply, stamps_reply}
+use Rattle.map_machine.specs.Listing.{list_reply}
 
 -- the first missing name of a layer; its own where it isn't there
 abbrev pub lacking : EngineState → Name → Name
@@ -33,20 +34,12 @@ is_on s r c = nat_le 1 r && nat_le r s.rows && nat_le 1 c && nat_le c s.columns
 abbrev pub cell_told : Grid → ℕ → ℕ → List ℕ
 cell_told g r c = if is_on g.size r c then cell_text (cell_at g.cells ((r - 1) * g.size.columns + (c - 1))) else codes "outside"
 
--- the line of a name in the list
-abbrev pub entry_line : Entry → List ℕ
-entry_line e = of_def e.name e.def
-  where
-    of_def : Name → Def → List ℕ
-    of_def n (source grid) = codes "source " ++ n ++ codes "\n"
-    of_def n (statement written flats) = written_text n written ++ codes "\n"
-
-abbrev pub list_reply : List Entry → List ℕ
-list_reply entries = counted (codes "list") (length entries) ++ codes "\n" ++ flat_map entry_line entries
-
+-- a table asks for its zones first
 abbrev pub answer_to : MapState → Request → List ℕ
-answer_to s (ask_value n r c) = of_layer s.engine n (λ grid. value_reply n r c (cell_told grid r c))
-answer_to s (ask_grid n) = of_layer s.engine n (λ grid. grid_text s.header grid.size grid.cells)
-answer_to s ask_list = list_reply s.engine.entries
--- no line asks for more yet
-answer_to s r = []
+answer_to s (ask_value n r c) = of_layer s.whole.names n (λ grid. value_reply n r c (cell_told grid r c))
+answer_to s (ask_grid n) = of_layer s.whole.names n (λ (g : Grid). grid_text s.header g.size g.cells)
+answer_to s (ask_show n) = of_layer s.whole.names n (λ grid. show_reply n grid s.whole.symbols)
+answer_to s (ask_legend n) = of_layer s.whole.names n (λ (g : Grid). legend_reply n g.cells s.whole.labels s.whole.symbols)
+answer_to s (ask_table n m) = of_layer s.whole.names n (λ (z : Grid). of_layer s.whole.names m (λ (v : Grid). table_reply n m z.cells v.cells))
+answer_to s (ask_stamps n) = of_layer s.whole.names n (λ (g : Grid). stamps_reply n g.size (unwrap_or (stamps_of s.whole.stamps n) []))
+answer_to s ask_list = list_reply s.whole

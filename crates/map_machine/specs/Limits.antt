@@ -19,3 +19,7 @@ most_pairs = 32
 
 abbrev pub most_workers : ℕ
 most_workers = 64
+
+-- the most rows and columns of the sample
+abbrev pub largest_sample : ℕ
+largest_sample = 1224

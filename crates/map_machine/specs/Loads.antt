@@ -1,14 +1,18 @@
 -- What the load of a grid does.
 use Rattle.std.specs.Prelude.{ℕ, List, Result, Ok, Err, codes}
+use Rattle.map_nums.specs.Grids.{Grid}
 use Rattle.grid_text.specs.declared.Header.{Header}
 use Rattle.grid_text.specs.Faults.{Fault}
 use Rattle.grid_text.specs.Headed.{Headed}
 use Rattle.grid_text.specs.Contents.{grid_in}
 use Rattle.map_defs.specs.Ops.{Name}
-use Rattle.map_edits.specs.EngineStates.{EngineState, no_entries}
-use Rattle.map_edits.specs.Edits.{Refusal, accept, load}
+use Rattle.map_edits.specs.EditForms.{load}
+use Rattle.map_edits.specs.Refusals.{Refusal}
+use Rattle.map_edits.specs.WholeStates.{no_names}
+use Rattle.map_edits.specs.WholeEdits.{of_names}
+use Rattle.map_edits.specs.Counted.{Accepted, accept_counted}
 use Rattle.map_machine.specs.States.{MapState}
-use Rattle.map_machine.specs.Replies.{ok_reply, load_refused_reply}
+use Rattle.map_machine.specs.Replies.{counted_reply, load_refused_reply}
 use Rattle.map_machine.specs.Causes.{edit_cause, grid_cause, counted}
 
 -- how a load came out: the state that it makes, or no state; each with the reply
@@ -16,26 +20,30 @@ pub data Opened : Type 0 where
   ready : MapState → List ℕ → Opened
   turned_away : List ℕ → Opened
 
-abbrev pub accepted : Header → Name → Result EngineState Refusal → Opened
-accepted header name (Ok t) = ready (record { header = header; engine = t }) (ok_reply t.number)
-accepted header name (Err r) = turned_away (load_refused_reply name (edit_cause r))
+abbrev pub opened : Header → Name → Result Accepted Refusal → Opened
+opened header name (Ok a) = ready (record { header = header; whole = a.state }) (counted_reply a.state.names.number a.counts)
+opened header name (Err r) = turned_away (load_refused_reply name (edit_cause r))
 
--- the first grid sets the size and the header texts of the run
-abbrev pub first_read : Name → Result Headed Fault → Opened
-first_read name (Ok read) = accepted read.header name (accept (no_entries read.grid.size) (load name read.grid))
-first_read name (Err f) = turned_away (load_refused_reply name (grid_cause f))
+-- a grid is loaded into a state
+abbrev pub grid_load : MapState → Name → Grid → Opened
+grid_load s name grid = opened s.header name (accept_counted s.whole (of_names (load name grid)))
 
-abbrev pub next_read : MapState → Name → Result Headed Fault → Opened
-next_read s name (Ok read) = accepted s.header name (accept s.engine (load name read.grid))
-next_read s name (Err f) = turned_away (load_refused_reply name (grid_cause f))
+-- before the first grid: it sets the size and the header texts of the run
+abbrev pub state_for : Headed → MapState
+state_for read = record { header = read.header; whole = no_names read.grid.size }
+
+-- what reading a file's bytes answered is loaded into the state before it
+abbrev pub read_load : (Headed → MapState) → Name → Result Headed Fault → Opened
+read_load before name (Ok read) = grid_load (before read) name read.grid
+read_load before name (Err f) = turned_away (load_refused_reply name (grid_cause f))
 
 -- what the bytes of a file do, loaded first and under this name
 unfoldable pub first_load : Name → List ℕ → Opened
-first_load name bytes = first_read name (grid_in bytes)
+first_load name bytes = read_load state_for name (grid_in bytes)
 
 -- what they do, loaded later
 unfoldable pub next_load : MapState → Name → List ℕ → Opened
-next_load s name bytes = next_read s name (grid_in bytes)
+next_load s name bytes = read_load (λ read. s) name (grid_in bytes)
 
 -- the reply to a file of more bytes than are fetched
 unfoldable pub long_file_reply : ℕ → Name → List ℕ

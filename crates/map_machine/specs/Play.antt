@@ -1,40 +1,29 @@
--- The text of a whole run: the loads of its files, and then its session.
-use Rattle.std.specs.Prelude.{ℕ, List, [], ◌∷◌, ◌++◌, length, if◌then◌else◌, nat_lt, Option, Some, None, String}
+-- The text of a whole run, and how its loads and its model file come out.
+use Rattle.std.specs.Prelude.{ℕ, List, [], Option, Some, None, String}
 use Rattle.std.specs.declared.alloc.Global.{Global}
-use Rattle.map_defs.specs.Ops.{Name}
-use Rattle.map_machine.specs.States.{MapState}
-use Rattle.map_machine.specs.Loads.{Opened, ready, turned_away, first_load, next_load, long_file_reply}
-use Rattle.map_machine.specs.Text.{session_text}
-use Rattle.map_machine.specs.Words.{Pair, run_pairs}
+use Rattle.map_machine.specs.Text.{replies_to, session_text}
+use Rattle.map_machine.specs.Words.{Form, of_files, of_sample, form_of}
+use Rattle.map_machine.specs.LoadTexts.{Files, pairs_text}
+use Rattle.map_machine.specs.Openings.{Opening, goes_on, pairs_opening}
+use Rattle.map_machine.specs.ModelFiles.{model_text, model_opening}
+use Rattle.map_machine.specs.SampleGrids.{sample_grids}
+use Rattle.map_machine.specs.SampleLines.{sample_lines}
+use Rattle.map_machine.specs.Samples.{sample_state, grids_text, grids_opening}
 
--- what a shelf holds under each name
-abbrev pub Files : Type 0
-Files = List ℕ → Option (List ℕ)
-
--- ---- the text; `next` is the text from the state after the loads
-
-abbrev pub opened_text : Opened → (MapState → List ℕ) → List ℕ
-opened_text (ready s reply) next = reply ++ next s
-opened_text (turned_away reply) next = reply
-
--- the text from a file on: where nothing is held, the run breaks off before it
-abbrev pub file_text : ℕ → (Name → List ℕ → Opened) → Name → Option (List ℕ) → (MapState → List ℕ) → List ℕ
-file_text most opens name None next = []
-file_text most opens name (Some bytes) next = if nat_lt most (length bytes) then long_file_reply most name else opened_text (opens name bytes) next
-
--- the text from further pairs on
-abbrev pub further_text : ℕ → Files → List Pair → MapState → (MapState → List ℕ) → List ℕ
-further_text most files [] s next = next s
-further_text most files (p ∷ ps) s next = file_text most (next_load s) p.name (files p.file) (λ t. further_text most files ps t next)
-
-abbrev pub pairs_text : ℕ → Files → List Pair → (MapState → List ℕ) → List ℕ
-pairs_text most files [] next = []
-pairs_text most files (p ∷ ps) next = file_text most first_load p.name (files p.file) (λ t. further_text most files ps t next)
-
-abbrev pub loads_text : ℕ → Files → Option (List Pair) → (MapState → List ℕ) → List ℕ
-loads_text most files None next = []
-loads_text most files (Some ps) next = pairs_text most files ps next
+-- words of no form have no text
+abbrev pub form_text : ℕ → ℕ → Option Form → Files → List ℕ → List ℕ
+form_text most limit None files session = []
+form_text most limit (Some (of_files model ps)) files session = pairs_text most files ps (λ s. model_text most files model s (λ t. session_text limit t session))
+form_text most limit (Some (of_sample n)) files session = grids_text (sample_state n) (sample_grids n) (λ s. replies_to s (sample_lines n))
 
 -- the text of a run: of these words, files and session bytes
 abbrev pub run_text : ℕ → ℕ → List (String Global) → Files → List ℕ → List ℕ
-run_text most limit words files session = loads_text most files (run_pairs words) (λ s. session_text limit s session)
+run_text most limit words files session = form_text most limit (form_of words) files session
+
+abbrev pub form_opening : ℕ → Option Form → Files → Opening
+form_opening most None files = goes_on
+form_opening most (Some (of_files model ps)) files = pairs_opening most files ps (λ s. model_opening most files model s (λ t. goes_on))
+form_opening most (Some (of_sample n)) files = grids_opening (sample_state n) (sample_grids n) (λ s. goes_on)
+
+abbrev pub run_opening : ℕ → List (String Global) → Files → Opening
+run_opening most words files = form_opening most (form_of words) files

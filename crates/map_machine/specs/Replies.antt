@@ -1,10 +1,12 @@
 -- The bytes of replies.
 use Rattle.std.specs.Prelude.{ℕ, List, ◌++◌, codes, decimal}
 use Rattle.map_defs.specs.Ops.{Name}
+use Rattle.map_edits.specs.EditCounts.{Counts}
+use Rattle.map_machine.specs.Causes.{counted}
 
--- the reply to an accepted edit or load, by the number of edits so far
-abbrev pub ok_reply : ℕ → List ℕ
-ok_reply number = codes "ok " ++ decimal number ++ codes "\n"
+-- the reply to an accepted edit or load, by the number of edits so far and by what it counts
+abbrev pub counted_reply : ℕ → Counts → List ℕ
+counted_reply number c = counted (codes "ok") number ++ counted (codes " changed") c.changed ++ counted (codes " evaluated") c.evaluated ++ counted (codes " worked") c.worked ++ codes "\n"
 
 -- the reply to a refused line
 abbrev pub refused_reply : List ℕ → List ℕ

@@ -4,13 +4,13 @@ use Rattle.map_lines.specs.Present.{present}
 use Rattle.statement_parser.specs.Lines.{Line, blank, edit, ask, quit}
 use Rattle.statement_parser.specs.Texts.{Refusal as LineRefusal, long}
 use Rattle.statement_parser.specs.LineOf.{line_of}
-use Rattle.map_edits.specs.EngineStates.{EngineState}
-use Rattle.map_edits.specs.Edits.{Refusal, accept}
+use Rattle.map_edits.specs.Refusals.{Refusal}
+use Rattle.map_edits.specs.Counted.{Accepted, accept_counted}
 use Rattle.map_edits.specs.LineEdits.{line_edit}
 use Rattle.map_machine.specs.declared.Kind.{Kind}
-use Rattle.map_machine.specs.declared.Kind.TheVariants.{Silent, Accepted, Shown, Refused, Quit}
+use Rattle.map_machine.specs.declared.Kind.TheVariants as kinds
 use Rattle.map_machine.specs.States.{MapState}
-use Rattle.map_machine.specs.Replies.{ok_reply, refused_reply}
+use Rattle.map_machine.specs.Replies.{counted_reply, refused_reply}
 use Rattle.map_machine.specs.Causes.{edit_cause, line_cause}
 use Rattle.map_machine.specs.Answers.{answer_to}
 
@@ -24,16 +24,16 @@ pub record Stepped : Type 0 where
 abbrev pub unchanged : MapState → List ℕ → Kind → Stepped
 unchanged s reply kind = record { state = s; reply = reply; kind = kind }
 
-abbrev pub edited : MapState → Result EngineState Refusal → Stepped
-edited s (Ok t) = record { state = record s { engine = t }; reply = ok_reply t.number; kind = Accepted }
-edited s (Err r) = unchanged s (refused_reply (edit_cause r)) Refused
+abbrev pub edited : MapState → Result Accepted Refusal → Stepped
+edited s (Ok a) = record { state = record s { whole = a.state }; reply = counted_reply a.state.names.number a.counts; kind = kinds.Accepted }
+edited s (Err r) = unchanged s (refused_reply (edit_cause r)) kinds.Refused
 
 abbrev pub step_by : MapState → Result Line LineRefusal → Stepped
-step_by s (Ok blank) = unchanged s [] Silent
-step_by s (Ok (edit e)) = edited s (accept s.engine (line_edit e))
-step_by s (Ok (ask r)) = unchanged s (answer_to s r) Shown
-step_by s (Ok quit) = unchanged s [] Quit
-step_by s (Err r) = unchanged s (refused_reply (line_cause r)) Refused
+step_by s (Ok blank) = unchanged s [] kinds.Silent
+step_by s (Ok (edit e)) = edited s (accept_counted s.whole (line_edit e))
+step_by s (Ok (ask r)) = unchanged s (answer_to s r) kinds.Shown
+step_by s (Ok quit) = unchanged s [] kinds.Quit
+step_by s (Err r) = unchanged s (refused_reply (line_cause r)) kinds.Refused
 
 -- what a line does
 unfoldable pub step_of : MapState → List ℕ → Stepped

@@ -1,8 +1,8 @@
 //! The map machine: what the program means, as definitions.
 //!
-//! The machine keeps sources, statements and the number of edits, and evaluates every statement on whole grids at each
-//! reply. `specs/` has it, from the lines of a session's bytes (`Lines`) to the text of a whole run (`Play`). The engine and
-//! the top call are proved against it; nothing here runs.
+//! The machine keeps sources, statements, procedures, labels, symbols and stamps, and evaluates every statement on whole
+//! grids at each reply. `specs/` has it, from the lines of a session's bytes (`Lines`) to the text of a whole run (`Play`)
+//! and what a run may read (`RunReads`). The engine and the top call are proved against it; nothing here runs.
 #![tactic(auto)]
 
 /// What became of a line.

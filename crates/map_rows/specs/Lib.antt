@@ -11,6 +11,7 @@ pub mod RegionRows
 pub mod ExpansionRows
 pub mod NodeRows
 pub mod CountRows
+pub mod ChangeRows
 pub mod TileRows
 pub mod Samples
 pub mod NearRows

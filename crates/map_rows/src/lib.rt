@@ -1,6 +1,7 @@
 //! Worked examples of the definitions: each function's contract states values that the check computes.
 #![tactic(auto)]
 
+mod changes;
 mod counts;
 mod drainage;
 mod expansion;
@@ -17,6 +18,7 @@ mod whole;
 mod work;
 mod zonal;
 
+pub use changes::change_rows;
 pub use counts::count_rows;
 pub use drainage::drainage_rows;
 pub use expansion::expansion_rows;

@@ -1,5 +1,5 @@
-pub mod Lists
-pub mod Asked
+pub mod Listing
+pub mod Places
 pub mod EditSteps
 pub mod LoadSteps
 pub mod LineSteps

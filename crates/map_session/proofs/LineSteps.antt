@@ -1,37 +1,41 @@
--- What a line does, by what the parser answers.
+-- What a line does and may read, by what the parser answers.
 use Rattle.std.proofs.Common.{◌≡◌, ℕ, List, [], Some, Result, Ok, Err, IfOk, refl, sym, ap, ◌∙◌, subst}
 use Rattle.map_nums.specs.declared.NoMemory.{NoMemory}
-use Rattle.statement_parser.specs.Lines as lines
+use Rattle.layer_tiles.specs.Tallies.{TallyState}
 use Rattle.map_lines.specs.Present.{present}
+use Rattle.statement_parser.specs.Lines as lines
 use Rattle.statement_parser.specs.Lines.{Line}
 use Rattle.statement_parser.specs.Texts.{Refusal as SpecRefusal, long, syntax, operation, number}
 use Rattle.statement_parser.specs.LineOf.{line_of, IsLineRead}
 use Rattle.statement_parser.specs.declared.refusal.LineRefusal.{LineRefusal}
 use Rattle.statement_parser.specs.declared.refusal.LineRefusal.TheVariants as a_line
 use Rattle.statement_parser.specs.Views.{line_view}
-use Rattle.grid_text.specs.declared.Header.{Header}
-use Rattle.map_edits.specs.EngineStates.{EngineState}
-use Rattle.map_edits.specs.Edits.{accept}
-use Rattle.map_edits.specs.LineEdits.{line_edit}
 use Rattle.map_machine.specs.declared.Kind.{Kind}
-use Rattle.map_machine.specs.Answers.{answer_to}
 use Rattle.map_machine.specs.declared.Kind.TheVariants.{Shown, Refused}
 use Rattle.map_machine.specs.States.{MapState}
 use Rattle.map_machine.specs.Replies.{refused_reply}
 use Rattle.map_machine.specs.Causes.{line_cause}
-use Rattle.map_machine.specs.Steps.{Stepped, edited, unchanged, step_by, step_of}
+use Rattle.map_machine.specs.Answers.{answer_to}
+use Rattle.map_machine.specs.LineReads.{reads_by, line_reads}
+use Rattle.map_machine.specs.Steps.{Stepped, unchanged, step_by, step_of}
+use Rattle.map_session.specs.Asked.{IsRead}
 use Rattle.map_session.specs.Causes.{line_told}
 use Rattle.map_session.specs.Said.{Says, Does}
 use Rattle.map_session.specs.Answered.{Steps}
 use Rattle.map_session.specs.declared.replies.Reply.{Reply}
-use Rattle.map_session.proofs.EditSteps.{state}
 
 some_same : {A : Type 0} (x y : A) → Some x ≡ Some y → x ≡ y
 some_same x y e = cc
 
+-- ---- lines
+
 pub stepped : (s t : MapState) (line : List ℕ) (x : Line) (r : Result Reply NoMemory) → line_of present line ≡ Ok x → Does s t (step_by s (Ok x)) r → Steps s t line r
 unfolding step_of
 stepped s t line x r e d = subst (λ (y : Result Line SpecRefusal). Does s t (step_by s y) r) (sym e) d
+
+pub stepped_reads : (s : MapState) (line : List ℕ) (x : Line) (a b : TallyState) → line_of present line ≡ Ok x → IsRead (reads_by s (Ok x)) a b → IsRead (line_reads s line) a b
+unfolding line_reads
+stepped_reads s line x a b e r = subst (λ (y : Result Line SpecRefusal). IsRead (reads_by s y) a b) (sym e) r
 
 pub stepped_empty : (s : MapState) (line : List ℕ) (x : Line) (kind : Kind) (reply : Reply) → line_of present line ≡ Ok x → step_by s (Ok x) ≡ unchanged s [] kind → Says [] kind reply → Steps s s line (Ok reply)
 stepped_empty s line x kind reply is step says = stepped s s line x (Ok reply) is (subst (λ (d : Stepped). Does s s d (Ok reply)) (sym step) (refl, says.0, says.1))
@@ -40,12 +44,10 @@ ask_done : (s : MapState) (q : lines.Request) (r : Result Reply NoMemory) → If
 ask_done s q (Ok reply) says = (refl, says.0, says.1)
 ask_done s q (Err e) says = refl
 
-pub stepped_ask : (h : Header) (engine : EngineState) (s : MapState) (line : List ℕ) (q : lines.Request) (r : Result Reply NoMemory) → state h engine ≡ s → line_of present line ≡ Ok (lines.ask q)
-    → IfOk r (Says (answer_to (state h engine) q) Shown) → Steps s s line r
-stepped_ask h engine s line q r w is says = stepped s s line (lines.ask q) r is (ask_done s q r (subst (λ (u : MapState). IfOk r (Says (answer_to u q) Shown)) w says))
+pub stepped_ask : (s : MapState) (line : List ℕ) (q : lines.Request) (r : Result Reply NoMemory) → line_of present line ≡ Ok (lines.ask q) → IfOk r (Says (answer_to s q) Shown) → Steps s s line r
+stepped_ask s line q r is says = stepped s s line (lines.ask q) r is (ask_done s q r says)
 
-pub stepped_edit : (s t : MapState) (line : List ℕ) (e : lines.Edit) (r : Result Reply NoMemory) → line_of present line ≡ Ok (lines.edit e) → Does s t (edited s (accept s.engine (line_edit e))) r → Steps s t line r
-stepped_edit s t line e r is d = stepped s t line (lines.edit e) r is d
+-- ---- bytes that are no line
 
 line_turned : (line : List ℕ) (r : LineRefusal) (text : List ℕ) → IsLineRead (line_of present line) line_view (Err r) → line_told r ≡ Some text
     → (x : SpecRefusal) × (line_of present line ≡ Err x) × (line_cause x ≡ text)

@@ -9,7 +9,7 @@ use Rattle.grid_text.specs.Faults as grids
 use Rattle.live_engine.specs.declared.edits.Refusal.{Refusal}
 use Rattle.live_engine.specs.declared.edits.Refusal.TheVariants as an_edit
 use Rattle.live_engine.specs.Accepts.{which_of}
-use Rattle.map_edits.specs.Edits as edits
+use Rattle.map_edits.specs.Refusals as edits
 use Rattle.map_edits.specs.Faults as faults
 use Rattle.map_machine.specs.Causes.{line_cause, edit_cause, grid_cause}
 
@@ -30,6 +30,8 @@ edit_told (an_edit.Limit which) = Some (edit_cause (edits.beyond (which_of which
 edit_told (an_edit.Cycle n) = Some (edit_cause (edits.cycle n))
 edit_told (an_edit.Viewers n c) = Some (edit_cause (edits.fault (faults.too_many_viewers n c)))
 edit_told (an_edit.Overflow n r c) = Some (edit_cause (edits.fault (faults.overflow n r c)))
+edit_told (an_edit.NoProcedure n) = Some (edit_cause (edits.no_procedure n))
+edit_told (an_edit.Terms given wanted) = Some (edit_cause (edits.wrong_terms given wanted))
 edit_told an_edit.NoMemory = None
 
 abbrev pub grid_told : GridRefusal → Option (List ℕ)

@@ -1,3 +1,6 @@
 pub mod Said
 pub mod Causes
+pub mod Rooms
+pub mod Asked
+pub mod Lines
 pub mod Answered

@@ -1,11 +1,9 @@
 -- What a reply says.
-use Rattle.std.specs.Prelude.{◌≡◌, ℕ, List, ◌++◌, codes, Result, Ok, Err}
+use Rattle.std.specs.Prelude.{◌≡◌, ℕ, List, Result, Ok, Err}
 use Rattle.map_nums.specs.declared.NoMemory.{NoMemory}
 use Rattle.map_machine.specs.declared.Kind.{Kind}
 use Rattle.map_machine.specs.States.{MapState}
 use Rattle.map_machine.specs.Steps.{Stepped}
-use Rattle.statement_parser.specs.Canonical.{written_text}
-use Rattle.live_engine.specs.Asked.{Listed, a_source, a_statement}
 use Rattle.map_session.specs.declared.replies.Reply.{Reply}
 
 -- these bytes, as a reply of this kind
@@ -16,8 +14,3 @@ Says text kind reply = (reply.bytes.items ≡ text) × (reply.kind ≡ kind)
 abbrev pub Does : MapState → MapState → Stepped → Result Reply NoMemory → Type 0
 Does old new stepped (Ok reply) = (new ≡ stepped.state) × (reply.bytes.items ≡ stepped.reply) × (reply.kind ≡ stepped.kind)
 Does old new stepped (Err e) = new ≡ old
-
--- the line of a listed name
-abbrev pub listed_line : Listed → List ℕ
-listed_line (a_source n) = codes "source " ++ n ++ codes "\n"
-listed_line (a_statement n w) = written_text n w ++ codes "\n"

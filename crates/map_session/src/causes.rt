@@ -55,6 +55,9 @@ fn which_text(which: Which) -> &'static [u8]
         Which::Sources => b"sources",
         Which::Statements => b"statements",
         Which::Zonals => b"zonals",
+        Which::Labels => b"labels",
+        Which::Symbols => b"symbols",
+        Which::Procedures => b"procedures",
     }
 }
 
@@ -93,6 +96,8 @@ pub(crate) fn edit_cause(alloc: Global, refusal: &Refusal) -> Result<Vec<u8>, No
         Refusal::Cycle(name) => named(alloc, b"cycle ", name),
         Refusal::Viewers(name, count) => viewers_cause(alloc, name, *count),
         Refusal::Overflow(name, r, c) => overflow_cause(alloc, name, *r, *c),
+        Refusal::NoProcedure(name) => named(alloc, b"procedure ", name),
+        Refusal::Terms(given, wanted) => counted_twice(alloc, b"count", *given, *wanted),
         Refusal::NoMemory => Err(NoMemory),
     }
 }

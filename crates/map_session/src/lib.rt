@@ -6,8 +6,14 @@
 
 mod answers;
 mod causes;
+mod displays;
+mod lists;
+mod loads;
 mod replies;
+mod rooms;
+mod samples;
 mod session;
+mod values;
 
 pub use replies::Reply;
 pub use session::{Begun, Session};

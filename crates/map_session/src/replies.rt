@@ -1,6 +1,6 @@
 //! Replies.
-ghost use Rattle.std.specs.Prelude.{◌≡◌, [], IfOk};
-ghost use Rattle.map_machine.specs.Replies.{ok_reply, refused_reply, load_refused_reply, undefined_reply, value_reply};
+ghost use Rattle.std.specs.Prelude.{[], IfOk};
+ghost use Rattle.map_machine.specs.Replies.{refused_reply, load_refused_reply, undefined_reply, value_reply};
 
 use crate::causes::put_number;
 use map_machine::Kind;
@@ -28,17 +28,14 @@ impl Reply {
         }
     }
 
-    /// To an accepted edit or load, by its number.
-    pub(crate) fn ok(alloc: Global, number: u64) -> Result<Reply, NoMemory>
-        ensures { IfOk result (Says (ok_reply number) Kind.Accepted) }
+    /// To a request.
+    pub(crate) fn shown(bytes: Vec<u8>) -> Reply
+        ensures { Says bytes.items Kind.Shown result }
     {
-        let mut bytes = Vec::from_slice(alloc, b"ok ")?;
-        put_number(&mut bytes, number)?;
-        bytes.push(b'\n')?;
-        Ok(Reply {
+        Reply {
             bytes,
-            kind: Kind::Accepted,
-        })
+            kind: Kind::Shown,
+        }
     }
 
     /// To a refused line.
@@ -69,7 +66,7 @@ impl Reply {
         })
     }
 
-    /// To a request on a layer that lacks a name.
+    /// To a request for a layer that lacks a name.
     pub(crate) fn undefined(alloc: Global, name: &Name, lacking: &Name) -> Result<Reply, NoMemory>
         ensures { IfOk result (Says (undefined_reply name.now lacking.now) Kind.Shown) }
     {
@@ -78,10 +75,7 @@ impl Reply {
         bytes.extend_from_slice(b": ")?;
         bytes.extend_from_slice(lacking.bytes())?;
         bytes.push(b'\n')?;
-        Ok(Reply {
-            bytes,
-            kind: Kind::Shown,
-        })
+        Ok(Reply::shown(bytes))
     }
 
     /// To a request for the cell in row `r` and column `c`.
@@ -103,9 +97,6 @@ impl Reply {
         bytes.push(b' ')?;
         bytes.extend_from_slice(cell)?;
         bytes.push(b'\n')?;
-        Ok(Reply {
-            bytes,
-            kind: Kind::Shown,
-        })
+        Ok(Reply::shown(bytes))
     }
 }

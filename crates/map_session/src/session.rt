@@ -1,35 +1,39 @@
 //! A session over the layers of an engine.
-ghost use Rattle.std.specs.Prelude.{◌≡◌, ◌≢◌, ◌≤◌, IsTrue, IfOk};
-ghost use Rattle.map_nums.specs.Counts.{raised};
-ghost use Rattle.map_words.specs.Names.{is_plain};
-ghost use Rattle.map_lines.specs.Formed.{IsEdit};
-ghost use Rattle.statement_parser.specs.Views.{edit_view};
-ghost use Rattle.map_edits.specs.Edits.{accept};
+ghost use Rattle.std.specs.Prelude.{◌≡◌, ◌≢◌, ◌≤◌, ◌<◌, false, None, Ok, IfOk};
+ghost use Rattle.layer_tiles.specs.Tallies.{RisesBy};
+ghost use Rattle.statement_parser.specs.Formed.{IsEdit};
+ghost use Rattle.statement_parser.specs.Views.{edit_view, request_view};
+ghost use Rattle.map_edits.specs.Faults.{fault_of};
+ghost use Rattle.map_edits.specs.GroupLaws.{IsLawful};
+ghost use Rattle.map_edits.specs.Allowances.{edit_reads};
+ghost use Rattle.map_edits.specs.Counted.{accept_counted};
 ghost use Rattle.map_edits.specs.LineEdits.{line_edit};
-ghost use Rattle.map_edits.specs.Sound.{IsSound};
-ghost use Rattle.layer_tiles.specs.Tallies.{KeepsParts};
-ghost use Rattle.map_machine.specs.Loads.{first_read, next_read};
+ghost use Rattle.map_machine.specs.LineReads.{line_reads};
+ghost use Rattle.map_machine.specs.Answers.{answer_to};
+ghost use Rattle.map_session.specs.Asked.{ReadsFor};
 ghost use Rattle.map_machine.specs.Steps.{edited};
 
-use crate::answers::answer;
-use crate::causes::{edit_cause, grid_cause, line_cause};
+use crate::answers::Asked;
+use crate::causes::{edit_cause, line_cause};
 use crate::replies::Reply;
-use grid_text::{Grid, Header, read_grid};
+use crate::rooms::ReplyRoom;
+use grid_text::Header;
 use layer_tiles::Tally;
 use live_engine::{Edit, Engine};
 use map_lines::parse_line;
 use map_machine::Kind;
 use map_nums::NoMemory;
-use map_words::Name;
-use statement_parser::{Line, LineEdit};
+use statement_parser::{Line, LineEdit, Request};
 use std::alloc::Global;
 use std::marker::Model;
+use std::thread::Threads;
+use tile_workers::Gate;
 
 /// A session, seen as a state of the machine.
 #[derive(Drop)]
 pub struct Session {
-    header: Header,
-    engine: Engine,
+    pub(crate) header: Header,
+    pub(crate) engine: Engine,
 }
 
 impl Model for Session {
@@ -37,7 +41,7 @@ impl Model for Session {
 
     ghost Value = { MapState };
 
-    ghost view = { λ s. record { header = s.header; engine = s.engine } };
+    ghost view = { λ s. record { header = s.header; whole = s.engine } };
 }
 
 /// How a session began.
@@ -49,152 +53,40 @@ pub enum Begun {
     Refused(Reply),
 }
 
-/// The number of the edit after so many.
-fn next_number(number: u64) -> u64
-    ensures { result ≡ raised number 1 }
-{
-    number.saturating_add(1)
-}
-
 impl Session {
-    ghost use Rattle.map_session.specs.Answered.{Begins, BeginsAs, Loads, LoadsAs, Steps};
-    ghost use Rattle.map_session.specs.Said.{Does};
-    ghost use Rattle.grid_text.specs.Reads.{held};
-    ghost use Rattle.std.specs.Prelude.{Ok};
-
-    /// Loads the first grid, whose extent and header texts the session keeps. Its name is plain.
-    pub fn begin<M: Tally + Send>(
-        alloc: Global,
-        name: Name,
-        bytes: &[u8],
-        workers: u32,
-        tally: &mut M,
-    ) -> Result<Begun, NoMemory>
-        requires plain { IsTrue (is_plain name) }
-        requires some { 1 ≤ workers }
-        requires most { workers ≤ 64 }
-        ensures begins { Begins name bytes.now result }
-        ensures parts { KeepsParts (M.counts tally.old) (M.counts tally.new) }
-    {
-        match read_grid(alloc, bytes, 1) {
-            Ok(grid) => Session::begin_with(alloc, name, grid, workers, tally),
-            Err(refusal) => {
-                let cause = grid_cause(alloc, refusal)?;
-                Ok(Begun::Refused(Reply::load_refused(alloc, &name, &cause)?))
-            }
-        }
-    }
-
-    fn begin_with<M: Tally + Send>(
-        alloc: Global,
-        name: Name,
-        grid: Grid,
-        workers: u32,
-        tally: &mut M,
-    ) -> Result<Begun, NoMemory>
-        requires plain { IsTrue (is_plain name) }
-        requires some { 1 ≤ workers }
-        requires most { workers ≤ 64 }
-        ensures begins { BeginsAs (first_read name (Ok (held grid))) result }
-        ensures parts { KeepsParts (M.counts tally.old) (M.counts tally.new) }
-    {
-        let Grid { header, layer } = grid;
-        let mut engine = Engine::new(alloc, layer.extent());
-        let edit = Edit::Load {
-            name: name.copy(alloc)?,
-            layer,
-        };
-        match engine.edit(alloc, edit, workers, tally) {
-            Ok(accepted) => {
-                let reply = Reply::ok(alloc, accepted.number)?;
-                Ok(Begun::Ready(Session { header, engine }, reply))
-            }
-            Err(refusal) => {
-                let cause = edit_cause(alloc, &refusal)?;
-                Ok(Begun::Refused(Reply::load_refused(alloc, &name, &cause)?))
-            }
-        }
-    }
-
-    /// Loads a further grid. Its name is plain.
-    pub fn load<M: Tally + Send>(
-        &mut self,
-        alloc: Global,
-        name: Name,
-        bytes: &[u8],
-        workers: u32,
-        tally: &mut M,
-    ) -> Result<Reply, NoMemory>
-        requires plain { IsTrue (is_plain name) }
-        requires some { 1 ≤ workers }
-        requires most { workers ≤ 64 }
-        ensures loads { Loads self.old self.new name bytes.now result }
-        ensures parts { KeepsParts (M.counts tally.old) (M.counts tally.new) }
-    {
-        match read_grid(alloc, bytes, 1) {
-            Ok(grid) => self.load_with(alloc, name, grid, workers, tally),
-            Err(refusal) => {
-                let cause = grid_cause(alloc, refusal)?;
-                Reply::load_refused(alloc, &name, &cause)
-            }
-        }
-    }
-
-    // The reply is made before the edit, so that an accepted load is never without its reply.
-    fn load_with<M: Tally + Send>(
-        &mut self,
-        alloc: Global,
-        name: Name,
-        grid: Grid,
-        workers: u32,
-        tally: &mut M,
-    ) -> Result<Reply, NoMemory>
-        requires plain { IsTrue (is_plain name) }
-        requires some { 1 ≤ workers }
-        requires most { workers ≤ 64 }
-        ensures loads { LoadsAs self.old self.new (next_read self.old name (Ok (held grid))) result }
-        ensures parts { KeepsParts (M.counts tally.old) (M.counts tally.new) }
-    {
-        let reply = Reply::ok(alloc, next_number(self.engine.number()))?;
-        let edit = Edit::Load {
-            name: name.copy(alloc)?,
-            layer: grid.layer,
-        };
-        match self.engine.edit(alloc, edit, workers, tally) {
-            Ok(_) => Ok(reply),
-            Err(refusal) => {
-                let cause = edit_cause(alloc, &refusal)?;
-                Reply::load_refused(alloc, &name, &cause)
-            }
-        }
-    }
+    ghost use Rattle.map_session.specs.Answered.{Steps};
+    ghost use Rattle.map_session.specs.Said.{Does, Says};
 
     /// How many edits were accepted. No state that is reached has a cycle, or a value that no cell may hold.
     pub fn number(&self) -> u64
-        ensures number { result ≡ self.now.engine.number }
-        ensures sound { IsSound self.now.engine }
+        ensures number { result ≡ self.now.whole.names.number }
+        ensures lawful { IsLawful self.now.whole }
+        ensures faultless { fault_of self.now.whole.names ≡ None }
     {
         self.engine.number()
     }
 
     /// Answers a line without its line end, of any length.
-    pub fn step<M: Tally + Send>(
+    pub fn step<M: Tally + Send, G: Gate + Sync, R: Threads + Sync>(
         &mut self,
+        rt: &R,
         alloc: Global,
         line: &[u8],
         workers: u32,
+        gate: &G,
         tally: &mut M,
     ) -> Result<Reply, NoMemory>
         requires some { 1 ≤ workers }
         requires most { workers ≤ 64 }
+        requires whole { 1 < workers → ((M.counts tally.old).is_part ≡ false) × ((M.counts tally.old).parts_out ≡ 0) }
         ensures steps { Steps self.old self.new line.now result }
         ensures kept { IfOk result (λ reply. reply.kind ≢ Kind.Accepted → self.new ≡ self.old) }
-        ensures parts { KeepsParts (M.counts tally.old) (M.counts tally.new) }
+        ensures reads { RisesBy (line_reads self.old line.now).looks (line_reads self.old line.now).picks (M.counts tally.old) (M.counts tally.new) }
     {
         match parse_line(alloc, line) {
             Ok(Line::Blank) => Ok(Reply::empty(alloc, Kind::Silent)),
-            Ok(Line::Edit(edit)) => self.edit(alloc, edit, workers, tally),
-            Ok(Line::Ask(request)) => answer(alloc, &self.header, &self.engine, &request, tally),
+            Ok(Line::Edit(edit)) => self.edit(rt, alloc, edit, workers, gate, tally),
+            Ok(Line::Ask(request)) => self.answer(alloc, &request, tally),
             Ok(Line::Quit) => Ok(Reply::empty(alloc, Kind::Quit)),
             Err(refusal) => {
                 let cause = line_cause(alloc, refusal)?;
@@ -203,27 +95,49 @@ impl Session {
         }
     }
 
-    // The reply is made before the edit, so that an accepted edit is never without its reply.
-    fn edit<M: Tally + Send>(
+    // The reply has its room before the edit, so that an accepted edit is never without its reply.
+    fn edit<M: Tally + Send, G: Gate + Sync, R: Threads + Sync>(
         &mut self,
+        rt: &R,
         alloc: Global,
         edit: LineEdit,
         workers: u32,
+        gate: &G,
         tally: &mut M,
     ) -> Result<Reply, NoMemory>
         requires formed { IsEdit (edit_view edit) }
         requires some { 1 ≤ workers }
         requires most { workers ≤ 64 }
-        ensures does { Does self.old self.new (edited self.old (accept self.old.engine (line_edit (edit_view edit)))) result }
-        ensures parts { KeepsParts (M.counts tally.old) (M.counts tally.new) }
+        requires whole { 1 < workers → ((M.counts tally.old).is_part ≡ false) × ((M.counts tally.old).parts_out ≡ 0) }
+        ensures does { Does self.old self.new (edited self.old (accept_counted self.old.whole (line_edit (edit_view edit)))) result }
+        ensures reads { RisesBy (edit_reads self.old.whole (line_edit (edit_view edit))).looks (edit_reads self.old.whole (line_edit (edit_view edit))).picks (M.counts tally.old) (M.counts tally.new) }
     {
-        let reply = Reply::ok(alloc, next_number(self.engine.number()))?;
-        match self.engine.edit(alloc, Edit::Line(edit), workers, tally) {
-            Ok(_) => Ok(reply),
+        let room = ReplyRoom::new(alloc)?;
+        match self
+            .engine
+            .edit(rt, alloc, Edit::Line(edit), workers, gate, tally)
+        {
+            Ok(accepted) => Ok(room.filled(accepted)),
             Err(refusal) => {
                 let cause = edit_cause(alloc, &refusal)?;
                 Reply::refused(alloc, &cause)
             }
         }
+    }
+
+    fn answer<M: Tally>(
+        &self,
+        alloc: Global,
+        request: &Request,
+        tally: &mut M,
+    ) -> Result<Reply, NoMemory>
+        ensures says { IfOk result (Says (answer_to self.now (request_view request.now)) Kind.Shown) }
+        ensures reads { ReadsFor self.now (request_view request.now) (M.counts tally.old) (M.counts tally.new) }
+    {
+        let asked = Asked {
+            header: &self.header,
+            engine: &self.engine,
+        };
+        asked.answer(alloc, request, tally)
     }
 }

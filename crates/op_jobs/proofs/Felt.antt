@@ -1,40 +1,14 @@
 -- A cell whose operands' cells round it stayed stays too: so what changed is felt by the square of its tile, grown by the reach.
-use Rattle.std.proofs.Common.{◌≡◌, ℕ, ◌<◌, ◌≤◌, Bool, true, false, cond, List, [], ◌∷◌, get_or, refl, sym, ◌∙◌, ap, arith}
-use Rattle.std.specs.Prelude.{◌&&◌, ◌||◌, ◌==◌, not}
-use Rattle.std.specs.List.{filter, list_any, range_with_len}
-use Rattle.std.proofs.lemmas.Bool.{and_parts, and_from, eqb-true}
-use Rattle.std.proofs.lemmas.List.Folds.{list_any_at, Any-from_list_any}
-use Rattle.std.proofs.lemmas.List.FromFn.{get_or-range_with_len, length-range_with_len}
+use Rattle.std.proofs.Common.{◌≡◌, ℕ, ◌<◌, ◌≤◌, Bool, true, false, List, refl, sym, ◌∙◌, ap}
+use Rattle.std.specs.Prelude.{◌==◌, not}
+use Rattle.std.proofs.lemmas.Bool.{eqb-true}
 use Rattle.map_nums.specs.Grids.{Size, Cells, cells_in, cell_at, row_of, column_of, gap}
 use Rattle.map_nums.specs.Tiles.{tiles_in, tile_of}
 use Rattle.map_defs.specs.Tiles.{is_in_square}
 use Rattle.map_defs.specs.Differences.{differs, has_changed, tile_has, square_has}
 use Rattle.map_defs.proofs.RegionCells.{same_so}
 use Rattle.map_defs.proofs.Squares.{square_from_near}
-
--- ---- a place that passes two tests
-
-any_filter : (p q : ℕ → Bool) (xs : List ℕ) → list_any p (filter q xs) ≡ list_any (λ x. q x && p x) xs
-any_filter p q [] = refl
-any_filter p q (x ∷ xs) = which (q x) (any_filter p q xs)
-  where
-    which : (v : Bool) → list_any p (filter q xs) ≡ list_any (λ x. q x && p x) xs → list_any p (cond v (x ∷ filter q xs) (filter q xs)) ≡ ((v && p x) || list_any (λ x. q x && p x) xs)
-    which true e = ap (λ b. p x || b) e
-    which false e = e
-
-pub any_so : (p q : ℕ → Bool) (n i : ℕ) → i < n → q i ≡ true → p i ≡ true → list_any p (filter q (range_with_len 0 n)) ≡ true
-any_so p q n i l a b =
-    let here : get_or (range_with_len 0 n) i i ≡ i = get_or-range_with_len 0 n i i l ∙ omega arith in
-    any_filter p q (range_with_len 0 n)
-    ∙ list_any_at (λ x. q x && p x) (range_with_len 0 n) i i (omega (arith, l, length-range_with_len 0 n)) (ap (λ x. q x && p x) here ∙ and_from (q i) (p i) a b)
-
-pub any_one : (p q : ℕ → Bool) (n : ℕ) → list_any p (filter q (range_with_len 0 n)) ≡ true → (i : ℕ) × (i < n) × (q i ≡ true) × (p i ≡ true)
-any_one p q n e =
-    let a = Any-from_list_any (λ x. q x && p x) (range_with_len 0 n) (sym (any_filter p q (range_with_len 0 n)) ∙ e) in
-    let l : a.0 < n = omega (arith, a.2, length-range_with_len 0 n) in
-    let is : a.1 ≡ a.0 = sym a.3 ∙ get_or-range_with_len 0 n a.0 a.1 l ∙ omega arith in
-    let b = and_parts (q a.1) (p a.1) a.4 in
-    (a.1, omega (arith, is, l), b.0, b.1)
+use Rattle.damage_sets.proofs.Whole.{any_so, any_one}
 
 -- ---- what stays and what is felt
 

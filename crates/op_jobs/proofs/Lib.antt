@@ -11,13 +11,13 @@ pub mod Listing
 pub mod Near
 pub mod Patching
 pub mod Quiet
+pub mod Ranges
 pub mod Ranging
 pub mod Reached
 pub mod Touched
 pub mod Hits
 pub mod Coming
 pub mod Directions
-pub mod ZonalPasses
 pub mod ZonalTold
 pub mod ZonalMarks
 pub mod ZonalOthers

@@ -1,14 +1,12 @@
 -- Numbers that pass tests, in order.
-use Rattle.std.proofs.Common.{◌≡◌, ℕ, zero, suc, ◌+◌, ◌<◌, ◌≤◌, Bool, true, false, cond, List, [], ◌∷◌, ◌++◌, length, get_or, refl, sym, ◌∙◌, ap, arith}
-use Rattle.std.specs.Prelude.{◌==◌, not}
-use Rattle.std.specs.List.{All, filter, range_with_len}
-use Rattle.std.proofs.lemmas.Bool.{eqb-true, eq-eqb}
-use Rattle.std.proofs.lemmas.List.Elements.{All-head, All-tail, filter-append}
+use Rattle.std.proofs.Common.{◌≡◌, inl, inr, ℕ, zero, suc, ◌+◌, ◌<◌, ◌≤◌, Bool, true, false, cond, List, [], ◌∷◌, ◌++◌, length, get_or, refl, sym, ◌∙◌, ap, arith}
+use Rattle.std.specs.Prelude.{not}
+use Rattle.std.specs.List.{All, Contains, filter, range_with_len}
+use Rattle.std.proofs.lemmas.Bool.{both_ways, cases_eq, false_from_ne_true}
+use Rattle.std.proofs.lemmas.List.Elements.{All-head, All-tail, filter_passes, filter-append}
 use Rattle.std.proofs.lemmas.List.{get_or_default}
 use Rattle.std.proofs.lemmas.List.Filters.{length-filter_both}
-use Rattle.std.proofs.lemmas.List.Folds.{Any-from_list_any}
 use Rattle.std.proofs.lemmas.List.FromFn.{get_or-range_with_len, length-range_with_len}
-use Rattle.op_jobs.proofs.Felt.{any_so}
 
 -- what holds of each number below n holds of each in the list of them
 pub range_all : (P : ℕ → Type 0) (n : ℕ) → ((t : ℕ) → t < n → P t) → All P (range_with_len 0 n)
@@ -46,9 +44,14 @@ filter_within {X} p q (x ∷ xs) a = which (p x) (q x) refl refl (filter_within 
 pub filter_fewer : {X : Type 0} (p q : X → Bool) (xs : List X) → All (λ x. p x ≡ true → q x ≡ true) xs → length (filter p xs) ≤ length (filter q xs)
 filter_fewer p q xs a = omega (arith, ap length (filter_within p q xs a), length-filter_both p (λ x. not (p x)) (λ x. refl) (filter q xs))
 
--- one more number
-pub filter_next : (p : ℕ → Bool) (n : ℕ) → filter p (range_with_len 0 (n + 1)) ≡ filter p (range_with_len 0 n) ++ cond (p n) (n ∷ []) []
-filter_next p n = ap (filter p) (next 0 n ∙ ap (λ k. range_with_len 0 n ++ k ∷ []) (omega arith)) ∙ filter-append p (range_with_len 0 n) (n ∷ [])
+-- tests that agree below n
+pub tests_same : (p q : ℕ → Bool) (n : ℕ) → ((t : ℕ) → t < n → p t ≡ q t) → filter p (range_with_len 0 n) ≡ filter q (range_with_len 0 n)
+tests_same p q n same = filter_same p q (range_with_len 0 n) (range_all (λ t. p t ≡ q t) n same)
+
+-- ---- one more number
+
+pub range_more : (n : ℕ) → range_with_len 0 (n + 1) ≡ range_with_len 0 n ++ n ∷ []
+range_more n = next 0 n ∙ ap (λ k. range_with_len 0 n ++ k ∷ []) (omega arith)
   where
     next : (a n : ℕ) → range_with_len a (n + 1) ≡ range_with_len a n ++ (a + n) ∷ []
     next a zero = ap (λ k. k ∷ []) (omega arith)
@@ -56,10 +59,41 @@ filter_next p n = ap (filter p) (next 0 n ∙ ap (λ k. range_with_len 0 n ++ k 
         let e : range_with_len a (suc n + 1) ≡ a ∷ range_with_len (a + 1) (n + 1) = ap (range_with_len a) (let q : suc n + 1 ≡ suc (n + 1) = omega arith in q) in
         e ∙ ap (λ ks. a ∷ ks) (next (a + 1) n ∙ ap (λ k. range_with_len (a + 1) n ++ k ∷ []) (omega arith))
 
+pub filter_next : (p : ℕ → Bool) (n : ℕ) → filter p (range_with_len 0 (n + 1)) ≡ filter p (range_with_len 0 n) ++ cond (p n) (n ∷ []) []
+filter_next p n = ap (filter p) (range_more n) ∙ filter-append p (range_with_len 0 n) (n ∷ [])
+
+-- ---- what a list of those that pass has
+
+pub nothing_in : (t : ℕ) → Contains [] t → ⊥
+nothing_in t c = omega (arith, c.1)
+
+pub in_all : (x : ℕ) (xs : List ℕ) (t : ℕ) → Contains xs t → Contains (x ∷ xs) t
+in_all x xs t c = (suc c.0, omega (arith, c.1), c.2)
+
+kept_in : (v : Bool) (x : ℕ) (xs : List ℕ) (t : ℕ) → Contains xs t → Contains (cond v (x ∷ xs) xs) t
+kept_in true x xs t c = in_all x xs t c
+kept_in false x xs t c = c
+
+-- what it has passes
+pub passes : (p : ℕ → Bool) (xs : List ℕ) (t : ℕ) → Contains (filter p xs) t → p t ≡ true
+passes p xs t c = ap p (sym c.2) ∙ filter_passes p xs c.0 t c.1
+
+-- it has all that pass
+pub filter_has : (p : ℕ → Bool) (n k t : ℕ) → k ≤ t → t < k + n → p t ≡ true → Contains (filter p (range_with_len k n)) t
+filter_has p zero k t a b e = absurd (omega (arith, a, b))
+filter_has p (suc n) k t a b e = elim (cases_eq k t) as (λ _. Contains (filter p (range_with_len k (suc n))) t) [
+  | inl f ↦ here (p k) (ap p f ∙ e) f
+  | inr m ↦ kept_in (p k) k (filter p (range_with_len (k + 1) n)) t (filter_has p n (k + 1) t (omega (arith, a, m)) (omega (arith, b)) e)
+]
+  where
+    here : (v : Bool) → v ≡ true → k ≡ t → Contains (cond v (k ∷ filter p (range_with_len (k + 1) n)) (filter p (range_with_len (k + 1) n))) t
+    here true q f = (0, omega arith, f)
+    here false q f = absurd (both_ways false refl q)
+
+-- what it has not does not pass
+pub not_passing : (p : ℕ → Bool) (n t : ℕ) → t < n → (Contains (filter p (range_with_len 0 n)) t → ⊥) → p t ≡ false
+not_passing p n t l out = false_from_ne_true (p t) (λ e. out (filter_has p n 0 t (omega arith) (omega (arith, l)) e))
+
 -- where a number that passes stands
 pub listed : (p : ℕ → Bool) (n t : ℕ) → t < n → p t ≡ true → (k : ℕ) × (k < length (filter p (range_with_len 0 n))) × (get_or (filter p (range_with_len 0 n)) k 0 ≡ t)
-listed p n t l e =
-    let some = any_so (λ i. i == t) p n t l e (eq-eqb t t refl) in
-    let a = Any-from_list_any (λ i. i == t) (filter p (range_with_len 0 n)) some in
-    let same : a.1 ≡ t = eqb-true a.1 t a.4 in
-    (a.0, a.2, get_or_default (filter p (range_with_len 0 n)) a.0 0 a.1 a.2 ∙ a.3 ∙ same)
+listed p n t l e = let c = filter_has p n 0 t (omega arith) (omega (arith, l)) e in (c.0, c.1, get_or_default (filter p (range_with_len 0 n)) c.0 0 t c.1 ∙ c.2)

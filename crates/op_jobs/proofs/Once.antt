@@ -15,7 +15,7 @@ use Rattle.layer_tiles.specs.Changes.{ChangeState}
 use Rattle.layer_tiles.specs.Operands.{cells_after}
 use Rattle.local_ops.specs.Operations.{op_of, Takes}
 use Rattle.local_ops.specs.declared.ops.LocalOp.{LocalOp as KernelOp}
-use Rattle.statement_parser.specs.Formed.{Each, IsTerm, IsRate, IsNoProduct, IsRadius, IsOp}
+use Rattle.statement_parser.specs.Formed.{Each, IsRate, IsNoProduct, IsRadius}
 use Rattle.statement_parser.specs.Views.{op_view}
 use Rattle.map_waves.specs.Statements.{cells_were}
 use Rattle.map_waves.specs.Jobs.{was_in}
@@ -23,20 +23,21 @@ use Rattle.map_waves.specs.Keeping.{IsRightKept}
 use Rattle.map_waves.specs.declared.keeping.Kept.{Kept}
 use Rattle.op_jobs.specs.Beside.{IsNothing, IsBook, AreViewers, suits}
 use Rattle.op_jobs.specs.Owning.{IsLocalOf, IsOwn}
+use Rattle.op_jobs.specs.Ranges.{IsInRange, HasRanges}
 use Rattle.op_jobs.specs.Sound.{StatementJobs, IsSound}
 use Rattle.op_jobs.specs.declared.beside.Beside.{Beside}
 use Rattle.op_jobs.specs.declared.beside.Beside.TheVariants.{Nothing, Book, Viewers}
 use Rattle.op_jobs.specs.declared.own.Own.{Own}
 use Rattle.op_jobs.specs.declared.own.Own.TheVariants as an_own
 
--- ---- the operation is well formed
+-- ---- the numbers of the operation are in range
 
 each_once : {A : Type 0} (P : A → Type 0) → ((x : A) → IsProp (P x)) → (xs : List A) → IsProp (Each P xs)
 each_once P p [] = Unit-prop
 each_once P p (x ∷ xs) = ×_prop (p x) (each_once P p xs)
 
-term_once : (t : Term) → IsProp (IsTerm t)
-term_once (layer_term n) = hlevel props
+term_once : (t : Term) → IsProp (IsInRange t)
+term_once (layer_term n) = Unit-prop
 term_once (number_term z) = hlevel props
 
 cell_once : (c : Option _) → IsProp (IsCell c)
@@ -54,34 +55,34 @@ radius_once : (r : Option ℕ) → IsProp (IsRadius r)
 radius_once None = Unit-prop
 radius_once (Some r) = hlevel props
 
-op_once : (op : Op) → IsProp (IsOp op)
-op_once (local_op s ts) = let each : IsProp (Each IsTerm ts) = each_once IsTerm term_once ts in hlevel (each, props)
+op_once : (op : Op) → IsProp (HasRanges op)
+op_once (local_op s ts) = let each : IsProp (Each IsInRange ts) = each_once IsInRange term_once ts in hlevel (each, props)
 op_once (difference_op t u) = ×_prop (term_once t) (term_once u)
 op_once (ratio_op t u) = ×_prop (term_once t) (term_once u)
 op_once (rating_op t rs) =
-    let one : IsProp (IsTerm t) = term_once t in
+    let one : IsProp (IsInRange t) = term_once t in
     let each : IsProp (Each IsRate rs) = each_once IsRate rate_once rs in
     hlevel (one, each, props)
 op_once (focal_op s r t) =
     let stat : IsProp (IsNoProduct s) = no_product_once s in
     let radius : IsProp (IsRadius r) = radius_once r in
-    let one : IsProp (IsTerm t) = term_once t in
+    let one : IsProp (IsInRange t) = term_once t in
     hlevel (stat, radius, one)
 op_once (zonal_op s t u) =
     let stat : IsProp (IsNoProduct s) = no_product_once s in
-    let one : IsProp (IsTerm t) = term_once t in
-    let other : IsProp (IsTerm u) = term_once u in
+    let one : IsProp (IsInRange t) = term_once t in
+    let other : IsProp (IsInRange u) = term_once u in
     hlevel (stat, one, other)
 op_once (form_op f t) = term_once t
 op_once (direction_op t) = term_once t
 op_once (flow_op t u) = ×_prop (term_once t) (term_once u)
 op_once (spread_op limit t u) =
-    let one : IsProp (IsTerm t) = term_once t in
-    let other : IsProp (IsTerm u) = term_once u in
+    let one : IsProp (IsInRange t) = term_once t in
+    let other : IsProp (IsInRange u) = term_once u in
     hlevel (one, other, props)
 op_once (sight_op s t u) =
-    let one : IsProp (IsTerm t) = term_once t in
-    let other : IsProp (IsTerm u) = term_once u in
+    let one : IsProp (IsInRange t) = term_once t in
+    let other : IsProp (IsInRange u) = term_once u in
     hlevel (one, other, props)
 op_once (region_op t) = term_once t
 
@@ -134,7 +135,7 @@ own_once s op operands was (an_own.Whole set) = hlevel props
 
 sound_once : (j : StatementJobs) → IsProp (IsSound j)
 sound_once j =
-    let formed : IsProp (IsOp (op_view j.op)) = op_once (op_view j.op) in
+    let formed : IsProp (HasRanges (op_view j.op)) = op_once (op_view j.op) in
     let right : IsProp (IsRightKept suits j.size (op_view j.op) j.operands j.kept) = right_once j.size (op_view j.op) j.operands j.kept in
     let own : IsProp (IsOwn j.size (op_view j.op) j.operands (was_in j) j.own) = own_once j.size (op_view j.op) j.operands (was_in j) j.own in
     hlevel (formed, right, own, props)

@@ -10,7 +10,11 @@ use Rattle.map_defs.proofs.RegionCells.{same_is, same_so}
 use Rattle.layer_tiles.specs.Tiles.{tile_cells, tile_block, Block}
 use Rattle.layer_tiles.proofs.Rounds.{here, back}
 use Rattle.layer_tiles.proofs.Strides.{same_tile, get_or-strided}
-use Rattle.op_jobs.proofs.Felt.{any_so, any_one}
+use Rattle.damage_sets.proofs.Whole.{any_so, any_one}
+
+-- a place of the tile that passes
+pub has_one : (s : Size) (test : ℕ → Bool) (t : ℕ) → tile_has s test t ≡ true → (i : ℕ) × (i < cells_in s) × (test i ≡ true) × (tile_of s i ≡ t)
+has_one s test t e = let a = any_one (λ i. tile_of s i == t) test (cells_in s) e in (a.0, a.1, a.2, eqb-true (tile_of s a.0) t a.3)
 
 module _ (s : Size) (was now : Cells) (size : IsSize s) where
   -- a cell of a tile that has no other cell
@@ -44,9 +48,8 @@ module _ (s : Size) (was now : Cells) (size : IsSize s) where
       which : (v : Bool) → v ≡ tile_has s (differs was now) t → tile_has s (differs was now) t ≡ false
       which false e = sym e
       which true e =
-          let a = any_one (λ i. tile_of s i == t) (differs was now) (cells_in s) (sym e) in
-          let at = eqb-true (tile_of s a.0) t a.3 in
-          let cell = cell_of_tile a.0 a.1 (ap (tile_cells s was) at ∙ same ∙ ap (tile_cells s now) (sym at)) in
+          let a = has_one s (differs was now) t (sym e) in
+          let cell = cell_of_tile a.0 a.1 (ap (tile_cells s was) a.3 ∙ same ∙ ap (tile_cells s now) (sym a.3)) in
           let none : differs was now a.0 ≡ false = ap not (same_so (cell_at was a.0) (cell_at now a.0) cell) in
           let clash = sym a.2 ∙ none in
           absurd cc

@@ -2,6 +2,7 @@
 use Rattle.std.proofs.Common.{◌≡◌, ℕ, ◌<◌, Bool, true, false, List, [], ◌∷◌, length, get_or, replicate, Some, None, refl, sym, ◌∙◌, ap, subst, arith}
 use Rattle.std.specs.Prelude.{◌==◌, ◌||◌}
 use Rattle.std.specs.List.{filter, list_any}
+use Rattle.std.proofs.Math.Bool.{or-false}
 use Rattle.std.proofs.lemmas.Bool.{or_left, or_right}
 use Rattle.std.proofs.lemmas.List.{get_or-replicate}
 use Rattle.std.proofs.lemmas.List.FromFn.{get_or-map-range_with_len}
@@ -30,21 +31,17 @@ use Rattle.op_jobs.proofs.Felt.{felt, Stays}
 use Rattle.op_jobs.proofs.Following.{by_places, local_stays, focal_stays, form_stays, direction_stays}
 use Rattle.op_jobs.proofs.Near.{same_operand}
 use Rattle.op_jobs.proofs.SightStays.{sight_same}
-use Rattle.op_jobs.proofs.Listing.{range_all, filter_same, filter_all}
+use Rattle.op_jobs.proofs.Listing.{range_all, tests_same, filter_all}
 
 -- ---- the tests
 
-none_passes : (q : ℕ → Bool) (xs : List ℕ) → list_any q (filter (λ i. false) xs) ≡ false
+pub none_passes : (q : ℕ → Bool) (xs : List ℕ) → list_any q (filter (λ i. false) xs) ≡ false
 none_passes q [] = refl
 none_passes q (x ∷ xs) = none_passes q xs
 
-or_false : (b : Bool) → (b || false) ≡ b
-or_false true = refl
-or_false false = refl
-
 module _ (s : Size) (before after : List Cells) (was now : Cells) (t : ℕ) where
   quiet_or : (b : Bool) → (b || tile_has s (λ i. false) t) ≡ b
-  quiet_or b = ap (λ x. b || x) (none_passes (λ i. tile_of s i == t) (places s)) ∙ or_false b
+  quiet_or b = ap (λ x. b || x) (none_passes (λ i. tile_of s i == t) (places s)) ∙ or-false b
 
   pub damaged_is : (op : Op) → by_reach op ≡ true → is_damaged op s before after was now t ≡ square_has (reach_of op) s (has_changed before after) t
   damaged_is (local_op stat ts) e = quiet_or (square_has 0 s (has_changed before after) t)
@@ -63,8 +60,7 @@ module _ (s : Size) (before after : List Cells) (was now : Cells) (t : ℕ) wher
 -- ---- the set of tiles, as a list
 
 set_list : (s : Size) (test : ℕ → Bool) → filter (has_tile (set_by s test)) (tiles s) ≡ filter test (tiles s)
-set_list s test = filter_same (has_tile (set_by s test)) test (tiles s)
-    (range_all (λ t. has_tile (set_by s test) t ≡ test t) (tiles_in s) (λ t l. get_or-map-range_with_len test 0 (tiles_in s) t t false l (omega arith)))
+set_list s test = tests_same (has_tile (set_by s test)) test (tiles_in s) (λ t l. get_or-map-range_with_len test 0 (tiles_in s) t t false l (omega arith))
 
 pub reached_list : (s : Size) (op : Op) (operands : List ChangeState) (was : Cells) → by_reach op ≡ true → filter (has_tile (damage_of (reach_of op) s operands)) (tiles s) ≡ damage_by s op (Some was) operands
 unfolding op_damage
@@ -72,8 +68,7 @@ reached_list s op operands was e =
     let test : ℕ → Bool = square_has (reach_of op) s (has_changed (cells_were operands) (cells_after operands)) in
     let now = made s op (cells_after operands) in
     set_list s test
-    ∙ filter_same test (is_damaged op s (cells_were operands) (cells_after operands) was now) (tiles s)
-    (range_all (λ t. test t ≡ is_damaged op s (cells_were operands) (cells_after operands) was now t) (tiles_in s) (λ t l. sym (damaged_is s (cells_were operands) (cells_after operands) was now t op e)))
+    ∙ tests_same test (is_damaged op s (cells_were operands) (cells_after operands) was now) (tiles_in s) (λ t l. sym (damaged_is s (cells_were operands) (cells_after operands) was now t op e))
 
 pub all_list : (s : Size) (op : Op) (operands : List ChangeState) → filter (has_tile (record { size = s; marks = replicate (tiles_in s) true })) (tiles s) ≡ damage_by s op None operands
 unfolding op_damage

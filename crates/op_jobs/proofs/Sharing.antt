@@ -1,19 +1,18 @@
 -- What jobs share is right for their statement.
-use Rattle.std.proofs.Common.{◌≡◌, ℕ, ◌<◌, ◌≤◌, true, List, [], ◌∷◌, length, Option, Some, None, refl, sym, ◌∙◌, ap, subst, arith, IsTrue, IsFalse}
+use Rattle.std.proofs.Common.{◌≡◌, ℕ, ◌<◌, true, List, [], ◌∷◌, length, Option, Some, None, refl, sym, ◌∙◌, ap, subst, arith, IsTrue, IsFalse}
 use Rattle.std.specs.Prelude.{filter, nat_lt, IfSome}
 use Rattle.std.specs.List.{All}
 use Rattle.std.specs.Borrow.{Bor}
 use Rattle.std.specs.Option.{IsSome}
 use Rattle.map_nums.specs.Grids.{Size, Cells}
 use Rattle.map_nums.specs.Tiles.{tiles, tiles_in}
-use Rattle.map_defs.specs.Ops.{Op, terms_of, local_op, difference_op, ratio_op, rating_op, focal_op, zonal_op, form_op, direction_op, flow_op, spread_op, sight_op, region_op}
+use Rattle.map_defs.specs.Ops.{Op, local_op, difference_op, ratio_op, rating_op, focal_op, zonal_op, form_op, direction_op, flow_op, spread_op, sight_op, region_op}
 use Rattle.map_defs.specs.Damage.{has_work, reach_of}
 use Rattle.map_defs.specs.Sight.{most_viewers}
 use Rattle.layer_tiles.specs.Changes.{ChangeState}
 use Rattle.layer_tiles.specs.Operands.{size_of}
 use Rattle.damage_sets.specs.Sets.{TileSetState, has_tile}
 use Rattle.damage_sets.specs.Damage.{damage_of}
-use Rattle.statement_parser.specs.Formed.{IsOp}
 use Rattle.statement_parser.specs.Views.{op_view}
 use Rattle.map_waves.specs.Statements.{damage_by, viewers_in}
 use Rattle.map_waves.specs.Operands.{IsOperand}
@@ -39,34 +38,6 @@ size_is s (c ∷ rest) some are = (are 0 c (omega arith)).size
 
 pub one_size : (s : Size) (operands : List ChangeState) → All (IsOperand s) operands → All (λ c. c.size ≡ s) operands
 one_size s operands are k d l = (are k d l).size
-
-pub terms_some : (op : Op) → IsOp op → 0 < length (terms_of op)
-terms_some (local_op stat ts) is = omega (arith, is.0)
-terms_some (difference_op t u) is = omega arith
-terms_some (ratio_op t u) is = omega arith
-terms_some (rating_op t rates) is = omega arith
-terms_some (focal_op stat r t) is = omega arith
-terms_some (zonal_op stat t u) is = omega arith
-terms_some (form_op form t) is = omega arith
-terms_some (direction_op t) is = omega arith
-terms_some (flow_op t u) is = omega arith
-terms_some (spread_op limit t u) is = omega arith
-terms_some (sight_op sight t u) is = omega arith
-terms_some (region_op t) is = omega arith
-
-pub terms_few : (op : Op) → IsOp op → length (terms_of op) ≤ 8
-terms_few (local_op stat ts) is = is.1
-terms_few (difference_op t u) is = omega arith
-terms_few (ratio_op t u) is = omega arith
-terms_few (rating_op t rates) is = omega arith
-terms_few (focal_op stat r t) is = omega arith
-terms_few (zonal_op stat t u) is = omega arith
-terms_few (form_op form t) is = omega arith
-terms_few (direction_op t) is = omega arith
-terms_few (flow_op t u) is = omega arith
-terms_few (spread_op limit t u) is = omega arith
-terms_few (sight_op sight t u) is = omega arith
-terms_few (region_op t) is = omega arith
 
 -- ---- what is kept
 

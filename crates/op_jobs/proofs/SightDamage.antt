@@ -1,7 +1,8 @@
 -- The damage of a sight statement.
-use Rattle.std.proofs.Common.{◌≡◌, ℕ, zero, suc, cond, ◌+◌, ◌*◌, ◌<◌, ◌≤◌, Bool, true, false, ◌||◌, List, [], ◌∷◌, length, Option, Some, None, IsSome, refl, ◌∙◌, ap, arith}
+use Rattle.std.proofs.Common.{◌≡◌, ℕ, ◌+◌, ◌*◌, ◌<◌, ◌≤◌, Bool, true, false, ◌||◌, List, [], ◌∷◌, length, Option, Some, None, IsSome, refl, ◌∙◌, ap, arith}
 use Rattle.std.specs.Prelude.{◌==◌, filter, is_some}
-use Rattle.std.specs.List.{All, list_any, range_with_len}
+use Rattle.std.specs.List.{All}
+use Rattle.std.proofs.Math.Bool.{or-false}
 use Rattle.std.proofs.lemmas.Bool.{or_left, or_right}
 use Rattle.std.proofs.lemmas.List.FromFn.{get_or-map-range_with_len, length-range_with_len}
 use Rattle.map_nums.specs.Grids.{Size, Cells, cells_in, places}
@@ -23,25 +24,19 @@ use Rattle.map_waves.specs.Statements.{cells_were, made, damage_by}
 use Rattle.op_jobs.specs.Sight.{felt_tiles}
 use Rattle.op_jobs.proofs.SightStays.{square_so}
 use Rattle.op_jobs.proofs.ZonalBook.{first_in, second_in}
-use Rattle.op_jobs.proofs.ZonalDamage.{filter_same, touched_is}
-use Rattle.op_jobs.proofs.ZonalPasses.{has_one}
+use Rattle.op_jobs.proofs.Listing.{range_all, filter_fewer, tests_same}
+use Rattle.op_jobs.proofs.Quiet.{has_one}
+use Rattle.op_jobs.proofs.Reached.{none_passes}
+use Rattle.op_jobs.proofs.ZonalDamage.{touched_is}
 
 -- ---- the damage in other words
-
-none_pass : (p : ℕ → Bool) (xs : List ℕ) → list_any p (filter (λ i. false) xs) ≡ false
-none_pass p [] = refl
-none_pass p (x ∷ xs) = none_pass p xs
-
-or_false : (b : Bool) → (b || false) ≡ b
-or_false true = refl
-or_false false = refl
 
 damage_then : (sight : Sighting) (t u : Term) (s : Size) (cells : Cells) (operands : List ChangeState) → damage_by s (sight_op sight t u) (Some cells) operands ≡ felt_tiles true sight.reach s operands
 unfolding op_damage
 damage_then sight t u s cells operands =
     let test = has_changed (cells_were operands) (cells_after operands) in
-    filter_same (is_damaged (sight_op sight t u) s (cells_were operands) (cells_after operands) cells (made s (sight_op sight t u) (cells_after operands))) (square_has sight.reach s test) (tiles_in s) 0
-    (λ k l. ap (λ b. square_has sight.reach s test k || b) (none_pass (λ i. tile_of s i == k) (places s)) ∙ or_false (square_has sight.reach s test k))
+    tests_same (is_damaged (sight_op sight t u) s (cells_were operands) (cells_after operands) cells (made s (sight_op sight t u) (cells_after operands))) (square_has sight.reach s test) (tiles_in s)
+    (λ k l. ap (λ b. square_has sight.reach s test k || b) (none_passes (λ i. tile_of s i == k) (places s)) ∙ or-false (square_has sight.reach s test k))
 
 pub damage_felt : (sight : Sighting) (t u : Term) (s : Size) (was : Option Cells) (operands : List ChangeState) (r : ℕ) (there : Bool) → sight.reach ≡ r → is_some was ≡ there → damage_by s (sight_op sight t u) was operands ≡ felt_tiles there r s operands
 unfolding op_damage
@@ -56,7 +51,7 @@ felt_list r s operands set size e =
     let test = square_has r s (has_changed (cells_were operands) (cells_after operands)) in
     let is : set ≡ damage_of r s operands = e ∙ ap (λ (x : Size). damage_of r x operands) size in
     ap (λ (d : TileSetState). filter (has_tile d) (tiles d.size)) is
-    ∙ filter_same (has_tile (damage_of r s operands)) test (tiles_in s) 0 (λ t l. get_or-map-range_with_len test 0 (tiles_in s) t t false (omega (arith, l)) (omega arith))
+    ∙ tests_same (has_tile (damage_of r s operands)) test (tiles_in s) (λ t l. get_or-map-range_with_len test 0 (tiles_in s) t t false l (omega arith))
 
 -- ---- looks
 
@@ -67,18 +62,8 @@ felt_here r s test t l i m e h =
     square_so r s test t i m e (square_from_near r s t i l m near)
 
 -- tests of the tiles of a grid
-fewer_range : (p q : ℕ → Bool) (n k : ℕ) → ((t : ℕ) → t < k + n → p t ≡ true → q t ≡ true) → length (filter p (range_with_len k n)) ≤ length (filter q (range_with_len k n))
-fewer_range p q zero k h = omega arith
-fewer_range p q (suc n) k h = at (p k) (q k) (h k (omega arith)) (fewer_range p q n (k + 1) (λ t l. h t (omega (arith, l))))
-  where
-    at : (v w : Bool) → (v ≡ true → w ≡ true) → length (filter p (range_with_len (k + 1) n)) ≤ length (filter q (range_with_len (k + 1) n)) → length (cond v (k ∷ filter p (range_with_len (k + 1) n)) (filter p (range_with_len (k + 1) n))) ≤ length (cond w (k ∷ filter q (range_with_len (k + 1) n)) (filter q (range_with_len (k + 1) n)))
-    at true true g l = omega (arith, l)
-    at true false g l = let e : false ≡ true = g refl in absurd (cc)
-    at false true g l = omega (arith, l)
-    at false false g l = l
-
 fewer_tiles : (p q : ℕ → Bool) (s : Size) → ((t : ℕ) → t < tiles_in s → p t ≡ true → q t ≡ true) → length (filter p (tiles s)) ≤ length (filter q (tiles s))
-fewer_tiles p q s h = fewer_range p q (tiles_in s) 0 (λ t l. h t (omega (arith, l)))
+fewer_tiles p q s h = filter_fewer p q (tiles s) (range_all (λ t. p t ≡ true → q t ≡ true) (tiles_in s) h)
 
 module _ (r : ℕ) (s : Size) (v z : ChangeState) (first : IsOperand s v) (second : IsOperand s z) (v_there : IsSome v.before) (z_there : IsSome z.before) where
   abbrev test : ℕ → Bool

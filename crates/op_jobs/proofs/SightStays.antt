@@ -2,13 +2,12 @@
 use Rattle.std.proofs.Common.{◌≡◌, ℕ, zero, suc, ◌+◌, ◌-◌, ◌*◌, ◌/◌, ◌%◌, ◌<◌, ◌≤◌, Bool, true, false, ◌&&◌, nat_le, cond, List, [], ◌∷◌, length, get_or, map, Option, Some, None, ℤ, pos, ◌+ℤ◌, refl, sym, ◌∙◌, ap, arith}
 use Rattle.std.specs.Prelude.{filter, nat_abs}
 use Rattle.std.specs.List.{Contains, range_with_len}
-use Rattle.std.proofs.lemmas.Bool.{or_parts, and_parts, and_from, leb-true}
-use Rattle.std.proofs.lemmas.List.Folds.{list_any_at}
-use Rattle.std.proofs.lemmas.List.FromFn.{get_or-map-range_with_len, length-range_with_len}
+use Rattle.std.proofs.lemmas.Bool.{or_parts, and_parts, leb-true}
+use Rattle.std.proofs.lemmas.List.FromFn.{get_or-map-range_with_len}
 use Rattle.std.proofs.lemmas.Nat.{div_below, mod_below, div-mul-add, mod-mul-add, mul-add-lt}
 use Rattle.map_nums.specs.declared.Stat.TheVariants.{Sum}
 use Rattle.map_nums.specs.Stats.{statistic_of}
-use Rattle.map_nums.specs.Grids.{Size, IsSize, Cells, cell_at, cells_in, places, row_of, column_of, gap, numbers_in}
+use Rattle.map_nums.specs.Grids.{Size, IsSize, Cells, cell_at, cells_in, row_of, column_of, gap, numbers_in}
 use Rattle.map_defs.specs.Sight.{Sighting, apart, steps, between, is_under, is_free, sees, sees_from, sight_at, sight_grid}
 use Rattle.map_defs.specs.Tiles.{is_in_square}
 use Rattle.map_defs.specs.Operate.{operate}
@@ -22,13 +21,14 @@ use Rattle.layer_tiles.specs.Changes.{ChangeState, cells_before}
 use Rattle.layer_tiles.specs.Operands.{cells_after}
 use Rattle.layer_tiles.proofs.Rounds.{here}
 use Rattle.layer_tiles.proofs.Strides.{same_tile}
-use Rattle.changed_cells.proofs.Joining.{differs_not, place_is}
+use Rattle.changed_cells.proofs.Joining.{differs_not}
 use Rattle.sight_lines.specs.Lines.{line_cell, is_line_free}
 use Rattle.sight_lines.proofs.Steps.{on_line, abs_is}
 use Rattle.sight_lines.proofs.Free.{same_between, steps_are}
 use Rattle.sight_lines.proofs.OnMap.{free_on}
 use Rattle.map_waves.specs.Statements.{cells_were, made, damage_by}
-use Rattle.op_jobs.proofs.ZonalPasses.{not_passing, any_filter}
+use Rattle.damage_sets.proofs.Whole.{any_so}
+use Rattle.op_jobs.proofs.Listing.{not_passing}
 
 -- ---- lists
 
@@ -48,10 +48,7 @@ picked f g p q (suc n) k same =
 
 -- the square of a tile has a place that passes
 pub square_so : (r : ℕ) (s : Size) (test : ℕ → Bool) (t i : ℕ) → i < cells_in s → test i ≡ true → is_in_square r s t i ≡ true → square_has r s test t ≡ true
-square_so r s test t i l e f =
-    any_filter (is_in_square r s t) test (places s)
-    ∙ list_any_at (λ x. test x && is_in_square r s t x) (places s) i 0 (omega (arith, l, length-range_with_len 0 (cells_in s)))
-    (ap (λ x. test x && is_in_square r s t x) (place_is s i l) ∙ and_from (test i) (is_in_square r s t i) e f)
+square_so r s test t i l e f = any_so (is_in_square r s t) test (cells_in s) i l e f
 
 -- ---- a place
 

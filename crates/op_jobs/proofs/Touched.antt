@@ -1,9 +1,9 @@
 -- The tiles that an operand's patch holds are damaged.
 use Rattle.std.proofs.Common.{◌≡◌, ℕ, ◌*◌, ◌<◌, ◌≤◌, Bool, true, false, List, [], ◌∷◌, length, get_or, map, Option, Some, None, refl, sym, ◌∙◌, ap, subst, arith}
-use Rattle.std.specs.Prelude.{◌==◌, ◌||◌, unwrap_or, is_some, ℤ}
+use Rattle.std.specs.Prelude.{◌||◌, unwrap_or, is_some, ℤ}
 use Rattle.std.specs.List.{All, filter, list_any, zip}
 use Rattle.std.specs.Option.{IsSome}
-use Rattle.std.proofs.lemmas.Bool.{or_left, eqb-true}
+use Rattle.std.proofs.lemmas.Bool.{or_left}
 use Rattle.std.proofs.lemmas.List.Folds.{list_any_at}
 use Rattle.std.proofs.lemmas.List.Sums.{sum_by-le}
 use Rattle.map_nums.specs.Grids.{Size, Cells, cells_in}
@@ -18,8 +18,9 @@ use Rattle.layer_tiles.specs.Operands.{cells_after}
 use Rattle.damage_sets.specs.Damage.{touched_in}
 use Rattle.map_waves.specs.Statements.{cells_were, made, damage_by}
 use Rattle.map_waves.specs.Operands.{IsOperand}
-use Rattle.op_jobs.proofs.Felt.{any_one, any_so}
+use Rattle.damage_sets.proofs.Whole.{any_so}
 use Rattle.op_jobs.proofs.Listing.{range_all, filter_fewer}
+use Rattle.op_jobs.proofs.Quiet.{has_one}
 
 zipped : {X : Type 0} (test : Cells → Cells → Bool) (f g : X → Cells) (xs : List X) → list_any (λ p. test p.0 p.1) (zip (map f xs) (map g xs)) ≡ list_any (λ x. test (f x) (g x)) xs
 zipped test f g [] = refl
@@ -39,9 +40,9 @@ module _ (s : Size) (op : Op) (operands : List ChangeState) (was now : Cells) wh
   changed_damaged : (k t : ℕ) (d : ChangeState) → k < length operands → t < tiles_in s → tile_has s (differs (cells_before (get_or operands k d)) (get_or operands k d).cells) t ≡ true → is_damaged op s (cells_were operands) (cells_after operands) was now t ≡ true
   changed_damaged k t d l m e =
       let c = get_or operands k d in
-      let a = any_one (λ i. tile_of s i == t) (differs (cells_before c) c.cells) (cells_in s) e in
+      let a = has_one s (differs (cells_before c) c.cells) t e in
       or_left (square_has (reach_of op) s (has_changed (cells_were operands) (cells_after operands)) t) (tile_has s (is_damaged_at op s (cells_were operands) (cells_after operands) was now) t)
-      (any_so (is_in_square (reach_of op) s t) (has_changed (cells_were operands) (cells_after operands)) (cells_in s) a.0 a.1 (one_changed operands k a.0 d l a.2) (in_own_square (reach_of op) s t a.0 m a.1 (eqb-true (tile_of s a.0) t a.3)))
+      (any_so (is_in_square (reach_of op) s t) (has_changed (cells_were operands) (cells_after operands)) (cells_in s) a.0 a.1 (one_changed operands k a.0 d l a.2) (in_own_square (reach_of op) s t a.0 m a.1 a.3))
 
   operand_few : All (IsOperand s) operands → All (λ c. IsSome c.before) operands → All (λ c. length c.touched ≤ length (op_damage op s (cells_were operands) (cells_after operands) (Some was) now)) operands
   unfolding op_damage changed_tiles

@@ -1,10 +1,6 @@
 -- The operands of a statement that is repaired whole.
 use Rattle.std.proofs.Common.{◌≡◌, ◌≢◌, ℕ, zero, suc, ◌<◌, List, [], ◌∷◌, length, Some, None, refl, ◌∙◌, ap, arith, slice_get, ℤ, nat_abs, unsigned_abs, pos, negsuc}
-use Rattle.std.specs.List.{All}
-use Rattle.map_nums.specs.Grids.{Size}
 use Rattle.layer_tiles.specs.Changes.{ChangeState}
-use Rattle.layer_tiles.specs.Operands.{size_of}
-use Rattle.map_waves.specs.Operands.{IsOperand}
 
 pub some_at : (xs : List ChangeState) (k : ℕ) → k < length xs → slice_get xs k ≢ None
 some_at [] k l e = omega (arith, l)
@@ -21,10 +17,6 @@ pub only_is : (xs : List ChangeState) (a : ChangeState) → length xs ≡ 1 → 
 only_is [] a n e = absurd (omega (arith, n))
 only_is (x ∷ []) a n e = let p : x ≡ a = cc in ap (λ (z : ChangeState). z ∷ []) p
 only_is (x ∷ y ∷ xs) a n e = absurd (omega (arith, n))
-
-pub size_is : (s : Size) (xs : List ChangeState) → 0 < length xs → All (IsOperand s) xs → size_of xs ≡ s
-size_is s [] l all = absurd (omega (arith, l))
-size_is s (x ∷ xs) l all = (all 0 x (omega arith)).size
 
 pub magnitude_is : (z : ℤ) → unsigned_abs z ≡ nat_abs z
 magnitude_is (pos n) = refl

@@ -17,7 +17,7 @@ use Rattle.friction_spread.specs.Repairs as spreads
 use Rattle.region_labels.specs.Repairs as regions
 use Rattle.map_waves.specs.Operands.{IsOperand}
 use Rattle.map_waves.specs.Statements.{damage_by, work_by}
-use Rattle.statement_parser.specs.Formed.{IsOp}
+use Rattle.op_jobs.specs.Ranges.{HasRanges}
 use Rattle.op_jobs.specs.Whole.{IsRightBefore, IsWholeAnswer}
 use Rattle.op_jobs.proofs.WholeOperands.{magnitude_is}
 use Rattle.op_jobs.proofs.WholeFlow.{flow_before}
@@ -87,7 +87,7 @@ limit_value : (n : ℕ) (z : ℤ) → nat_abs z ≤ greatest_value → n ≡ uns
 limit_value n z l e = e ∙ ap (λ (x : ℤ). unsigned_abs x) (to_z-of_z w32 z (fits_signed_from_abs w32 z (omega (arith, l, magnitude_is z)))) ∙ magnitude_is z
 
 -- as it is written
-pub limit_is : (op : Op) (n : ℕ) (z : ℤ) (t u : Term) → op ≡ spread_op (nat_abs z) t u → IsOp op → n ≡ unsigned_abs (to_z w32 (of_z w32 z)) → op ≡ spread_op n t u
+pub limit_is : (op : Op) (n : ℕ) (z : ℤ) (t u : Term) → op ≡ spread_op (nat_abs z) t u → HasRanges op → n ≡ unsigned_abs (to_z w32 (of_z w32 z)) → op ≡ spread_op n t u
 limit_is op n z t u f formed e =
-    let h : IsOp (spread_op (nat_abs z) t u) = subst (λ (o : Op). IsOp o) f formed in
+    let h : HasRanges (spread_op (nat_abs z) t u) = subst (λ (o : Op). HasRanges o) f formed in
     f ∙ ap (λ (k : ℕ). spread_op k t u) (sym (limit_value n z h.0 e))

@@ -1,5 +1,5 @@
 -- The damage of a Zonal statement.
-use Rattle.std.proofs.Common.{◌≡◌, ℕ, zero, suc, ◌+◌, ◌*◌, ◌<◌, ◌≤◌, Bool, true, false, not, ◌||◌, cond, List, [], ◌∷◌, length, get_or, map, Option, Some, None, IsSome, ℤ, refl, sym, ◌∙◌, ap, subst, arith, ⊎_elim}
+use Rattle.std.proofs.Common.{◌≡◌, ℕ, ◌+◌, ◌*◌, ◌<◌, ◌≤◌, Bool, true, false, not, ◌||◌, List, [], ◌∷◌, length, get_or, map, Option, Some, None, IsSome, ℤ, refl, sym, ◌∙◌, ap, subst, arith, ⊎_elim}
 use Rattle.std.specs.Prelude.{◌==◌, filter, unwrap_or}
 use Rattle.std.specs.List.{Contains, count_by, list_any, range_with_len}
 use Rattle.std.specs.Ordering.{int_eq}
@@ -32,15 +32,9 @@ use Rattle.map_waves.specs.Operands.{IsOperand}
 use Rattle.map_waves.specs.Statements.{damage_by}
 use Rattle.op_jobs.specs.Zonal.{is_zonal_damaged, zonal_tiles, AreMarked}
 use Rattle.op_jobs.specs.ZonalZones.{HasOtherZone}
-use Rattle.op_jobs.proofs.ZonalPasses.{passes, has_one}
+use Rattle.op_jobs.proofs.Listing.{passes, tests_same}
+use Rattle.op_jobs.proofs.Quiet.{has_one}
 use Rattle.op_jobs.proofs.ZonalMarks.{at_held}
-
-pub filter_same : (p q : ℕ → Bool) (n k : ℕ) → ((t : ℕ) → t < k + n → p t ≡ q t) → filter p (range_with_len k n) ≡ filter q (range_with_len k n)
-filter_same p q zero k same = refl
-filter_same p q (suc n) k same =
-    let rest = filter_same p q n (k + 1) (λ t l. same t (omega (arith, l))) in
-    ap (λ v. cond v (k ∷ filter p (range_with_len (k + 1) n)) (filter p (range_with_len (k + 1) n))) (same k (omega arith))
-    ∙ ap (λ (ts : List ℕ). cond (q k) (k ∷ ts) ts) rest
 
 -- ---- zones with another statistic
 
@@ -94,7 +88,7 @@ module _ (stat : Stat) (s : Size) (values zones values' zones' : Cells) (zs : Li
   pub list_is : (set : TileSetState) (old : List Bool) → AreChangedZones zs s values zones values' zones' → set.size ≡ s → old ≡ map (square_has 0 s (has_changed before after)) (tiles s) → AreMarked s HasOther old set.marks → filter (has_tile set) (tiles set.size) ≡ filter (is_zonal_damaged stat s before after) (tiles s)
   list_is set old a size e m =
       ap (λ (x : Size). filter (has_tile set) (tiles x)) size
-      ∙ filter_same (has_tile set) (is_zonal_damaged stat s before after) (tiles_in s) 0 (λ t l. marks_are old set.marks t a e m (omega (arith, l)))
+      ∙ tests_same (has_tile set) (is_zonal_damaged stat s before after) (tiles_in s) (λ t l. marks_are old set.marks t a e m l)
 
 -- ---- looks
 

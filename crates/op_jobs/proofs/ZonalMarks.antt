@@ -3,13 +3,14 @@ use Rattle.std.proofs.Common.{◌≡◌, ◌⊎◌, inl, inr, ℕ, zero, suc, �
 use Rattle.std.specs.List.{AllPairs, Contains}
 use Rattle.std.proofs.lemmas.Bool.{cases_eq, cases_lt}
 use Rattle.std.proofs.lemmas.List.{get_or-set_same, get_or-set_other, length-set}
-use Rattle.std.proofs.lemmas.Option.{slice_get-get_or, slice_get_within}
+use Rattle.std.proofs.lemmas.Option.{same_Some, slice_get-get_or, slice_get_within}
 use Rattle.map_nums.specs.Grids.{Size, IsSize, Cells}
 use Rattle.layer_tiles.specs.Tiles.{tiles_in}
 use Rattle.layer_tiles.proofs.Rounds.{back}
 use Rattle.zonal_totals.specs.Tilings.{HasZone, IsZoneTile}
 use Rattle.op_jobs.specs.Zonal.{AreMarked}
 use Rattle.op_jobs.specs.ZonalZones.{AreTilesOf, IsAmongFirst}
+use Rattle.op_jobs.proofs.Listing.{in_all, nothing_in}
 
 -- ---- marks
 
@@ -67,11 +68,8 @@ marked_as s P R old new p to from = record {
 
 -- ---- places of a list
 
-some_is : {X : Type 0} (x y : X) → Some x ≡ Some y → x ≡ y
-some_is x y e = cc
-
 pub held_at : {X : Type 0} (xs : List X) (k : ℕ) (x : X) → slice_get xs k ≡ Some x → Contains xs x
-held_at xs k x e = let l = slice_get_within xs k x e in (k, l, some_is (get_or xs k x) x (sym (slice_get-get_or xs k x l) ∙ e))
+held_at xs k x e = let l = slice_get_within xs k x e in (k, l, same_Some (get_or xs k x) x (sym (slice_get-get_or xs k x l) ∙ e))
 
 pub at_held : {X : Type 0} (xs : List X) (x : X) → (c : Contains xs x) → slice_get xs c.0 ≡ Some x
 at_held xs x c = slice_get-get_or xs c.0 x c.1 ∙ ap Some c.2
@@ -102,12 +100,6 @@ in_tail : (x : ℕ) (xs : List ℕ) (t : ℕ) → x < t → Contains (x ∷ xs) 
 in_tail x xs t l (zero, h, e) = absurd (omega (arith, e))
 in_tail x xs t l (suc k, h, e) = (k, omega arith, e)
 
-in_all : (x : ℕ) (xs : List ℕ) (t : ℕ) → Contains xs t → Contains (x ∷ xs) t
-in_all x xs t (k, h, e) = (suc k, omega arith, e)
-
-nothing_in : (t : ℕ) → Contains [] t → ⊥
-nothing_in t c = absurd (omega (arith, c.1))
-
 pub same_rise : (xs ys : List ℕ) → Rises xs → Rises ys → ((t : ℕ) → Contains xs t → Contains ys t) → ((t : ℕ) → Contains ys t → Contains xs t) → xs ≡ ys
 same_rise [] [] a b f g = refl
 same_rise [] (y ∷ ys) a b f g = absurd (nothing_in y (g y (0, omega arith, refl)))
@@ -126,7 +118,7 @@ same_rise (x ∷ xs) (y ∷ ys) a b f g =
 pub place_most : (xs : List ℕ) → Rises xs → (k : ℕ) (t : ℕ) → slice_get xs k ≡ Some t → k ≤ t
 place_most xs a k t e =
     let l = slice_get_within xs k t e in
-    let is : get_or xs k t ≡ t = some_is (get_or xs k t) t (sym (slice_get-get_or xs k t l) ∙ e) in
+    let is : get_or xs k t ≡ t = same_Some (get_or xs k t) t (sym (slice_get-get_or xs k t l) ∙ e) in
     omega (arith, up k l, is)
   where
     up : (j : ℕ) → j < length xs → j ≤ get_or xs j t
@@ -158,7 +150,7 @@ module _ (s : Size) (zones : Cells) (z : ℤ) where
       marked_then s (IsAmongFirst list k) (λ u. u ≡ t) (IsAmongFirst list (k + 1)) old mid new m (marked_one s t mid new l e)
       (λ u h. ⊎_elim
       (λ (p : h.0 < k). inl (h.0, p, h.2))
-      (λ (p : k ≤ h.0). let j : h.0 ≡ k = omega (arith, h.1) in inr (some_is u t (sym h.2 ∙ ap (slice_get list) j ∙ here)))
+      (λ (p : k ≤ h.0). let j : h.0 ≡ k = omega (arith, h.1) in inr (same_Some u t (sym h.2 ∙ ap (slice_get list) j ∙ here)))
       (cases_lt h.0 k))
       (λ u h. (h.0, omega (arith, h.1), h.2))
       (λ u same. (k, omega arith, here ∙ ap Some (sym same)))

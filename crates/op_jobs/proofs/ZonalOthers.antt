@@ -1,6 +1,7 @@
 -- The tiles of one zone after another.
 use Rattle.std.proofs.Common.{◌≡◌, inl, inr, ℕ, ◌+◌, ◌<◌, ◌≤◌, Bool, true, false, not, List, Some, ℤ, sym, ◌∙◌, ap, subst, arith, ⊎_elim, slice_get}
 use Rattle.std.proofs.lemmas.Bool.{cases_lt}
+use Rattle.std.proofs.lemmas.Option.{same_Some}
 use Rattle.map_nums.specs.declared.Stat.{Stat}
 use Rattle.map_nums.specs.Grids.{Size, Cells}
 use Rattle.map_defs.specs.Cells.{same_cell}
@@ -9,9 +10,6 @@ use Rattle.zonal_totals.specs.Tilings.{HasZone}
 use Rattle.op_jobs.specs.Zonal.{AreMarked}
 use Rattle.op_jobs.specs.ZonalZones.{IsOfOther, HasOtherZone}
 use Rattle.op_jobs.proofs.ZonalMarks.{marked_none, marked_as, marked_then}
-
-some_is : (x y : ℤ) → Some x ≡ Some y → x ≡ y
-some_is x y e = cc
 
 module _ (stat : Stat) (s : Size) (values zones values' zones' : Cells) where
   abbrev is_other : ℤ → Bool
@@ -42,7 +40,7 @@ module _ (stat : Stat) (s : Size) (values zones values' zones' : Cells) where
       (λ (l : h.place < k). inl (record { place = h.place; below = l; zone = h.zone; listed = h.listed; is = h.is }))
       (λ (l : k ≤ h.place).
       let j : h.place ≡ k = omega (arith, h.below) in
-      let same : h.zone ≡ z = some_is h.zone z (sym h.listed ∙ ap (slice_get zs) j ∙ e) in
+      let same : h.zone ≡ z = same_Some h.zone z (sym h.listed ∙ ap (slice_get zs) j ∙ e) in
       inr (subst (λ (x : ℤ). IsOf x t) same h.is))
       (cases_lt h.place k))
       (λ t h. record { place = h.place; below = omega (arith, h.below); zone = h.zone; listed = h.listed; is = h.is })

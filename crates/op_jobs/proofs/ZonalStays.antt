@@ -1,38 +1,21 @@
 -- A tile outside the damage of a Zonal statement stays as it is.
-use Rattle.std.proofs.Common.{◌≡◌, ℕ, ◌+◌, ◌*◌, ◌<◌, Bool, true, false, List, [], ◌∷◌, length, Some, None, refl, sym, ◌∙◌, ap, arith}
+use Rattle.std.proofs.Common.{◌≡◌, ℕ, ◌<◌, List, [], ◌∷◌, length, Some, None, refl, sym, ◌∙◌, ap, arith}
 use Rattle.std.specs.List.{Contains, position}
 use Rattle.std.proofs.lemmas.Bool.{or_parts}
 use Rattle.map_nums.specs.declared.Stat.{Stat}
 use Rattle.map_nums.specs.Answers.{is_wide}
-use Rattle.map_nums.specs.Grids.{Size, IsSize, Cells, cells_in}
+use Rattle.map_nums.specs.Grids.{Size, IsSize, Cells}
 use Rattle.map_defs.specs.Zonal.{zonal_grid}
 use Rattle.map_defs.specs.Operate.{operate, operand}
-use Rattle.map_defs.specs.Differences.{differs, tile_has}
 use Rattle.map_defs.specs.Damage.{op_damage, is_damaged}
 use Rattle.map_defs.specs.Ops.{Term, zonal_op}
 use Rattle.map_defs.proofs.ZonalDamage.{zonal_damage}
-use Rattle.layer_tiles.specs.Tiles.{tiles_in, tile_of, tile_start, tile_cells}
+use Rattle.layer_tiles.specs.Tiles.{tiles_in, tile_cells}
 use Rattle.layer_tiles.specs.Changes.{ChangeState, cells_before}
 use Rattle.layer_tiles.specs.Operands.{cells_after}
-use Rattle.layer_tiles.proofs.Rounds.{here}
-use Rattle.layer_tiles.proofs.Strides.{same_tile}
-use Rattle.changed_cells.proofs.Joining.{differs_not}
-use Rattle.changed_cells.proofs.Touching.{has_so}
 use Rattle.map_waves.specs.Statements.{cells_were, made, damage_by, fault_in}
-use Rattle.op_jobs.proofs.ZonalPasses.{not_passing}
-
--- a tile without a changed cell has the same cells
-pub tile_stays : (s : Size) (was now : Cells) (t : ℕ) → IsSize s → t < tiles_in s → tile_has s (differs was now) t ≡ false → tile_cells s was t ≡ tile_cells s now t
-tile_stays s was now t size l e =
-    same_tile s was now t
-    (λ r c p q.
-    let h = here s t r c size l p q in
-    let i = tile_start s t + r * s.columns + c in
-    differs_not was now i (at i h.within h.tile (differs was now i) refl))
-  where
-    at : (i : ℕ) → i < cells_in s → tile_of s i ≡ t → (v : Bool) → differs was now i ≡ v → differs was now i ≡ false
-    at i m h true f = let g = has_so s (differs was now) t i m f h in absurd (cc (e, g))
-    at i m h false f = f
+use Rattle.op_jobs.proofs.Listing.{not_passing}
+use Rattle.op_jobs.proofs.Quiet.{same_of_quiet}
 
 pub zonal_stays : (stat : Stat) (t u : Term) (s : Size) (operands : List ChangeState) (was : Cells) (tile : ℕ) → IsSize s → tile < tiles_in s → length operands ≡ 2 → was ≡ made s (zonal_op stat t u) (cells_were operands) → (Contains (damage_by s (zonal_op stat t u) (Some was) operands) tile → ⊥) → tile_cells s was tile ≡ tile_cells s (made s (zonal_op stat t u) (cells_after operands)) tile
 unfolding op_damage operate
@@ -44,7 +27,7 @@ zonal_stays stat t u s (v ∷ z ∷ []) was tile size l n e out =
     let new = (zonal_grid stat s v.cells z.cells).cells in
     let off = not_passing (is_damaged (zonal_op stat t u) s (cells_before v ∷ cells_before z ∷ []) (v.cells ∷ z.cells ∷ []) old new) (tiles_in s) tile l out in
     let parts = or_parts _ _ (sym (zonal_damage stat s (cells_before v) (cells_before z) v.cells z.cells t u tile) ∙ off) in
-    ap (λ (cells : Cells). tile_cells s cells tile) e ∙ tile_stays s old new tile size l parts.1
+    ap (λ (cells : Cells). tile_cells s cells tile) e ∙ same_of_quiet s old new size tile l parts.1
 
 -- a statement without a fault has each cell in range
 pub range_from_faultless : (stat : Stat) (t u : Term) (s : Size) (operands : List Cells) → fault_in s (zonal_op stat t u) operands ≡ None → position is_wide (zonal_grid stat s (operand operands 0) (operand operands 1)).cells ≡ None

@@ -6,6 +6,7 @@ pub mod Kernels
 pub mod Others
 pub mod Owning
 pub mod Pieces
+pub mod Ranges
 pub mod Sound
 pub mod Tiling
 pub mod Whole

@@ -5,7 +5,6 @@ use Rattle.map_nums.specs.Grids.{IsSize, Cells}
 use Rattle.map_defs.specs.Ops.{terms_of}
 use Rattle.layer_tiles.specs.Operands.{cells_after}
 use Rattle.layer_tiles.specs.declared.kernels.KernelRefusal.{KernelRefusal}
-use Rattle.statement_parser.specs.Formed.{IsOp}
 use Rattle.statement_parser.specs.Views.{op_view}
 use Rattle.statement_parser.specs.declared.op.Op.{Op}
 use Rattle.map_waves.specs.Statements.{made, damage_by, work_by}
@@ -17,6 +16,7 @@ use Rattle.layer_tiles.specs.Patches.{PatchState}
 use Rattle.op_jobs.specs.Beside.{suits}
 use Rattle.op_jobs.specs.Owning.{IsOwn, count_of}
 use Rattle.op_jobs.specs.Pieces.{IsTilePiece, IsWholePiece}
+use Rattle.op_jobs.specs.Ranges.{HasRanges}
 use Rattle.op_jobs.specs.declared.beside.Beside.{Beside}
 use Rattle.damage_sets.specs.Sets.{TileSetState}
 use Rattle.op_jobs.specs.Whole.{count_either}
@@ -35,7 +35,7 @@ now_in j = made j.size (op_view j.op) (cells_after j.operands)
 
 pub record IsSound (j : StatementJobs) : Type 0 where
   pub size : IsSize j.size
-  pub formed : IsOp (op_view j.op)
+  pub formed : HasRanges (op_view j.op)
   pub terms : length j.operands ≡ length (terms_of (op_view j.op))
   pub operands_are : All (IsOperand j.size) j.operands
   pub right : IsRightKept suits j.size (op_view j.op) j.operands j.kept

@@ -1,5 +1,5 @@
 -- A statement whose layer is repaired whole: flow, spreading, regions.
-use Rattle.std.specs.Prelude.{◌≡◌, ℕ, ◌*◌, ◌||◌, is_some, List, length, filter, Option, Some, None, IsSome, Result, Ok, Err, ⊤}
+use Rattle.std.specs.Prelude.{◌≡◌, ℕ, ◌||◌, is_some, List, length, filter, Option, Some, None, IsSome, Result, Ok, Err, ⊤}
 use Rattle.std.specs.List.{All, position}
 use Rattle.map_nums.specs.Answers.{is_wide}
 use Rattle.map_nums.specs.Grids.{Size, Cells}
@@ -12,7 +12,6 @@ use Rattle.layer_tiles.specs.Patches.{PatchState, patch_get}
 use Rattle.layer_tiles.specs.declared.kernels.KernelRefusal.{KernelRefusal}
 use Rattle.layer_tiles.specs.declared.kernels.KernelRefusal.TheVariants.{Overflow, NoMemory}
 use Rattle.damage_sets.specs.Sets.{TileSetState, has_tile}
-use Rattle.damage_sets.specs.Damage.{touched_in}
 use Rattle.map_waves.specs.Statements.{cells_were, made}
 use Rattle.op_jobs.specs.Pieces.{IsWholeMade}
 
@@ -36,8 +35,3 @@ IsWholeAnswer s op was operands (Err NoMemory) = ⊤
 -- how many tiles a set or a patch has
 abbrev pub count_either : TileSetState → PatchState → ℕ
 count_either set patch = length (filter (λ t. has_tile set t || is_some (patch_get patch.tiles t)) (tiles patch.size))
-
--- the looks that finding the tiles in which an operand changed takes at most
-abbrev pub touching_looks : Option Cells → List ChangeState → ℕ
-touching_looks None operands = 0
-touching_looks (Some was) operands = 2 * touched_in operands

@@ -6,9 +6,9 @@ ghost use Rattle.layer_tiles.specs.Operands.{cells_after};
 ghost use Rattle.layer_tiles.specs.Tallies.{RisesBy};
 ghost use Rattle.map_waves.specs.Operands.{IsOperand};
 ghost use Rattle.map_waves.specs.Statements.{damage_by, work_by};
-ghost use Rattle.statement_parser.specs.Formed.{IsOp};
 ghost use Rattle.statement_parser.specs.Views.{op_view};
 ghost use Rattle.op_jobs.specs.Evaluated.{IsEvaluated};
+ghost use Rattle.op_jobs.specs.Ranges.{HasRanges};
 
 use crate::statements::Statements;
 use layer_tiles::{Extent, Layer, Operands, Tally};
@@ -30,7 +30,7 @@ pub fn evaluate<'o, 'a, M: Tally>(
     stamp: u64,
     tally: &mut M,
 ) -> Result<Layer, Unmade>
-    requires formed { IsOp (op_view op.now) }
+    requires formed { HasRanges (op_view op.now) }
     requires terms { length operands.now ≡ length (terms_of (op_view op.now)) }
     requires operands { All (IsOperand extent) operands.now }
     ensures layer { IsEvaluated extent (op_view op.now) (cells_after operands.now) stamp result }

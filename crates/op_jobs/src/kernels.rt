@@ -12,13 +12,14 @@ ghost use Rattle.layer_tiles.specs.Operands.{cells_after};
 ghost use Rattle.layer_tiles.specs.Tallies.{RisesBy};
 ghost use Rattle.layer_tiles.specs.Tiles.{tiles_in};
 ghost use Rattle.incremental_ops.specs.Shapes.{form_of as form_of_shape};
-ghost use Rattle.statement_parser.specs.Formed.{IsOp, IsRadius};
+ghost use Rattle.statement_parser.specs.Formed.{IsRadius};
 ghost use Rattle.statement_parser.specs.Forms.{form_of};
 ghost use Rattle.statement_parser.specs.Views.{op_view, reach_view};
 ghost use Rattle.map_waves.specs.Statements.{made};
 ghost use Rattle.map_waves.specs.Operands.{IsOperand};
 ghost use Rattle.op_jobs.specs.Beside.{suits};
 ghost use Rattle.op_jobs.specs.Owning.{IsLocalOf};
+ghost use Rattle.op_jobs.specs.Ranges.{HasRanges};
 
 use crate::beside::Beside;
 use crate::sight_jobs::tile_of_sights;
@@ -35,7 +36,7 @@ use std::alloc::Global;
 
 /// How many rows and columns off a changed operand cell is felt.
 pub(crate) fn felt_within(op: &Op) -> u32
-    requires { IsOp (op_view op.now) }
+    requires { HasRanges (op_view op.now) }
     ensures reach { result ≡ reach_of (op_view op.now) }
     ensures most { result ≤ 64 }
 {
@@ -86,7 +87,7 @@ fn shape_of(form: Form) -> Shape
 /// A Local operation as its kernel takes it; none of any other.
 #[tactic(auto, unfolding(map_defs::specs::Operate::operate))]
 pub(crate) fn local_of(alloc: Global, op: &Op) -> Result<Option<LocalOp>, NoMemory>
-    requires { IsOp (op_view op.now) }
+    requires { HasRanges (op_view op.now) }
     ensures { IfOk result (IsLocalOf (op_view op.now)) }
 {
     match op {
@@ -203,7 +204,7 @@ pub(crate) fn make_tile<M: Tally>(
     tile: u32,
     tally: &mut M,
 ) -> Result<Tile, KernelRefusal>
-    requires formed { IsOp (op_view op.now) }
+    requires formed { HasRanges (op_view op.now) }
     requires class { IsFalse (has_work (op_view op.now)) }
     requires local { IsLocalOf (op_view op.now) local.now }
     requires beside { suits extent (op_view op.now) (cells_after operands.now) beside.now }

@@ -9,7 +9,6 @@ ghost use Rattle.layer_tiles.specs.Operands.{cells_after};
 ghost use Rattle.layer_tiles.specs.Tallies.{RisesBy};
 ghost use Rattle.layer_tiles.specs.Tiles.{tiles_in};
 ghost use Rattle.sight_lines.specs.Puts.{sighting_of};
-ghost use Rattle.statement_parser.specs.Formed.{IsOp};
 ghost use Rattle.statement_parser.specs.Views.{op_view};
 ghost use Rattle.map_waves.specs.Answers.{IsHalt};
 ghost use Rattle.map_waves.specs.Keeping.{kept_now, was_of, IsRightKept};
@@ -18,6 +17,7 @@ ghost use Rattle.map_waves.specs.Statements.{damage_by, made};
 ghost use Rattle.op_jobs.specs.Beside.{suits, kept_viewers, AreViewers};
 ghost use Rattle.op_jobs.specs.Classes.{is_sight};
 ghost use Rattle.op_jobs.specs.Owning.{AreTileJobs};
+ghost use Rattle.op_jobs.specs.Ranges.{HasRanges};
 
 use crate::beside::Beside;
 use crate::own::TileJobs;
@@ -50,7 +50,7 @@ pub(crate) fn sight_jobs<M: Tally>(
     extent: Extent,
     tally: &mut M,
 ) -> Result<TileJobs, Halt>
-    requires formed { IsOp (op_view op.now) }
+    requires formed { HasRanges (op_view op.now) }
     requires sight { IsTrue (is_sight (op_view op.now)) }
     requires operands_are { All (IsOperand extent) operands.now }
     requires terms { length operands.now ≡ length (terms_of (op_view op.now)) }

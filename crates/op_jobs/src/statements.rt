@@ -6,7 +6,6 @@ ghost use Rattle.map_defs.specs.Damage.{has_work};
 ghost use Rattle.map_defs.specs.Ops.{terms_of};
 ghost use Rattle.layer_tiles.specs.Operands.{cells_after};
 ghost use Rattle.layer_tiles.specs.Tallies.{RisesBy};
-ghost use Rattle.statement_parser.specs.Formed.{IsOp};
 ghost use Rattle.statement_parser.specs.Views.{op_view};
 ghost use Rattle.map_waves.specs.Answers.{IsHalt};
 ghost use Rattle.map_waves.specs.Keeping.{kept_now, was_of, IsRightKept};
@@ -15,6 +14,7 @@ ghost use Rattle.map_waves.specs.Statements.{damage_by, work_by};
 ghost use Rattle.op_jobs.specs.Beside.{suits};
 ghost use Rattle.op_jobs.specs.Classes.{is_plain, is_sight, is_zonal};
 ghost use Rattle.op_jobs.specs.Owning.{IsOwn, count_of};
+ghost use Rattle.op_jobs.specs.Ranges.{HasRanges};
 ghost use Rattle.op_jobs.specs.Sound.{are_tiles, first_by};
 
 use crate::beside::Beside;
@@ -40,7 +40,7 @@ fn plain_own<M: Tally>(
     extent: Extent,
     tally: &mut M,
 ) -> Result<Own, Halt>
-    requires formed { IsOp (op_view op.now) }
+    requires formed { HasRanges (op_view op.now) }
     requires plain { IsTrue (is_plain (op_view op.now)) }
     requires operands_are { All (IsOperand extent) operands.now }
     requires terms { length operands.now ≡ length (terms_of (op_view op.now)) }
@@ -65,7 +65,7 @@ fn zonal_own<M: Tally>(
     extent: Extent,
     tally: &mut M,
 ) -> Result<Own, Halt>
-    requires formed { IsOp (op_view op.now) }
+    requires formed { HasRanges (op_view op.now) }
     requires zonal { IsTrue (is_zonal (op_view op.now)) }
     requires operands_are { All (IsOperand extent) operands.now }
     requires terms { length operands.now ≡ length (terms_of (op_view op.now)) }
@@ -90,7 +90,7 @@ fn sight_own<M: Tally>(
     extent: Extent,
     tally: &mut M,
 ) -> Result<Own, Halt>
-    requires formed { IsOp (op_view op.now) }
+    requires formed { HasRanges (op_view op.now) }
     requires sight { IsTrue (is_sight (op_view op.now)) }
     requires operands_are { All (IsOperand extent) operands.now }
     requires terms { length operands.now ≡ length (terms_of (op_view op.now)) }
@@ -115,7 +115,7 @@ fn whole_own<M: Tally>(
     extent: Extent,
     tally: &mut M,
 ) -> Result<Own, Halt>
-    requires formed { IsOp (op_view op.now) }
+    requires formed { HasRanges (op_view op.now) }
     requires class { IsTrue (has_work (op_view op.now)) }
     requires operands_are { All (IsOperand extent) operands.now }
     requires terms { length operands.now ≡ length (terms_of (op_view op.now)) }
@@ -140,7 +140,7 @@ fn own_of<M: Tally>(
     extent: Extent,
     tally: &mut M,
 ) -> Result<Own, Halt>
-    requires formed { IsOp (op_view op.now) }
+    requires formed { HasRanges (op_view op.now) }
     requires operands_are { All (IsOperand extent) operands.now }
     requires terms { length operands.now ≡ length (terms_of (op_view op.now)) }
     requires right { IsRightKept suits extent (op_view op.now) operands.now (kept_now kept) }
@@ -187,9 +187,9 @@ impl Maker for Statements {
     ghost use Rattle.map_waves.specs.Answers.{AreJobs};
     ghost use Rattle.map_waves.specs.Gathered.{IsRepaired};
     ghost use Rattle.map_waves.specs.Jobs.{was_in};
-    ghost use Rattle.statement_parser.specs.Formed.{IsOp};
     ghost use Rattle.statement_parser.specs.Views.{op_view};
     ghost use Rattle.op_jobs.specs.Beside.{suits as what_suits};
+    ghost use Rattle.op_jobs.specs.Ranges.{HasRanges};
     ghost use Rattle.op_jobs.specs.Sound.{IsSound, IsPiece, ArePieces, first as first_looks, looks as job_looks, picks as job_picks};
 
     type Op = Op;
@@ -202,7 +202,7 @@ impl Maker for Statements {
 
     ghost means = { op_view };
 
-    ghost formed = { λ o. IsOp (op_view o) };
+    ghost formed = { λ o. HasRanges (op_view o) };
 
     ghost suits = { what_suits };
 

@@ -5,7 +5,6 @@ ghost use Rattle.map_defs.specs.Ops.{terms_of};
 ghost use Rattle.layer_tiles.specs.Patches.{IsAboveLast};
 ghost use Rattle.layer_tiles.specs.Tallies.{RisesBy};
 ghost use Rattle.layer_tiles.specs.Tiles.{tiles_in};
-ghost use Rattle.statement_parser.specs.Formed.{IsOp};
 ghost use Rattle.statement_parser.specs.Views.{op_view};
 ghost use Rattle.map_waves.specs.Gathered.{IsRepaired};
 ghost use Rattle.map_waves.specs.Jobs.{was_in};
@@ -16,6 +15,7 @@ ghost use Rattle.op_jobs.specs.Classes.{is_plain};
 ghost use Rattle.op_jobs.specs.Others.{IsOther};
 ghost use Rattle.op_jobs.specs.Owning.{AreTileJobs, reached_looks, count_of};
 ghost use Rattle.op_jobs.specs.Pieces.{IsTilePiece, IsTilePatch, FitsTile, tiles_at};
+ghost use Rattle.op_jobs.specs.Ranges.{HasRanges};
 ghost use Rattle.op_jobs.specs.Sound.{IsSound, now_in, ArePieces, are_tiles, IsMadeOf};
 ghost use Rattle.op_jobs.specs.declared.own.Own.TheVariants.{Tiles};
 
@@ -39,7 +39,7 @@ pub(crate) fn tile_jobs<M: Tally>(
     extent: Extent,
     tally: &mut M,
 ) -> Result<TileJobs, NoMemory>
-    requires formed { IsOp (op_view op.now) }
+    requires formed { HasRanges (op_view op.now) }
     requires plain { IsTrue (is_plain (op_view op.now)) }
     requires operands_are { All (IsOperand extent) operands.now }
     requires terms { length operands.now ≡ length (terms_of (op_view op.now)) }

@@ -7,10 +7,10 @@ ghost use Rattle.map_defs.specs.Ops.{terms_of};
 ghost use Rattle.layer_tiles.specs.Operands.{size_of};
 ghost use Rattle.layer_tiles.specs.Tallies.{RisesBy};
 ghost use Rattle.tile_work.specs.Working.{before_of};
-ghost use Rattle.statement_parser.specs.Formed.{IsOp};
 ghost use Rattle.statement_parser.specs.Views.{op_view};
 ghost use Rattle.map_waves.specs.Operands.{IsOperand};
 ghost use Rattle.map_waves.specs.Statements.{damage_by, work_by};
+ghost use Rattle.op_jobs.specs.Ranges.{HasRanges};
 ghost use Rattle.op_jobs.specs.Whole.{IsRightBefore, IsWholeAnswer};
 
 use crate::whole_flow::repair_flow;
@@ -58,7 +58,7 @@ pub(crate) fn repair_whole<M: Tally>(
     old: Option<&Layer>,
     tally: &mut M,
 ) -> Result<(Patch, u64), KernelRefusal>
-    requires formed { IsOp (op_view op.now) }
+    requires formed { HasRanges (op_view op.now) }
     requires works { IsTrue (has_work (op_view op.now)) }
     requires terms { length operands.now ≡ length (terms_of (op_view op.now)) }
     requires operands { All (IsOperand (size_of operands.now)) operands.now }

@@ -8,7 +8,6 @@ ghost use Rattle.layer_tiles.specs.Answers.{IsTileAnswer};
 ghost use Rattle.layer_tiles.specs.Operands.{cells_after};
 ghost use Rattle.layer_tiles.specs.Tallies.{RisesBy};
 ghost use Rattle.layer_tiles.specs.Tiles.{tiles_in};
-ghost use Rattle.statement_parser.specs.Formed.{IsOp};
 ghost use Rattle.statement_parser.specs.Views.{op_view};
 ghost use Rattle.map_waves.specs.Keeping.{kept_now, was_of, IsRightKept};
 ghost use Rattle.map_waves.specs.Operands.{IsOperand};
@@ -16,6 +15,7 @@ ghost use Rattle.map_waves.specs.Statements.{damage_by, made};
 ghost use Rattle.op_jobs.specs.Beside.{suits, book_in, IsBook};
 ghost use Rattle.op_jobs.specs.Classes.{is_zonal};
 ghost use Rattle.op_jobs.specs.Owning.{AreTileJobs};
+ghost use Rattle.op_jobs.specs.Ranges.{HasRanges};
 
 use crate::beside::Beside;
 use crate::own::TileJobs;
@@ -49,7 +49,7 @@ pub(crate) fn zonal_jobs<M: Tally>(
     extent: Extent,
     tally: &mut M,
 ) -> Result<TileJobs, NoMemory>
-    requires formed { IsOp (op_view op.now) }
+    requires formed { HasRanges (op_view op.now) }
     requires zonal { IsTrue (is_zonal (op_view op.now)) }
     requires operands_are { All (IsOperand extent) operands.now }
     requires terms { length operands.now ≡ length (terms_of (op_view op.now)) }

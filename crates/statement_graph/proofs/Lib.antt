@@ -9,3 +9,4 @@ pub mod Exchanging
 pub mod Making
 pub mod Linking
 pub mod Settling
+pub mod ByDepth

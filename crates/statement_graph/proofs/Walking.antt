@@ -6,10 +6,10 @@ use Rattle.statement_graph.specs.declared.node.Entry.{Entry}
 use Rattle.statement_graph.specs.Seats.{node_at, nodes_at}
 use Rattle.statement_graph.proofs.Finding.{node_there}
 use Rattle.std.specs.List.{range_with_len}
-use Rattle.map_defs.specs.Nodes.{Node}
+use Rattle.map_defs.specs.Nodes.{Node, lacks}
 use Rattle.map_defs.specs.Depths.{depth_in, by_depth}
 use Rattle.statement_graph.specs.declared.row.Row.{Row}
-use Rattle.statement_graph.specs.Tables.{shown, kept, kept_at}
+use Rattle.statement_graph.specs.Tables.{need_at, shown, kept, kept_at}
 use Rattle.statement_graph.specs.Walks.{is_at_depth, at_depth}
 
 pub slice_get-append : {X : Type 0} (xs ys : List X) (k : ℕ) (x : X) → slice_get xs k ≡ Some x → slice_get (xs ++ ys) k ≡ Some x
@@ -17,8 +17,9 @@ slice_get-append [] ys k x e = absurd (none-some x e)
 slice_get-append (y ∷ xs) ys zero x e = e
 slice_get-append (y ∷ xs) ys (suc k) x e = slice_get-append xs ys k x e
 
-any_node : Node
-any_node = record { name = []; needs = None }
+is_some-map : {X Y : Type 0} (f : X → Y) (o : Option X) → is_some (option_map f o) ≡ is_some o
+is_some-map f None = refl
+is_some-map f (Some x) = refl
 
 -- one that isn't at the depth is passed
 pub passed : (p : Node → Bool) (nodes : List Node) (at : ℕ) (node : Node) → slice_get nodes at ≡ Some node → p node ≡ false → filter p (drop at nodes) ≡ filter p (drop (at + 1) nodes)
@@ -32,17 +33,23 @@ taken p [] at node e f = absurd (none-some node e)
 taken p (x ∷ xs) zero node e f = let same : x ≡ node = cc in let q : p x ≡ true = ap p same ∙ f in rw q (ap (λ y. y ∷ filter p xs) same)
 taken p (x ∷ xs) (suc i) node e f = rw add-one (rw add-one at (taken p xs i node e f))
 
--- the depth that a row keeps
-pub kept_depth : (all nodes : List Node) (rows : List Row) (at : ℕ) (row : Row) (node : Node) → map (λ r. kept (shown all r)) rows ≡ map (λ (node : Node). kept_at all node.name) nodes
-    → slice_get rows at ≡ Some row → slice_get nodes at ≡ Some node → row.depth ≡ depth_in all node.name
-kept_depth all nodes rows at row node table r n =
-    let left = slice_get-map (λ r. kept (shown all r)) rows at ∙ ap (option_map (λ r. kept (shown all r))) r in
-    let right = slice_get-map (λ (node : Node). kept_at all node.name) nodes at ∙ ap (option_map (λ (node : Node). kept_at all node.name)) n in
-    let both : Some (kept (shown all row)) ≡ Some (kept_at all node.name) = sym left ∙ ap (λ l. slice_get l at) table ∙ right in
-    let same : kept (shown all row) ≡ kept_at all node.name = cc in
-    ap (λ p. p.0) same
+-- what a row keeps
+module _ (all nodes : List Node) (rows : List Row) (at : ℕ) (row : Row) (node : Node) (table : map (λ r. kept (shown all r)) rows ≡ map (λ (node : Node). kept_at all node.name) nodes)
+    (r : slice_get rows at ≡ Some row) (n : slice_get nodes at ≡ Some node) where
+  kept_row : kept (shown all row) ≡ kept_at all node.name
+  kept_row =
+      let left = slice_get-map (λ r. kept (shown all r)) rows at ∙ ap (option_map (λ r. kept (shown all r))) r in
+      let right = slice_get-map (λ (node : Node). kept_at all node.name) nodes at ∙ ap (option_map (λ (node : Node). kept_at all node.name)) n in
+      let both : Some (kept (shown all row)) ≡ Some (kept_at all node.name) = sym left ∙ ap (λ l. slice_get l at) table ∙ right in
+      cc
 
-cond_none : (b : Bool) (x : Node) → None ≡ cond b (Some x) None → b ≡ false
+  pub kept_depth : row.depth ≡ depth_in all node.name
+  kept_depth = ap (λ p. p.0) kept_row
+
+  pub kept_lack : is_some row.lack ≡ is_some (lacks all node.name)
+  kept_lack = sym (is_some-map (need_at all) row.lack) ∙ ap (λ p. is_some p.1) kept_row ∙ is_some-map Some (lacks all node.name)
+
+pub cond_none : (b : Bool) (x : Node) → None ≡ cond b (Some x) None → b ≡ false
 cond_none true x e = absurd (none-some x e)
 cond_none false x e = refl
 
@@ -68,7 +75,7 @@ slice_get_tail x xs (suc k) h = let e : k ≡ suc k - 1 = omega arith in ap (sli
 
 -- ---- over all depths
 
-by_depth_is : (nodes : List Node) → by_depth nodes ≡ flat_map (at_depth nodes) (range_with_len 1 (length nodes))
+pub by_depth_is : (nodes : List Node) → by_depth nodes ≡ flat_map (at_depth nodes) (range_with_len 1 (length nodes))
 unfolding by_depth
 by_depth_is nodes = refl
 

@@ -8,3 +8,4 @@ pub mod Firsts
 pub mod Splices
 pub mod Links
 pub mod Stores
+pub mod Wholes

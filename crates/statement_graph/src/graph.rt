@@ -1,13 +1,15 @@
 //! The graph of names.
 
-ghost use Rattle.std.specs.Prelude.{◌≡◌, ◌+◌, ◌^◌, ◌<◌, ◌++◌, ◌∷◌, [], length, IfOk, OnErr, OnOk, IsFalse, option_copied, option_map, slice_get};
+ghost use Rattle.std.specs.Prelude.{◌≡◌, ◌+◌, ◌^◌, ◌<◌, ◌++◌, ◌∷◌, [], length, IfOk, OnErr, OnOk, IsFalse, map, option_copied, option_map, slice_get};
 ghost use Rattle.map_defs.specs.Nodes.{missing as missing_in};
 ghost use Rattle.map_defs.specs.Depths.{depth_of, by_depth};
 ghost use Rattle.statement_graph.specs.Groups.{nodes_in, has_group, drop_group};
 ghost use Rattle.statement_graph.specs.Puts.{flat_node, flat_nodes, source_node, FitsAs, IsPut};
+ghost use Rattle.statement_graph.specs.Wholes.{whole_nodes};
 
 use crate::links::{Links, count_needs};
 use crate::node::{Entry, Node};
+use crate::ordering::{Wanted, in_order};
 use crate::places::{copy_entries, cut_out, group_of, span_of, span_or_end};
 use crate::refusal::GraphRefusal;
 use crate::row::{BARE, Row, look, need_of, nth_flat, resettle};
@@ -96,6 +98,30 @@ impl Graph {
         ensures { option_map flat_node (option_copied result) ≡ slice_get (by_depth (nodes_in self.now)) k }
     {
         nth_flat(self.entries.as_slice(), self.rows.as_slice(), k as usize)
+    }
+
+    /// All flat statements by depth, then in order of place.
+    pub fn ordered(&self, alloc: Global) -> Result<Vec<&Node>, NoMemory>
+        ensures { IfOk result (λ v. map (λ b. flat_node b.now) v.items ≡ by_depth (nodes_in self.now)) }
+    {
+        in_order(
+            alloc,
+            Wanted::All,
+            self.entries.as_slice(),
+            self.rows.as_slice(),
+        )
+    }
+
+    /// The flat statements that lack no name, by depth, then in order of place.
+    pub fn whole(&self, alloc: Global) -> Result<Vec<&Node>, NoMemory>
+        ensures { IfOk result (λ v. map (λ b. flat_node b.now) v.items ≡ whole_nodes (nodes_in self.now)) }
+    {
+        in_order(
+            alloc,
+            Wanted::Whole,
+            self.entries.as_slice(),
+            self.rows.as_slice(),
+        )
     }
 
     /// A source, after all names that are there.

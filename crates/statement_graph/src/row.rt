@@ -320,7 +320,7 @@ pub(crate) enum Nth<'a> {
 }
 
 /// The flat statement of a place, where it is one of this depth.
-fn flat_at(entry: &Entry, row: Row, depth: u32) -> Option<&Node>
+pub(crate) fn flat_at(entry: &Entry, row: Row, depth: u32) -> Option<&Node>
     ensures { option_map flat_node (option_copied result) ≡ (if is_some (node_at entry.now).needs && (row.depth == depth) then Some (node_at entry.now) else None) }
 {
     if row.depth == depth {

@@ -1,5 +1,4 @@
 use Rattle.statement_parser.specs.Formed.{IsOp}
-use Rattle.statement_parser.specs.Views.{op_view}
 use Rattle.edit_plans.proofs.Forming.{planned_is_plan}
 use Rattle.edit_plans.proofs.Ordered.{planned_is_in_order, depths_rise}
 use Rattle.edit_plans.proofs.laws.planned_law.Goals as goal
@@ -8,7 +7,7 @@ pub returns-clause-plan : goal.returns-clause-plan
 returns-clause-plan g c = planned_is_plan
 
 pub returns-clause-order : goal.returns-clause-order
-returns-clause-order g c = planned_is_in_order (λ o. IsOp (op_view o))
+returns-clause-order g c = planned_is_in_order IsOp
 
 pub returns-clause-rise : goal.returns-clause-rise
 returns-clause-rise g c = depths_rise

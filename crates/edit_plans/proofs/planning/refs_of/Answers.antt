@@ -6,7 +6,8 @@ use Rattle.map_defs.specs.Ops.{terms_of}
 use Rattle.statement_parser.specs.Views.{op_view, term_view}
 use Rattle.statement_parser.proofs.TermLemmas.{past_last}
 use Rattle.edit_plans.specs.Planned.{ref_for, source_names}
-use Rattle.edit_plans.proofs.Operands.{none_of_all, none_where, refs_next}
+use Rattle.edit_plans.proofs.There.{none_where}
+use Rattle.edit_plans.proofs.Operands.{none_of_all, refs_next}
 use Rattle.edit_plans.proofs.planning.refs_of.Goals as goal
 
 pub ref_of-requires : goal.ref_of-requires

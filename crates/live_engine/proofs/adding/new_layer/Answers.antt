@@ -1,26 +1,37 @@
-use Rattle.std.proofs.Common.{refl, sym, ap, ◌∙◌}
-use Rattle.map_edits.specs.Edits as edits
-use Rattle.live_engine.specs.Held.{grid_of}
-use Rattle.live_engine.specs.Holdings.{seen_in, entries_in}
+use Rattle.std.proofs.Common.{refl, sym, subst, ◌∙◌}
+use Rattle.map_nums.specs.Grids.{constant}
+use Rattle.map_edits.specs.EditForms.{new_layer}
+use Rattle.map_edits.specs.Refusals.{exists_already}
+use Rattle.map_edits.specs.WholeEdits.{of_names}
 use Rattle.layer_tiles.specs.Layers.{LayerState}
-use Rattle.map_edits.specs.Entries.{find_def}
-use Rattle.live_engine.proofs.Accepting.{accept_err}
-use Rattle.live_engine.proofs.Editing.{none_from, new_exists, new_adds}
+use Rattle.kept_map.specs.Maps.{grid_of, seen}
+use Rattle.live_engine.specs.Accepts.{Accepts, ReadsWithin}
+use Rattle.live_engine.specs.Adding.{IsAdding}
+use Rattle.live_engine.proofs.AddedStates.{new_exists, new_adding}
+use Rattle.live_engine.proofs.Refusing.{accept_refused}
 use Rattle.live_engine.proofs.adding.new_layer.Goals as goal
 
 pub returns-then-has-clause-accepts : goal.returns-then-has-clause-accepts
 returns-then-has-clause-accepts g c =
-    let s = seen_in c.args.held.now in
-    (accept_err s (edits.new_layer c.args.name c.args.cell) (edits.exists_already c.args.name) (new_exists s c.args.name c.args.cell (sym c.has.ensures ∙ c.if-has.true)), refl)
-
-pub add_source-requires-clause-new : goal.add_source-requires-clause-new
-add_source-requires-clause-new g c = none_from (find_def (entries_in c.args.held.now) c.args.name) (sym c.has.ensures ∙ c.if-has.false)
-
-pub add_source-requires-clause-size : goal.add_source-requires-clause-size
-add_source-requires-clause-size g c = ap (λ (l : LayerState). l.size) c.in_ok-layer.ensures
+    let s = seen c.args.map.now in
+    (accept_refused s (of_names (new_layer c.args.name c.args.cell)) (exists_already c.args.name) (new_exists s c.args.name c.args.cell (sym c.has.ensures ∙ c.if-has.true)), refl)
 
 pub returns-clause-accepts : goal.returns-clause-accepts
 returns-clause-accepts g c =
-    let s = seen_in c.args.held.now in
-    c.add_source.ensures.accepts (edits.new_layer c.args.name c.args.cell)
-    (new_adds s c.args.name c.args.cell (sym c.has.ensures ∙ c.if-has.false) ∙ ap (λ (l : LayerState). edits.add_source s.entries c.args.name (grid_of l)) (sym c.in_ok-layer.ensures)) refl
+    let s = seen c.args.map.now in
+    let r = seen c.reserve.new.self in
+    let own = new_layer c.args.name c.args.cell in
+    let here : IsAdding s own c.args.name (constant s.names.size c.args.cell) = new_adding s c.args.name c.args.cell c.requires.plain (sym c.has.ensures ∙ c.if-has.false) in
+    let adding : IsAdding r own c.args.name (grid_of c.in_ok-layer.layer) =
+    subst (λ (l : LayerState). IsAdding r own c.args.name (grid_of l)) (sym c.in_ok-layer.ensures) (subst (λ q. IsAdding q own c.args.name (constant s.names.size c.args.cell)) (sym c.reserve.ensures.seen) here) in
+    subst (λ q. Accepts q (seen c.add_source.new.map) (of_names own) c.add_source.result) c.reserve.ensures.seen (c.add_source.ensures.accepts own adding)
+
+pub returns-clause-reads : goal.returns-clause-reads
+returns-clause-reads g c =
+    let s = seen c.args.map.now in
+    let r = seen c.reserve.new.self in
+    let own = new_layer c.args.name c.args.cell in
+    let here : IsAdding s own c.args.name (constant s.names.size c.args.cell) = new_adding s c.args.name c.args.cell c.requires.plain (sym c.has.ensures ∙ c.if-has.false) in
+    let adding : IsAdding r own c.args.name (grid_of c.in_ok-layer.layer) =
+    subst (λ (l : LayerState). IsAdding r own c.args.name (grid_of l)) (sym c.in_ok-layer.ensures) (subst (λ q. IsAdding q own c.args.name (constant s.names.size c.args.cell)) (sym c.reserve.ensures.seen) here) in
+    subst (λ q. ReadsWithin q (of_names own) (g.M.Tally.counts c.args.tally.now) (g.M.Tally.counts c.add_source.new.tally)) c.reserve.ensures.seen (c.add_source.ensures.reads own adding)

@@ -8,5 +8,5 @@ use Rattle.live_engine.proofs.limits.source_items.Goals as goal
 pub returns : goal.returns
 returns c =
     count_from_yields_List c.filter.result c.count.result c.count.ensures.ran
-    (YieldsList-from_filter _ is_source_item (YieldsList-at c.filter.ensures.source (YieldsList-from_rest (values_of c.args.names.now.entries) c.values.ensures.rest)) c.filter.ensures.closure (λ x r q k. search (rules, tests)))
-    ∙ length-filter is_source_item (values_of c.args.names.now.entries)
+    (YieldsList-from_filter _ is_source_item (YieldsList-at c.filter.ensures.source (YieldsList-from_rest (values_of c.args.map.now.names.entries) c.values.ensures.rest)) c.filter.ensures.closure (λ x r q k. search (rules, tests)))
+    ∙ length-filter is_source_item (values_of c.args.map.now.names.entries)

@@ -1,8 +1,11 @@
-use Rattle.std.proofs.Common.{sym, ap, subst, ◌∙◌}
+use Rattle.std.proofs.Common.{◌+◌, ◌*◌, length, sym, ap, subst, ◌∙◌, arith}
 use Rattle.map_nums.specs.Grids.{Size}
 use Rattle.layer_tiles.specs.Changes.{patched_change}
 use Rattle.layer_tiles.specs.Patches.{PatchState, IsPatch, patched}
 use Rattle.map_waves.specs.Operands.{IsOperand}
+use Rattle.layer_tiles.proofs.Rising.{rises_within, rises_looked}
+use Rattle.live_engine.specs.Painting.{rectangle_of, met_tiles}
+use Rattle.live_engine.proofs.MetTiles.{met_numbers}
 use Rattle.live_engine.proofs.Exact.{left_cells, left_operand}
 use Rattle.live_engine.proofs.painting.changed_by_paint.Goals as goal
 
@@ -19,3 +22,20 @@ returns-clause-operand g c =
     let layer = c.args.layer.now in
     let P : PatchState → Type 0 = λ x. IsOperand layer.size (patched_change layer x) in
     subst P (sym c.narrow.ensures.patch) (left_operand layer c.in_ok-patch.patch c.extent-extent.ensures.layer c.extent-patch.ensures.patch c.in_ok-patch.ensures.size)
+
+pub returns-clause-met : goal.returns-clause-met
+returns-clause-met g c =
+    let s = c.args.layer.now.size in
+    let e = c.in_ok-patch.ensures in
+    c.len-met.ensures.len ∙ met_numbers s (rectangle_of c.args.rectangle) c.in_ok-patch.patch c.extent-patch.ensures.patch e.size (λ t. (e.met t).0) (λ t. (e.met t).1)
+
+pub returns-clause-tally : goal.returns-clause-tally
+returns-clause-tally g c =
+    let s = c.args.layer.now.size in
+    let e = c.in_ok-patch.ensures in
+    let count = length (met_tiles s (rectangle_of c.args.rectangle)) in
+    let tiles = met_numbers s (rectangle_of c.args.rectangle) c.in_ok-patch.patch c.extent-patch.ensures.patch e.size (λ t. (e.met t).0) (λ t. (e.met t).1) in
+    rises_within (count + 2 * length c.in_ok-patch.patch.tiles) 0 (3 * count) 0 _ _ (omega (arith, tiles)) (omega arith) (rises_looked count 0 (2 * length c.in_ok-patch.patch.tiles) _ _ _ c.painted_tiles.ensures.tally c.narrow.ensures.looks)
+
+pub returns-in_err-patch-clause-tally : goal.returns-in_err-patch-clause-tally
+returns-in_err-patch-clause-tally g c = let count = length (met_tiles c.args.layer.now.size (rectangle_of c.args.rectangle)) in rises_within count 0 (3 * count) 0 _ _ (omega arith) (omega arith) c.painted_tiles.ensures.tally

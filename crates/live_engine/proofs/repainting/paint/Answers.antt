@@ -1,150 +1,310 @@
-use Rattle.std.proofs.Common.{◌≡◌, Some, None, bytes_eq, refl, sym, ap, subst, ◌∙◌}
-use Rattle.map_edits.specs.Edits as edits
-use Rattle.live_engine.specs.Accepts.{Refuses}
-use Rattle.live_engine.specs.Held.{grid_of}
-use Rattle.live_engine.specs.Holdings.{seen_in, entries_in}
-use Rattle.std.specs.Option.{option_copied}
-use Rattle.std.specs.Map.{lookup}
-use Rattle.map_nums.specs.Counts.{raised}
+use Rattle.std.proofs.Common.{◌≡◌, ◌*◌, ◌+◌, ◌≤◌, ℕ, List, length, true, false, position, Result, Ok, Err, Some, bytes_eq, get_or, slice_get, refl, sym, ap, subst, ◌∙◌, arith}
+use Rattle.std.proofs.lemmas.Option.{slice_get_read, slice_get_within, same_Some}
 use Rattle.map_nums.specs.Grids.{Size}
-use Rattle.layer_tiles.specs.Changes.{patched_change}
-use Rattle.map_waves.specs.Operands.{IsOperand}
-use Rattle.map_edits.specs.Entries.{source, put_entry}
-use Rattle.statement_parser.specs.Views.{written_view}
-use Rattle.live_engine.specs.Held.{flats_of}
-use Rattle.live_engine.specs.Painting.{rectangle_of}
-use Rattle.live_engine.specs.declared.held.Item.TheVariants.{Source, Statement}
-use Rattle.live_engine.proofs.Items.{held_item}
-use Rattle.live_engine.proofs.Groupings.{groups_repaint}
-use Rattle.live_engine.proofs.Lawful.{lawful_repaint}
-use Rattle.live_engine.proofs.Accepting.{accept_err, halted}
-use Rattle.live_engine.proofs.Editing.{accepts_after, kept_after, paint_unknown, paint_derived, paint_size, size_refused, paint_tiles, tiles_grid, def_there, item_def, painted_entries, painted_held}
-use Rattle.live_engine.proofs.Valuing.{parts_twice}
+use Rattle.map_defs.specs.Ops.{Name}
+use Rattle.layer_tiles.specs.Layers.{LayerState}
+use Rattle.layer_tiles.specs.Tallies.{TallyState, RisesBy}
+use Rattle.map_edits.specs.EditCounts.{Counts}
+use Rattle.map_edits.specs.Refusals.{Refusal, wrong_size}
+use Rattle.map_edits.specs.Counted.{Accepted}
+use Rattle.map_edits.specs.Painting.{is_within}
+use Rattle.map_edits.specs.StampsAfter.{stamped}
+use Rattle.map_edits.specs.WholeStates.{WholeState}
+use Rattle.edit_plans.specs.SourceCounts.{joined}
+use Rattle.procedure_expand.proofs.Plain.{plain_undotted}
+use Rattle.kept_map.specs.Maps.{seen}
+use Rattle.kept_map.specs.Keeps.{IsKept}
+use Rattle.kept_map.specs.Repairs.{counts_view, own_damage}
+use Rattle.kept_map.specs.declared.maps.KeptMap.{KeptMap}
+use Rattle.kept_map.proofs.Committed.{committed_prepared}
+use Rattle.kept_map.proofs.SourceLayers.{layer_at, source_at}
+use Rattle.live_engine.specs.Accepts.{Refuses}
+use Rattle.live_engine.specs.Painting.{rectangle_of, met_tiles}
+use Rattle.live_engine.specs.Settles.{CanSettle}
+use Rattle.live_engine.proofs.Accepting.{accepted_is, reads_tried, reads_more}
+use Rattle.live_engine.proofs.FewCounts.{few_changed, few_evaluated}
+use Rattle.live_engine.proofs.PaintedMaps.{edit, after, layer_size, paint_attempt, paint_same_plan, paint_sources_few, paint_flats_few, paint_damage, paint_set_up, paint_own, paint_leaves}
+use Rattle.live_engine.proofs.Refusing.{accept_refused, halted}
+use Rattle.live_engine.proofs.Settled.{can_settle, settled_commit}
+use Rattle.live_engine.proofs.Unpainted.{paint_outside}
 use Rattle.live_engine.proofs.repainting.paint.Goals as goal
 
-pub returns-in-None-clause-accepts : goal.returns-in-None-clause-accepts
-returns-in-None-clause-accepts g c =
-    let s = seen_in c.args.held.now in
-    let r = rectangle_of c.args.rectangle in (
-      accept_err s (edits.paint c.args.name r c.args.cell) (edits.unknown c.args.name)
-          (paint_unknown s c.args.name r c.args.cell (item_def c.args.held.now.names.entries c.args.name None (sym c.get.ensures.value ∙ ap option_copied c.in-None.is))),
-      refl,
-    )
+read_layer : (m : KeptMap) (n : Name) (place : ℕ) (l : LayerState) → IsKept m → position (bytes_eq n) m.sources.names.keys ≡ Some place → l ≡ get_or m.sources.layers.items place l → slice_get m.sources.layers.items place ≡ Some l
+read_layer m n place l kept at is =
+    let k = layer_at m.sources n kept.sources.count place at in
+    slice_get_read m.sources.layers.items (length m.sources.layers.items) place l refl (slice_get_within m.sources.layers.items place k.0 k.1) is
 
-pub returns-in-Some-Statement-clause-accepts : goal.returns-in-Some-Statement-clause-accepts
-returns-in-Some-Statement-clause-accepts g c =
-    let s = seen_in c.args.held.now in
-    let r = rectangle_of c.args.rectangle in
-    let written = c.in-Some-Statement.field-0-0 in
-    let there : lookup (bytes_eq c.args.name) c.args.held.now.names.entries ≡ Some (Statement written) = sym c.get.ensures.value ∙ ap option_copied c.in-Some-Statement.is ∙ ap Some c.in-Some-Statement.field-0-is in (
-      accept_err s (edits.paint c.args.name r c.args.cell) (edits.is_derived c.args.name)
-          (paint_derived s c.args.name r c.args.cell (written_view written) (flats_of c.args.name (written_view written)) (item_def c.args.held.now.names.entries c.args.name (Some (Statement written)) there)),
-      refl,
-    )
+abbrev refused_of : Refusal → Result Accepted Refusal
+refused_of r = Err r
+
+abbrev ok_of : Accepted → Result Accepted Refusal
+ok_of a = Ok a
+
+pub returns-in-Err-clause-accepts : goal.returns-in-Err-clause-accepts
+returns-in-Err-clause-accepts g c = c.in-Err.ensures.refused (rectangle_of c.args.rectangle) c.args.cell
 
 pub returns-then-not-is_within-clause-accepts : goal.returns-then-not-is_within-clause-accepts
 returns-then-not-is_within-clause-accepts g c =
-    let old = c.args.held.now in
+    let m = c.args.map.now in
     let n = c.args.name in
     let r = rectangle_of c.args.rectangle in
-    let layer = c.in-Some-Source.layer in
-    let there : lookup (bytes_eq n) old.names.entries ≡ Some (Source layer) = sym c.get.ensures.value ∙ ap option_copied c.in-Some-Source.is ∙ ap Some c.in-Some-Source.field-0-is in
-    let size : layer.size ≡ old.extent = held_item old.extent old.names.entries n c.requires.held (Source layer) there in (
-      size_refused (seen_in old) (edits.paint n r c.args.cell) c.rows.result c.columns.result
-          (paint_size (seen_in old) n r c.args.cell (grid_of layer) (def_there old.names.entries n layer there) (sym c.is_within.ensures ∙ c.if-not-is_within.true)) c.rows.ensures.rows c.columns.ensures.columns,
-      refl,
-    )
+    let cell = c.args.cell in
+    let place = c.in-Ok.place in
+    let kept = c.requires.kept in
+    let plain = plain_undotted n c.requires.formed.0 in
+    let at = c.in-Ok.ensures.place in
+    let k = layer_at m.sources n kept.sources.count place at in
+    let out : is_within m.extent r ≡ false = sym c.is_within.ensures ∙ c.if-not-is_within.true in
+    let told : record { rows = c.rows.result; columns = c.columns.result } ≡ m.extent = ap (λ k. record { rows = k; columns = c.columns.result }) c.rows.ensures.rows ∙ ap (λ k. record { rows = m.extent.rows; columns = k }) c.columns.ensures.columns in
+    (accept_refused (seen m) _ _ (paint_outside m kept n r cell k.0 (source_at m.sources n place at ∙ k.1) out) ∙ ap (λ (z : Size). refused_of (wrong_size z)) (sym told), refl)
 
-pub changed_by_paint-requires : goal.changed_by_paint-requires
-changed_by_paint-requires g c =
-    let old = c.args.held.now in
+pub returns-in_err-patch-clause-reads : goal.returns-in_err-patch-clause-reads
+returns-in_err-patch-clause-reads g c =
+    let m = c.args.map.now in
     let n = c.args.name in
     let r = rectangle_of c.args.rectangle in
-    let layer = c.in-Some-Source.layer in
-    let there : lookup (bytes_eq n) old.names.entries ≡ Some (Source layer) = sym c.get.ensures.value ∙ ap option_copied c.in-Some-Source.is ∙ ap Some c.in-Some-Source.field-0-is in
-    let size : layer.size ≡ old.extent = held_item old.extent old.names.entries n c.requires.held (Source layer) there in
-    ap (λ (s : Size). edits.is_within s r) size ∙ sym c.is_within.ensures ∙ c.if-not-is_within.false
+    let cell = c.args.cell in
+    let place = c.in-Ok.place in
+    let kept = c.requires.kept in
+    let plain = plain_undotted n c.requires.formed.0 in
+    let at = c.in-Ok.ensures.place in
+    let l = c.index-layer.result.now in
+    let there : slice_get m.sources.layers.items place ≡ Some l = read_layer m n place l kept at c.index-layer.ensures in
+    let on : is_within m.extent r ≡ true = sym c.is_within.ensures ∙ c.if-not-is_within.false in
+    let e = edit m n r cell place l kept plain at there on in
+    let t = after m n r cell place l kept plain at there on in
+    let same = paint_same_plan m n r cell place l kept plain at there on in
+    let size = layer_size m kept place l there in
+    let damage = paint_damage m n r cell place l kept plain at there on in
+    let count : length (met_tiles l.size r) ≡ length (met_tiles m.extent r) = ap (λ z. length (met_tiles z r)) size in
+    reads_tried (seen m) t e kept.lawful plain (paint_attempt m n r cell place l kept plain at there on) (3 * length (met_tiles l.size r)) _ _ (omega (arith, damage, count)) c.changed_by_paint.ensures.tally
 
-pub evaluated-requires-clause-shift : goal.evaluated-requires-clause-shift
-evaluated-requires-clause-shift g c =
-    let old = c.args.held.now in
+pub prepare_kept-requires-clause-set_up : goal.prepare_kept-requires-clause-set_up
+prepare_kept-requires-clause-set_up g c κs within =
+    let m = c.args.map.now in
     let n = c.args.name in
     let r = rectangle_of c.args.rectangle in
-    let layer = c.in-Some-Source.layer in
-    let there : lookup (bytes_eq n) old.names.entries ≡ Some (Source layer) = sym c.get.ensures.value ∙ ap option_copied c.in-Some-Source.is ∙ ap Some c.in-Some-Source.field-0-is in
-    let size : layer.size ≡ old.extent = held_item old.extent old.names.entries n c.requires.held (Source layer) there in
-    (size, c.in_ok-patch-in-Some-Source.ensures.size ∙ size, subst (λ (z : Size). IsOperand z (patched_change layer c.in_ok-patch-in-Some-Source.patch)) size c.in_ok-patch-in-Some-Source.ensures.operand)
+    let cell = c.args.cell in
+    let place = c.in-Ok.place in
+    let kept = c.requires.kept in
+    let plain = plain_undotted n c.requires.formed.0 in
+    let at = c.in-Ok.ensures.place in
+    let l = c.index-layer.result.now in
+    let there : slice_get m.sources.layers.items place ≡ Some l = read_layer m n place l kept at c.index-layer.ensures in
+    let on : is_within m.extent r ≡ true = sym c.is_within.ensures ∙ c.if-not-is_within.false in
+    let e = edit m n r cell place l kept plain at there on in
+    let t = after m n r cell place l kept plain at there on in
+    let same = paint_same_plan m n r cell place l kept plain at there on in
+    let size = layer_size m kept place l there in
+    let patch = c.in_ok-patch.ensures in
+    (e, t, paint_set_up m n r cell place l kept plain at there on _ patch.size patch.cells patch.operand, same)
 
-pub evaluated-requires-clause-graph : goal.evaluated-requires-clause-graph
-evaluated-requires-clause-graph g c =
-    let old = c.args.held.now in
+pub returns-in-Err-prepare_kept-clause-accepts : goal.returns-in-Err-prepare_kept-clause-accepts
+returns-in-Err-prepare_kept-clause-accepts g c =
+    let m = c.args.map.now in
     let n = c.args.name in
     let r = rectangle_of c.args.rectangle in
-    let layer = c.in-Some-Source.layer in
-    let there : lookup (bytes_eq n) old.names.entries ≡ Some (Source layer) = sym c.get.ensures.value ∙ ap option_copied c.in-Some-Source.is ∙ ap Some c.in-Some-Source.field-0-is in
-    let size : layer.size ≡ old.extent = held_item old.extent old.names.entries n c.requires.held (Source layer) there in
-    c.requires.graph_is ∙ groups_repaint (entries_in old) n (grid_of layer) (tiles_grid layer c.in_ok-patch-in-Some-Source.patch) (def_there old.names.entries n layer there)
+    let cell = c.args.cell in
+    let place = c.in-Ok.place in
+    let kept = c.requires.kept in
+    let plain = plain_undotted n c.requires.formed.0 in
+    let at = c.in-Ok.ensures.place in
+    let l = c.index-layer.result.now in
+    let there : slice_get m.sources.layers.items place ≡ Some l = read_layer m n place l kept at c.index-layer.ensures in
+    let on : is_within m.extent r ≡ true = sym c.is_within.ensures ∙ c.if-not-is_within.false in
+    let e = edit m n r cell place l kept plain at there on in
+    let t = after m n r cell place l kept plain at there on in
+    let same = paint_same_plan m n r cell place l kept plain at there on in
+    let size = layer_size m kept place l there in
+    let patch = c.in_ok-patch.ensures in
+    subst (Refuses (seen m) (seen m) e) (sym c.refused.ensures)
+    (halted (seen m) t e (paint_attempt m n r cell place l kept plain at there on) c.in-Err-prepare_kept.halt (c.in-Err-prepare_kept.ensures.halted e t (paint_set_up m n r cell place l kept plain at there on _ patch.size patch.cells patch.operand) same))
 
-pub evaluated-requires-clause-lawful : goal.evaluated-requires-clause-lawful
-evaluated-requires-clause-lawful g c =
-    let old = c.args.held.now in
+pub returns-in-Err-prepare_kept-clause-reads : goal.returns-in-Err-prepare_kept-clause-reads
+returns-in-Err-prepare_kept-clause-reads g c =
+    let m = c.args.map.now in
     let n = c.args.name in
     let r = rectangle_of c.args.rectangle in
-    let layer = c.in-Some-Source.layer in
-    let there : lookup (bytes_eq n) old.names.entries ≡ Some (Source layer) = sym c.get.ensures.value ∙ ap option_copied c.in-Some-Source.is ∙ ap Some c.in-Some-Source.field-0-is in
-    let size : layer.size ≡ old.extent = held_item old.extent old.names.entries n c.requires.held (Source layer) there in
-    lawful_repaint (entries_in old) n c.requires.lawful (grid_of layer) (tiles_grid layer c.in_ok-patch-in-Some-Source.patch) (def_there old.names.entries n layer there)
+    let cell = c.args.cell in
+    let place = c.in-Ok.place in
+    let kept = c.requires.kept in
+    let plain = plain_undotted n c.requires.formed.0 in
+    let at = c.in-Ok.ensures.place in
+    let l = c.index-layer.result.now in
+    let there : slice_get m.sources.layers.items place ≡ Some l = read_layer m n place l kept at c.index-layer.ensures in
+    let on : is_within m.extent r ≡ true = sym c.is_within.ensures ∙ c.if-not-is_within.false in
+    let e = edit m n r cell place l kept plain at there on in
+    let t = after m n r cell place l kept plain at there on in
+    let same = paint_same_plan m n r cell place l kept plain at there on in
+    let size = layer_size m kept place l there in
+    let patch = c.in_ok-patch.ensures in
+    let damage = paint_damage m n r cell place l kept plain at there on in
+    let count : length (met_tiles l.size r) ≡ length (met_tiles m.extent r) = ap (λ z. length (met_tiles z r)) size in
+    let rest = c.prepare_kept.ensures.tally e t (paint_set_up m n r cell place l kept plain at there on _ patch.size patch.cells patch.operand) same in
+    reads_more m e t (3 * length (met_tiles l.size r)) _ _ _ (omega (arith, damage, count)) c.changed_by_paint.ensures.tally rest
 
-pub returns-in-Ok-clause-accepts : goal.returns-in-Ok-clause-accepts
-returns-in-Ok-clause-accepts g c =
-    let old = c.args.held.now in
+pub joined-counts-requires-clause-changed : goal.joined-counts-requires-clause-changed
+joined-counts-requires-clause-changed g c =
+    let m = c.args.map.now in
     let n = c.args.name in
     let r = rectangle_of c.args.rectangle in
-    let layer = c.in-Some-Source.layer in
-    let there : lookup (bytes_eq n) old.names.entries ≡ Some (Source layer) = sym c.get.ensures.value ∙ ap option_copied c.in-Some-Source.is ∙ ap Some c.in-Some-Source.field-0-is in
-    let size : layer.size ≡ old.extent = held_item old.extent old.names.entries n c.requires.held (Source layer) there in
-    let patch = c.in_ok-patch-in-Some-Source.patch in
-    let new = c.put_painted.new.held in
-    accepts_after old new new.names.entries (put_entry (entries_in old) n (source (tiles_grid layer patch))) old.graph c.in-Ok.values.items c.put_painted.result c.put_painted.ensures.placed
-    (painted_entries old.names.entries n layer there patch (raised old.number 1) new.names.entries c.put_painted.ensures.tiles) c.in-Ok.ensures.values
-    (edits.paint n r c.args.cell) (paint_tiles (seen_in old) n r c.args.cell layer patch (def_there old.names.entries n layer there) (sym c.is_within.ensures ∙ c.if-not-is_within.false) size c.in_ok-patch-in-Some-Source.ensures.cells)
+    let cell = c.args.cell in
+    let place = c.in-Ok.place in
+    let kept = c.requires.kept in
+    let plain = plain_undotted n c.requires.formed.0 in
+    let at = c.in-Ok.ensures.place in
+    let l = c.index-layer.result.now in
+    let there : slice_get m.sources.layers.items place ≡ Some l = read_layer m n place l kept at c.index-layer.ensures in
+    let on : is_within m.extent r ≡ true = sym c.is_within.ensures ∙ c.if-not-is_within.false in
+    let e = edit m n r cell place l kept plain at there on in
+    let t = after m n r cell place l kept plain at there on in
+    let same = paint_same_plan m n r cell place l kept plain at there on in
+    let size = layer_size m kept place l there in
+    let patch = c.in_ok-patch.ensures in
+    let prepared = c.in-Ok-prepare_kept.prepared in
+    let is = c.in-Ok-prepare_kept.ensures.prepared e t (paint_set_up m n r cell place l kept plain at there on _ patch.size patch.cells patch.operand) same in
+    few_changed m kept e t _ m.sources.names.keys m.planned.names.keys m.planned.steps.items prepared is (paint_sources_few m n r cell place l kept plain at there on) (paint_flats_few m n r cell place l kept plain at there on)
 
-pub returns-in-Ok-clause-kept : goal.returns-in-Ok-clause-kept
-returns-in-Ok-clause-kept g c =
-    let old = c.args.held.now in
+pub joined-counts-requires-clause-evaluated : goal.joined-counts-requires-clause-evaluated
+joined-counts-requires-clause-evaluated g c =
+    let m = c.args.map.now in
     let n = c.args.name in
     let r = rectangle_of c.args.rectangle in
-    let layer = c.in-Some-Source.layer in
-    let there : lookup (bytes_eq n) old.names.entries ≡ Some (Source layer) = sym c.get.ensures.value ∙ ap option_copied c.in-Some-Source.is ∙ ap Some c.in-Some-Source.field-0-is in
-    let size : layer.size ≡ old.extent = held_item old.extent old.names.entries n c.requires.held (Source layer) there in
-    let patch = c.in_ok-patch-in-Some-Source.patch in
-    let new = c.put_painted.new.held in
-    kept_after old new new.names.entries (put_entry (entries_in old) n (source (tiles_grid layer patch))) old.graph c.in-Ok.values.items c.put_painted.result c.put_painted.ensures.placed
-    (painted_entries old.names.entries n layer there patch (raised old.number 1) new.names.entries c.put_painted.ensures.tiles) c.in-Ok.ensures.values
-    c.in-Ok.ensures.stamped (painted_held old.names.entries n layer there patch (raised old.number 1) new.names.entries c.put_painted.ensures.tiles old.extent size c.requires.held)
-    (lawful_repaint (entries_in old) n c.requires.lawful (grid_of layer) (tiles_grid layer patch) (def_there old.names.entries n layer there))
-    (c.requires.graph_is ∙ groups_repaint (entries_in old) n (grid_of layer) (tiles_grid layer patch) (def_there old.names.entries n layer there))
+    let cell = c.args.cell in
+    let place = c.in-Ok.place in
+    let kept = c.requires.kept in
+    let plain = plain_undotted n c.requires.formed.0 in
+    let at = c.in-Ok.ensures.place in
+    let l = c.index-layer.result.now in
+    let there : slice_get m.sources.layers.items place ≡ Some l = read_layer m n place l kept at c.index-layer.ensures in
+    let on : is_within m.extent r ≡ true = sym c.is_within.ensures ∙ c.if-not-is_within.false in
+    let e = edit m n r cell place l kept plain at there on in
+    let t = after m n r cell place l kept plain at there on in
+    let same = paint_same_plan m n r cell place l kept plain at there on in
+    let size = layer_size m kept place l there in
+    let patch = c.in_ok-patch.ensures in
+    let prepared = c.in-Ok-prepare_kept.prepared in
+    let is = c.in-Ok-prepare_kept.ensures.prepared e t (paint_set_up m n r cell place l kept plain at there on _ patch.size patch.cells patch.operand) same in
+    few_evaluated m kept e t _ m.sources.names.keys m.planned.names.keys m.planned.steps.items prepared is (paint_sources_few m n r cell place l kept plain at there on) (paint_flats_few m n r cell place l kept plain at there on)
+
+pub settle-requires : goal.settle-requires
+settle-requires g c =
+    let m = c.args.map.now in
+    let n = c.args.name in
+    let r = rectangle_of c.args.rectangle in
+    let cell = c.args.cell in
+    let place = c.in-Ok.place in
+    let kept = c.requires.kept in
+    let plain = plain_undotted n c.requires.formed.0 in
+    let at = c.in-Ok.ensures.place in
+    let l = c.index-layer.result.now in
+    let there : slice_get m.sources.layers.items place ≡ Some l = read_layer m n place l kept at c.index-layer.ensures in
+    let on : is_within m.extent r ≡ true = sym c.is_within.ensures ∙ c.if-not-is_within.false in
+    let e = edit m n r cell place l kept plain at there on in
+    let t = after m n r cell place l kept plain at there on in
+    let same = paint_same_plan m n r cell place l kept plain at there on in
+    let size = layer_size m kept place l there in
+    let patch = c.in_ok-patch.ensures in
+    let prepared = c.in-Ok-prepare_kept.prepared in
+    let is = c.in-Ok-prepare_kept.ensures.prepared e t (paint_set_up m n r cell place l kept plain at there on _ patch.size patch.cells patch.operand) same in
+    can_settle m e t _ prepared kept (paint_set_up m n r cell place l kept plain at there on _ patch.size patch.cells patch.operand) is
+
+pub repaint-requires : goal.repaint-requires
+repaint-requires g c =
+    let m = c.args.map.now in
+    let n = c.args.name in
+    let r = rectangle_of c.args.rectangle in
+    let cell = c.args.cell in
+    let place = c.in-Ok.place in
+    let kept = c.requires.kept in
+    let plain = plain_undotted n c.requires.formed.0 in
+    let at = c.in-Ok.ensures.place in
+    let l = c.index-layer.result.now in
+    let there : slice_get m.sources.layers.items place ≡ Some l = read_layer m n place l kept at c.index-layer.ensures in
+    let on : is_within m.extent r ≡ true = sym c.is_within.ensures ∙ c.if-not-is_within.false in
+    let e = edit m n r cell place l kept plain at there on in
+    let t = after m n r cell place l kept plain at there on in
+    let same = paint_same_plan m n r cell place l kept plain at there on in
+    let size = layer_size m kept place l there in
+    let patch = c.in_ok-patch.ensures in
+    let mid : slice_get c.settle.new.map.sources.layers.items place ≡ Some l = ap (λ (q : KeptMap). slice_get q.sources.layers.items place) c.settle.ensures.others ∙ there in
+    record { was = l; there = mid; within = slice_get_within c.settle.new.map.sources.layers.items place l mid; size = patch.size }
 
 pub returns-clause-accepts : goal.returns-clause-accepts
 returns-clause-accepts g c =
-    let old = c.args.held.now in
+    let m = c.args.map.now in
     let n = c.args.name in
     let r = rectangle_of c.args.rectangle in
-    let layer = c.in-Some-Source.layer in
-    let there : lookup (bytes_eq n) old.names.entries ≡ Some (Source layer) = sym c.get.ensures.value ∙ ap option_copied c.in-Some-Source.is ∙ ap Some c.in-Some-Source.field-0-is in
-    let size : layer.size ≡ old.extent = held_item old.extent old.names.entries n c.requires.held (Source layer) there in
-    let patch = c.in_ok-patch-in-Some-Source.patch in
-    subst (Refuses (seen_in old) (seen_in old) (edits.paint n r c.args.cell)) (sym c.refused.ensures)
-    (halted (seen_in old) (edits.paint n r c.args.cell) (put_entry (entries_in old) n (source (tiles_grid layer patch)))
-    (paint_tiles (seen_in old) n r c.args.cell layer patch (def_there old.names.entries n layer there) (sym c.is_within.ensures ∙ c.if-not-is_within.false) size c.in_ok-patch-in-Some-Source.ensures.cells)
-    (seen_in old) c.in-Err.halt refl c.in-Err.ensures.values refl)
+    let cell = c.args.cell in
+    let place = c.in-Ok.place in
+    let kept = c.requires.kept in
+    let plain = plain_undotted n c.requires.formed.0 in
+    let at = c.in-Ok.ensures.place in
+    let l = c.index-layer.result.now in
+    let there : slice_get m.sources.layers.items place ≡ Some l = read_layer m n place l kept at c.index-layer.ensures in
+    let on : is_within m.extent r ≡ true = sym c.is_within.ensures ∙ c.if-not-is_within.false in
+    let e = edit m n r cell place l kept plain at there on in
+    let t = after m n r cell place l kept plain at there on in
+    let same = paint_same_plan m n r cell place l kept plain at there on in
+    let size = layer_size m kept place l there in
+    let patch = c.in_ok-patch.ensures in
+    let prepared = c.in-Ok-prepare_kept.prepared in
+    let is = c.in-Ok-prepare_kept.ensures.prepared e t (paint_set_up m n r cell place l kept plain at there on _ patch.size patch.cells patch.operand) same in
+    let leaves = paint_leaves m n r cell place l kept plain at there on _ patch.size patch.cells patch.operand prepared is c.settle.new.map c.repaint.new.map c.settle.ensures c.repaint.ensures in
+    let done = committed_prepared m c.repaint.new.map e t _ m.sources.names.keys m.planned.names.keys m.planned.steps.items prepared kept (paint_set_up m n r cell place l kept plain at there on _ patch.size patch.cells patch.operand) is
+    (settled_commit m e t _ prepared kept (paint_set_up m n r cell place l kept plain at there on _ patch.size patch.cells patch.operand) is c.repaint.new.map leaves) in
+    let met : c.in_ok-patch.field-0.met ≡ length (met_tiles m.extent r) = patch.met ∙ ap (λ z. length (met_tiles z r)) size in (
+      accepted_is m e t _ m.sources.names.keys kept (paint_set_up m n r cell place l kept plain at there on _ patch.size patch.cells patch.operand) m.planned.names.keys m.planned.steps.items prepared is
+          ∙ ap (λ (q : Counts). ok_of (record { state = stamped (seen m) t; counts = joined q (counts_view prepared.counts) })) (paint_own m n r cell place l kept plain at there on (record { ref_ptr = (0, 0); now = c.in_ok-patch.field-0.patch }) patch.size patch.cells patch.operand c.in_ok-patch.field-0.met met)
+          ∙ ap (λ k. ok_of (record { state = stamped (seen m) t; counts = joined (record { changed = k; evaluated = c.in_ok-patch.field-0.met; worked = 0 }) (counts_view prepared.counts) })) (sym c.len.ensures.len)
+          ∙ ap (λ (q : Counts). ok_of (record { state = stamped (seen m) t; counts = q })) (sym c.joined-counts.ensures)
+          ∙ ap (λ (q : WholeState). ok_of (record { state = q; counts = counts_view c.joined-counts.result })) (sym done.1),
+      refl,
+    )
 
-pub returns-in-Ok-clause-parts : goal.returns-in-Ok-clause-parts
-returns-in-Ok-clause-parts g c =
-    parts_twice (g.M.Tally.counts c.args.tally.now) (g.M.Tally.counts c.changed_by_paint.new.tally) (g.M.Tally.counts c.evaluated.new.tally)
-    c.changed_by_paint.ensures.parts c.evaluated.ensures.parts
+pub returns-clause-kept : goal.returns-clause-kept
+returns-clause-kept g c =
+    let m = c.args.map.now in
+    let n = c.args.name in
+    let r = rectangle_of c.args.rectangle in
+    let cell = c.args.cell in
+    let place = c.in-Ok.place in
+    let kept = c.requires.kept in
+    let plain = plain_undotted n c.requires.formed.0 in
+    let at = c.in-Ok.ensures.place in
+    let l = c.index-layer.result.now in
+    let there : slice_get m.sources.layers.items place ≡ Some l = read_layer m n place l kept at c.index-layer.ensures in
+    let on : is_within m.extent r ≡ true = sym c.is_within.ensures ∙ c.if-not-is_within.false in
+    let e = edit m n r cell place l kept plain at there on in
+    let t = after m n r cell place l kept plain at there on in
+    let same = paint_same_plan m n r cell place l kept plain at there on in
+    let size = layer_size m kept place l there in
+    let patch = c.in_ok-patch.ensures in
+    let prepared = c.in-Ok-prepare_kept.prepared in
+    let is = c.in-Ok-prepare_kept.ensures.prepared e t (paint_set_up m n r cell place l kept plain at there on _ patch.size patch.cells patch.operand) same in
+    let leaves = paint_leaves m n r cell place l kept plain at there on _ patch.size patch.cells patch.operand prepared is c.settle.new.map c.repaint.new.map c.settle.ensures c.repaint.ensures in
+    (committed_prepared m c.repaint.new.map e t _ m.sources.names.keys m.planned.names.keys m.planned.steps.items prepared kept (paint_set_up m n r cell place l kept plain at there on _ patch.size patch.cells patch.operand) is
+    (settled_commit m e t _ prepared kept (paint_set_up m n r cell place l kept plain at there on _ patch.size patch.cells patch.operand) is c.repaint.new.map leaves)).0
 
-pub returns-clause-parts : goal.returns-clause-parts
-returns-clause-parts g c =
-    parts_twice (g.M.Tally.counts c.args.tally.now) (g.M.Tally.counts c.changed_by_paint.new.tally) (g.M.Tally.counts c.evaluated.new.tally)
-    c.changed_by_paint.ensures.parts c.evaluated.ensures.parts
+pub returns-clause-reads : goal.returns-clause-reads
+returns-clause-reads g c =
+    let m = c.args.map.now in
+    let n = c.args.name in
+    let r = rectangle_of c.args.rectangle in
+    let cell = c.args.cell in
+    let place = c.in-Ok.place in
+    let kept = c.requires.kept in
+    let plain = plain_undotted n c.requires.formed.0 in
+    let at = c.in-Ok.ensures.place in
+    let l = c.index-layer.result.now in
+    let there : slice_get m.sources.layers.items place ≡ Some l = read_layer m n place l kept at c.index-layer.ensures in
+    let on : is_within m.extent r ≡ true = sym c.is_within.ensures ∙ c.if-not-is_within.false in
+    let e = edit m n r cell place l kept plain at there on in
+    let t = after m n r cell place l kept plain at there on in
+    let same = paint_same_plan m n r cell place l kept plain at there on in
+    let size = layer_size m kept place l there in
+    let patch = c.in_ok-patch.ensures in
+    let damage = paint_damage m n r cell place l kept plain at there on in
+    let count : length (met_tiles l.size r) ≡ length (met_tiles m.extent r) = ap (λ z. length (met_tiles z r)) size in
+    let rest = c.prepare_kept.ensures.tally e t (paint_set_up m n r cell place l kept plain at there on _ patch.size patch.cells patch.operand) same in
+    reads_more m e t (3 * length (met_tiles l.size r)) _ _ _ (omega (arith, damage, count)) c.changed_by_paint.ensures.tally rest

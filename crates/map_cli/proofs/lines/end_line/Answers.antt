@@ -26,4 +26,4 @@ returns-clause-answered g c front was =
 pub returns-in_err-extend-clause-answered : goal.returns-in_err-extend-clause-answered
 returns-in_err-extend-clause-answered g c front was =
     let p = err_from_is_err_and c.from_residual.result c.from_residual.ensures.1 in
-    rw (p.1, p.2) (lacks_before c.args.session.now (without_return (front ++ c.args.bytes.now) ∷ []) (g.K.Sink.held c.args.sink.now) (g.K.Sink.faults c.args.sink.now))
+    rw (p.1, p.2) (lacks_before c.args.session.now (without_return (front ++ c.args.bytes.now) ∷ []) _)

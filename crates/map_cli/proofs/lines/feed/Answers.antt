@@ -5,30 +5,27 @@ use Rattle.map_cli.proofs.Feeding.{begins, line_stops, line_goes_on, rest_answer
 use Rattle.map_cli.proofs.lines.feed.Goals as goal
 
 pub loop-line-init : goal.loop-line-init
-loop-line-init g c = begins c.args.session.now (g.M.Tally.counts c.args.tally.now) (g.K.Sink.held c.args.sink.now) (g.K.Sink.faults c.args.sink.now) _ _ _ c.args.bytes.now
+loop-line-init g c = begins c.args.session.now _ _ _ _ c.args.bytes.now
 
 pub loop-line-preserved : goal.loop-line-preserved
 loop-line-preserved g c =
-    let K = g.K.Sink in
     let cut = c.in-Some.ensures in
     let ends = c.in_ok-end_line.ensures in
-    line_goes_on c.end_line.new.session (g.M.Tally.counts c.end_line.new.tally) (K.held c.end_line.new.sink) (K.faults c.end_line.new.sink)
+    line_goes_on c.end_line.new.session _
     c.end_line.new.piece.kept.items c.end_line.new.piece.count c.end_line.new.piece.returns c.in-Some.line.now c.in-Some.further.now
     c.loop-line.invariant cut.0 cut.1 (λ piece k. rw c.in-More.is at (ends.answered piece k)) (c.end_line.ensures.kept (c.in_ok-end_line.was ∙ ap Ok c.in-More.is)) ends.count ends.parts
 
 pub returns-in_err-end_line-clause-answered : goal.returns-in_err-end_line-clause-answered
 returns-in_err-end_line-clause-answered g c taken was =
-    let K = g.K.Sink in
     let cut = c.in-Some.ensures in
     let p = err_from_is_err_and c.from_residual.result c.from_residual.ensures.1 in
-    rw (p.1, p.2) (line_stops c.end_line.new.session (K.held c.end_line.new.sink) (K.faults c.end_line.new.sink) c.in-Some.line.now c.in-Some.further.now (Err c.in_err-end_line.field-0.0) (λ e. cc)
+    rw (p.1, p.2) (line_stops c.end_line.new.session _ c.in-Some.line.now c.in-Some.further.now (Err c.in_err-end_line.field-0.0) (λ e. cc)
     c.loop-line.invariant cut.0 cut.1 c.in_err-end_line.ensures.answered taken was)
 
 pub returns-in-Quit-clause-answered : goal.returns-in-Quit-clause-answered
 returns-in-Quit-clause-answered g c taken was =
-    let K = g.K.Sink in
     let cut = c.in-Some.ensures in
-    line_stops c.end_line.new.session (K.held c.end_line.new.sink) (K.faults c.end_line.new.sink) c.in-Some.line.now c.in-Some.further.now (Ok Quit) (λ e. cc)
+    line_stops c.end_line.new.session _ c.in-Some.line.now c.in-Some.further.now (Ok Quit) (λ e. cc)
     c.loop-line.invariant cut.0 cut.1 (λ piece k. rw c.in-Quit.is at (c.in_ok-end_line.ensures.answered piece k)) taken was
 
 pub returns-in_err-extend-clause-answered : goal.returns-in_err-extend-clause-answered

@@ -3,8 +3,9 @@ use Rattle.map_cli.proofs.Feeding.{Feeding}
 use Rattle.map_cli.proofs.lines.feed.Given as goal
 
 abbrev pub invariant-loop-line : goal.invariant-loop-line
-invariant-loop-line g l = Feeding l.initial.session l.session (g.M.Tally.counts l.initial.tally) (g.M.Tally.counts l.tally)
-    (g.K.Sink.held l.initial.sink) (g.K.Sink.held l.sink) (g.K.Sink.faults l.initial.sink) (g.K.Sink.faults l.sink)
+invariant-loop-line g l = Feeding l.initial.session l.session
+    (record { held = g.K.Sink.held l.initial.sink; faults = g.K.Sink.faults l.initial.sink; tally = g.M.Tally.counts l.initial.tally })
+    (record { held = g.K.Sink.held l.sink; faults = g.K.Sink.faults l.sink; tally = g.M.Tally.counts l.tally })
     l.initial.piece.kept.items l.piece.kept.items l.initial.piece.count l.piece.count l.initial.piece.returns l.piece.returns l.bytes l.rest
 
 abbrev pub decreases-loop-line : goal.decreases-loop-line

@@ -1,14 +1,14 @@
-use Rattle.std.proofs.Common.{List, sym, subst, Option, Some, Ok, Err}
+use Rattle.std.proofs.Common.{Some, Err}
 use Rattle.std.specs.Prelude.{IsTrue}
-use Rattle.map_words.specs.Names.{is_plain}
-use Rattle.map_outside.specs.Contents.{Files}
-use Rattle.map_cli.specs.Loads.{load_on}
 use Rattle.std.proofs.lemmas.Result.{err_from_is_err_and}
+use Rattle.map_words.specs.Names.{is_plain}
+use Rattle.map_cli.specs.Forms.{pair_read, pairs_read}
+use Rattle.map_cli.specs.Loads.{file_stage, further_stage}
 use Rattle.map_cli.specs.Stops.{status_of}
+use Rattle.map_cli.specs.declared.forms.Pair.{Pair as Read}
 use Rattle.map_cli.proofs.CountLemmas.{counts_then}
-use Rattle.map_cli.specs.Pairs.{pair_read, pairs_read}
-use Rattle.map_cli.specs.declared.words.Pair.{Pair as Read}
-use Rattle.map_cli.proofs.LoadLemmas.{LoadsFurther, none_further, load_then, load_stops, serves_rest, first_of_all, rest_of_all, no_pairs}
+use Rattle.map_cli.proofs.LoadLemmas.{first_then, serves_rest, first_of_all, rest_of_all, no_pairs, pairs_cut, further_at, further_none}
+use Rattle.map_cli.proofs.StageLemmas.{loads_stop}
 use Rattle.map_cli.proofs.opening.+load_further.Goals as goal
 
 pub load_further-requires-clause-serves : goal.load_further-requires-clause-serves
@@ -16,29 +16,15 @@ load_further-requires-clause-serves g t c κs within =
     let F = g.F.Shelf in
     serves_rest (F.serves c.args.shelf.now) (F.serves c.load_file.new.shelf) c.args.pairs.now c.in-Some.rest.now c.in-Some.pair.now c.in_ok-session-in-Some.ensures.names c.in-Some.ensures.cases.0 c.requires.serves
 
-pub returns-in_ok-session-in-Some-clause-loads : goal.returns-in_ok-session-in-Some-clause-loads
-returns-in_ok-session-in-Some-clause-loads g t c =
-    let F = g.F.Shelf in
-    let K = g.K.Sink in
-    let pair = c.in-Some.pair.now in
-    let rest = c.in-Some.rest.now in
-    let files = F.files c.args.shelf.now in
-    let most = c.args.setup.limits.file in
-    let P : List Read → Type 0 = λ ps. LoadsFurther files most (pairs_read ps) c.args.session (K.held c.args.sink.now) (K.held c.load_further.new.sink) c.load_further.result in
-    let Q : Option Files → Type 0 = λ held. LoadsFurther held most (pairs_read rest) c.in_ok-session-in-Some.session (K.held c.load_file.new.sink) (K.held c.load_further.new.sink) c.load_further.result in
-    subst P (sym c.in-Some.ensures.cases.0)
-    (load_then files most (load_on (Some c.args.session)) (pair_read pair) (pairs_read rest) (K.held c.args.sink.now) (K.held c.load_file.new.sink) (K.held c.load_further.new.sink) c.in_ok-session-in-Some.session c.load_further.result
-    c.in_ok-session-in-Some.ensures.loads (subst Q c.in_ok-session-in-Some.ensures.same c.load_further.ensures.loads))
+pub load_further-requires-clause-plain : goal.load_further-requires-clause-plain
+load_further-requires-clause-plain g t c κs within = rest_of_all (λ (q : Read). IsTrue (is_plain q.name.now)) c.args.pairs.now c.in-Some.rest.now c.in-Some.pair.now c.in-Some.ensures.cases.0 c.requires.plain
 
-pub returns-in_err-session-in-Some-clause-loads : goal.returns-in_err-session-in-Some-clause-loads
-returns-in_err-session-in-Some-clause-loads g t c =
-    let F = g.F.Shelf in
-    let K = g.K.Sink in
-    let p = err_from_is_err_and c.from_residual.result c.from_residual.ensures.1 in
-    let files = F.files c.args.shelf.now in
-    let most = c.args.setup.limits.file in
-    let P : List Read → Type 0 = λ ps. LoadsFurther files most (pairs_read ps) c.args.session (K.held c.args.sink.now) (K.held c.load_file.new.sink) (Err c.in_err-session-in-Some.field-0.0) in
-    rw (p.1, p.2) (subst P (sym c.in-Some.ensures.cases.0) (load_stops files most (load_on (Some c.args.session)) (pair_read c.in-Some.pair.now) (pairs_read c.in-Some.rest.now) (K.held c.args.sink.now) (K.held c.load_file.new.sink) _ c.in_err-session-in-Some.ensures.loads))
+pub load_file-requires-clause-plain : goal.load_file-requires-clause-plain
+load_file-requires-clause-plain g t c κs within = first_of_all (λ (q : Read). IsTrue (is_plain q.name.now)) c.args.pairs.now c.in-Some.rest.now c.in-Some.pair.now c.in-Some.ensures.cases.0 c.requires.plain
+
+pub load_file-requires-clause-serves : goal.load_file-requires-clause-serves
+load_file-requires-clause-serves g t c κs within =
+    first_of_all (λ (q : Read). IsTrue (g.F.Shelf.serves c.args.shelf.now q.file.now)) c.args.pairs.now c.in-Some.rest.now c.in-Some.pair.now c.in-Some.ensures.cases.0 c.requires.serves
 
 pub returns-in_err-session-in-Some-clause-counts : goal.returns-in_err-session-in-Some-clause-counts
 returns-in_err-session-in-Some-clause-counts g t c source =
@@ -48,19 +34,24 @@ returns-in_err-session-in-Some-clause-counts g t c source =
 pub returns-in_ok-session-in-Some-clause-counts : goal.returns-in_ok-session-in-Some-clause-counts
 returns-in_ok-session-in-Some-clause-counts g t c source = counts_then _ _ _ _ _ _ _ _ _ (status_of c.load_further.result) (c.in_ok-session-in-Some.ensures.counts source) (c.load_further.ensures.counts source)
 
-pub load_file-requires-clause-plain : goal.load_file-requires-clause-plain
-load_file-requires-clause-plain g t c κs within = first_of_all (λ (q : Read). IsTrue (is_plain q.name.now)) c.args.pairs.now c.in-Some.rest.now c.in-Some.pair.now c.in-Some.ensures.cases.0 c.requires.plain
+pub returns-in_ok-session-in-Some-clause-loads : goal.returns-in_ok-session-in-Some-clause-loads
+returns-in_ok-session-in-Some-clause-loads g t c =
+    let F = g.F.Shelf in
+    let most = c.args.setup.now.limits.file in
+    further_at (F.files c.args.shelf.now) most c.args.session (pairs_read c.args.pairs.now) (pair_read c.in-Some.pair.now) (pairs_read c.in-Some.rest.now) _ _ c.load_further.result (pairs_cut c.args.pairs.now c.in-Some.rest.now c.in-Some.pair.now c.in-Some.ensures.cases.0)
+    (first_then (F.files c.args.shelf.now) (F.files c.load_file.new.shelf) most (Some c.args.session) (pair_read c.in-Some.pair.now) (pairs_read c.in-Some.rest.now) _ _ _ c.in_ok-session-in-Some.session c.load_further.result
+    c.in_ok-session-in-Some.ensures.same c.in_ok-session-in-Some.ensures.loads c.load_further.ensures.loads)
 
-pub load_file-requires-clause-serves : goal.load_file-requires-clause-serves
-load_file-requires-clause-serves g t c κs within =
-    first_of_all (λ (q : Read). IsTrue (g.F.Shelf.serves c.args.shelf.now q.file.now)) c.args.pairs.now c.in-Some.rest.now c.in-Some.pair.now c.in-Some.ensures.cases.0 c.requires.serves
-
-pub load_further-requires-clause-plain : goal.load_further-requires-clause-plain
-load_further-requires-clause-plain g t c κs within = rest_of_all (λ (q : Read). IsTrue (is_plain q.name.now)) c.args.pairs.now c.in-Some.rest.now c.in-Some.pair.now c.in-Some.ensures.cases.0 c.requires.plain
+pub returns-in_err-session-in-Some-clause-loads : goal.returns-in_err-session-in-Some-clause-loads
+returns-in_err-session-in-Some-clause-loads g t c =
+    let F = g.F.Shelf in
+    let p = err_from_is_err_and c.from_residual.result c.from_residual.ensures.1 in
+    let most = c.args.setup.now.limits.file in
+    let pair = pair_read c.in-Some.pair.now in
+    let rest = pairs_read c.in-Some.rest.now in
+    let stop = c.in_err-session-in-Some.field-0.0 in
+    rw (p.1, p.2) (further_at (F.files c.args.shelf.now) most c.args.session (pairs_read c.args.pairs.now) pair rest _ _ (Err stop) (pairs_cut c.args.pairs.now c.in-Some.rest.now c.in-Some.pair.now c.in-Some.ensures.cases.0)
+    (loads_stop (F.files c.args.shelf.now) (λ f. file_stage most (Some c.args.session) pair.name (f pair.file)) (λ f. further_stage most f rest) _ _ stop c.in_err-session-in-Some.ensures.loads))
 
 pub returns-in-None-clause-loads : goal.returns-in-None-clause-loads
-returns-in-None-clause-loads g t c =
-    let F = g.F.Shelf in
-    let K = g.K.Sink in
-    let P : List Read → Type 0 = λ ps. LoadsFurther (F.files c.args.shelf.now) c.args.setup.limits.file (pairs_read ps) c.args.session (K.held c.args.sink.now) (K.held c.args.sink.now) (Ok c.args.session) in
-    subst P (sym (no_pairs c.args.pairs.now c.in-None.ensures.cases)) (none_further (F.files c.args.shelf.now) c.args.setup.limits.file c.args.session (K.held c.args.sink.now))
+returns-in-None-clause-loads g t c = further_none (g.F.Shelf.files c.args.shelf.now) c.args.setup.now.limits.file c.args.session c.args.pairs.now _ (no_pairs c.args.pairs.now c.in-None.ensures.cases)

@@ -9,8 +9,10 @@ invariant-loop-taken g l = record {
   short : l.piece.count ≤ l.taken;
   parts : KeepsParts (g.M.Tally.counts l.initial.tally) (g.M.Tally.counts l.tally);
   source : g.S.Source.faults l.source ≡ g.S.Source.faults l.initial.source;
-  playing : Playing l.initial.session l.session (g.S.Source.left l.initial.source) (g.S.Source.left l.source) (g.K.Sink.held l.initial.sink) (g.K.Sink.held l.sink)
-      (g.K.Sink.faults l.initial.sink) (g.K.Sink.faults l.sink) l.piece.kept.items l.piece.count l.piece.returns l.taken;
+  playing : Playing l.initial.session l.session (g.S.Source.left l.initial.source) (g.S.Source.left l.source)
+      (record { held = g.K.Sink.held l.initial.sink; faults = g.K.Sink.faults l.initial.sink; tally = g.M.Tally.counts l.initial.tally })
+      (record { held = g.K.Sink.held l.sink; faults = g.K.Sink.faults l.sink; tally = g.M.Tally.counts l.tally })
+      l.piece.kept.items l.piece.count l.piece.returns l.taken;
 }
 
 abbrev pub decreases-loop-taken : goal.decreases-loop-taken

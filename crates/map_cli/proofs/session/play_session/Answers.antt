@@ -5,4 +5,4 @@ use Rattle.map_cli.proofs.session.play_session.Goals as goal
 pub returns-in_err-chunk-clause-plays : goal.returns-in_err-chunk-clause-plays
 returns-in_err-chunk-clause-plays g c =
     let p = err_from_is_err_and c.from_residual.result c.from_residual.ensures.1 in
-    rw (p.1, p.2) (plays_nothing c.args.setup.limits.session c.args.session.now (g.S.Source.left c.args.source.now) (g.K.Sink.held c.args.sink.now))
+    rw (p.1, p.2) (plays_nothing c.args.setup.now.limits.session c.args.session.now (g.S.Source.left c.args.source.now) _)

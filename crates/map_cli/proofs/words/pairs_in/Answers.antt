@@ -1,6 +1,6 @@
 use Rattle.std.proofs.Common.{◌+◌, ◌++◌, ◌∷◌, [], length, take, drop, sym, ap, ◌∙◌, subst, arith}
 use Rattle.std.proofs.lemmas.Bool.{eqb-true, eqb-false}
-use Rattle.map_machine.specs.Words.{pair_of, all_pairs, pairs_of}
+use Rattle.map_machine.specs.Pairs.{pair_of, all_pairs, pairs_of}
 use Rattle.map_machine.proofs.PairsLemmas.{pairs_wrong_word}
 use Rattle.map_cli.proofs.WordLemmas.{ReadSoFar, is_read, words_at, words_to, read_more, read_full, read_twice}
 use Rattle.map_cli.proofs.words.pairs_in.Goals as goal

@@ -1,5 +1,5 @@
 use Rattle.std.proofs.Common.{ℕ, List, ◌∙◌, ap, sym, [], ◌∷◌, ◌++◌}
-use Rattle.op_jobs.proofs.ZonalPasses.{range_more}
+use Rattle.op_jobs.proofs.Listing.{range_more}
 use Rattle.op_jobs.proofs.damage.all_tiles.Goals as goal
 
 pub loop-tile-preserved : goal.loop-tile-preserved

@@ -5,7 +5,7 @@ use Rattle.map_waves.specs.Keeping.{kept_now, was_of}
 use Rattle.map_waves.specs.Statements.{damage_by, work_by}
 use Rattle.op_jobs.specs.Owning.{reached_looks}
 use Rattle.op_jobs.proofs.Hits.{found_fit}
-use Rattle.op_jobs.proofs.Sharing.{terms_few}
+use Rattle.op_jobs.proofs.Ranges.{terms_few}
 use Rattle.op_jobs.proofs.statements.plain_own.Goals as goal
 
 pub returns-in-Ok-clause-tally : goal.returns-in-Ok-clause-tally

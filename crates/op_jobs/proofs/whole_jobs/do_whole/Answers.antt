@@ -12,7 +12,8 @@ use Rattle.op_jobs.specs.Beside.{layer_in}
 use Rattle.op_jobs.specs.Sound.{StatementJobs}
 use Rattle.op_jobs.specs.Whole.{IsRightBefore, IsWholeAnswer}
 use Rattle.op_jobs.proofs.Kept.{right_layer, before_is, answer_at_size, rises_at_size, whole_refusal}
-use Rattle.op_jobs.proofs.Sharing.{size_is, terms_some}
+use Rattle.op_jobs.proofs.Ranges.{terms_some}
+use Rattle.op_jobs.proofs.Sharing.{size_is}
 use Rattle.op_jobs.proofs.whole_jobs.do_whole.Goals as goal
 
 pub repair_whole-requires-clause-right : goal.repair_whole-requires-clause-right

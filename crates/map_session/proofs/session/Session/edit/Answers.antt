@@ -1,8 +1,7 @@
-use Rattle.std.proofs.Common.{◌∙◌, ap, subst, sym, Result}
-use Rattle.map_nums.specs.Counts.{raised}
+use Rattle.std.proofs.Common.{subst, sym, Result}
 use Rattle.map_nums.specs.declared.NoMemory.{NoMemory}
 use Rattle.statement_parser.specs.Views.{edit_view}
-use Rattle.map_edits.specs.Edits.{accept}
+use Rattle.map_edits.specs.Counted.{accept_counted}
 use Rattle.map_edits.specs.LineEdits.{line_edit}
 use Rattle.map_machine.specs.Steps.{edited}
 use Rattle.map_session.specs.Said.{Does}
@@ -16,10 +15,10 @@ returns-clause-does g c =
     let f = c.self.inside in
     let s = c.args.self.now in
     let e = line_edit (edit_view c.args.edit) in
-    let D = λ (r : Result Reply NoMemory). Does s (record { header = f.header; engine = c.edit.new.self }) (edited s (accept s.engine e)) r in
+    let D = λ (r : Result Reply NoMemory). Does s (record { header = f.header; whole = c.edit.new.self }) (edited s (accept_counted s.whole e)) r in
     elim c.match-edit-4.branch [
       | in-Ok w ↦ subst D (sym w.result-is)
-          (edit_done f.header f.engine c.edit.new.self s e c.next_number.result c.in_ok-reply.reply c.self.view_is w.in-Ok.ensures.accepts.0 (c.next_number.ensures ∙ ap (λ k. raised k 1) c.number.ensures.number) c.in_ok-reply.ensures)
+          (edit_done f.header f.engine c.edit.new.self s e w.in-Ok.accepted w.filled.result c.self.view_is w.in-Ok.ensures.accepts.0 w.in-Ok.ensures.accepts.1 w.filled.ensures)
       | in-Err+in_ok-cause-in-Err w ↦ subst D (sym w.result-is)
           (edit_refused f.header f.engine c.edit.new.self s e w.in-Err.refusal w.in_ok-cause-in-Err.cause.items w.deref.result.now w.refused.result c.self.view_is w.in-Err.ensures.accepts
           w.in_ok-cause-in-Err.ensures w.deref.ensures.value w.refused.ensures)

@@ -1,11 +1,11 @@
 use Rattle.std.proofs.Common.{subst, refl, Ok}
 use Rattle.map_lines.specs.Present.{present}
-use Rattle.statement_parser.specs.Lines.{blank, quit}
+use Rattle.statement_parser.specs.Lines.{blank, edit, ask, quit}
 use Rattle.statement_parser.specs.LineOf.{line_of, IsLineRead}
 use Rattle.statement_parser.specs.Views.{edit_view, request_view, line_view}
 use Rattle.statement_parser.specs.declared.line.Line.{Line}
 use Rattle.map_machine.specs.declared.Kind.TheVariants.{Silent, Quit}
-use Rattle.map_session.proofs.LineSteps.{stepped_empty, stepped_edit, stepped_ask, stepped_refused}
+use Rattle.map_session.proofs.LineSteps.{stepped, stepped_reads, stepped_empty, stepped_ask, stepped_refused}
 use Rattle.map_session.proofs.session.Session.step.Goals as goal
 
 pub returns-in-Ok-Blank-clause-steps : goal.returns-in-Ok-Blank-clause-steps
@@ -15,13 +15,23 @@ returns-in-Ok-Blank-clause-steps g c =
 
 pub returns-in-Ok-Edit-clause-steps : goal.returns-in-Ok-Edit-clause-steps
 returns-in-Ok-Edit-clause-steps g c =
-    stepped_edit c.args.self.now c.edit.new.self c.args.line.now (edit_view c.in-Ok-Edit.edit) c.edit.result
+    stepped c.args.self.now c.edit.new.self c.args.line.now (edit (edit_view c.in-Ok-Edit.edit)) c.edit.result
     (subst (λ (l : Line). IsLineRead (line_of present c.args.line.now) line_view (Ok l)) c.in-Ok-Edit.field-0-is c.in-Ok-Edit.ensures.read) c.edit.ensures.does
+
+pub returns-in-Ok-Edit-clause-reads : goal.returns-in-Ok-Edit-clause-reads
+returns-in-Ok-Edit-clause-reads g c =
+    stepped_reads c.args.self.now c.args.line.now (edit (edit_view c.in-Ok-Edit.edit)) (g.M.Tally.counts c.args.tally.now) (g.M.Tally.counts c.edit.new.tally)
+    (subst (λ (l : Line). IsLineRead (line_of present c.args.line.now) line_view (Ok l)) c.in-Ok-Edit.field-0-is c.in-Ok-Edit.ensures.read) c.edit.ensures.reads
 
 pub returns-in-Ok-Ask-clause-steps : goal.returns-in-Ok-Ask-clause-steps
 returns-in-Ok-Ask-clause-steps g c =
-    stepped_ask c.self.inside.header c.self.inside.engine c.args.self.now c.args.line.now (request_view c.in-Ok-Ask.request) c.answer.result c.self.view_is
+    stepped_ask c.args.self.now c.args.line.now (request_view c.in-Ok-Ask.request) c.answer.result
     (subst (λ (l : Line). IsLineRead (line_of present c.args.line.now) line_view (Ok l)) c.in-Ok-Ask.field-0-is c.in-Ok-Ask.ensures.read) c.answer.ensures.says
+
+pub returns-in-Ok-Ask-clause-reads : goal.returns-in-Ok-Ask-clause-reads
+returns-in-Ok-Ask-clause-reads g c =
+    stepped_reads c.args.self.now c.args.line.now (ask (request_view c.in-Ok-Ask.request)) (g.M.Tally.counts c.args.tally.now) (g.M.Tally.counts c.answer.new.tally)
+    (subst (λ (l : Line). IsLineRead (line_of present c.args.line.now) line_view (Ok l)) c.in-Ok-Ask.field-0-is c.in-Ok-Ask.ensures.read) c.answer.ensures.reads
 
 pub returns-in-Ok-Quit-clause-steps : goal.returns-in-Ok-Quit-clause-steps
 returns-in-Ok-Quit-clause-steps g c =

@@ -1,0 +1,79 @@
+-- The layers of a kept map by their names.
+use Rattle.std.proofs.Common.{◌≡◌, ℕ, Bool, true, false, List, [], position, Option, Some, None, is_some, option_map, unwrap_or, bytes_eq, refl, ap, ◌∙◌, if◌then◌else◌}
+use Rattle.std.specs.Option.{option_or}
+use Rattle.std.proofs.lemmas.Bool.{true≢false, false≢true}
+use Rattle.std.proofs.lemmas.Option.{none-some}
+use Rattle.map_nums.specs.Grids.{Grid}
+use Rattle.map_defs.specs.Ops.{Name, Op}
+use Rattle.map_defs.specs.Nodes.{find_node}
+use Rattle.layer_tiles.specs.Layers.{LayerState}
+use Rattle.map_edits.specs.LayerDefs.{Making, given_grid, by_op, layers, find_making, nodes_of}
+use Rattle.map_edits.specs.EngineStates.{EngineState, value_of}
+use Rattle.map_edits.specs.WholeStates.{stamps_of}
+use Rattle.map_edits.proofs.Looks.{made_node, find_node-making}
+use Rattle.map_edits.proofs.Stamped.{kept_found, value_there}
+use Rattle.map_waves.specs.declared.keeping.Kept.{Kept}
+use Rattle.map_waves.specs.declared.plans.Step.{Step}
+use Rattle.statement_parser.specs.declared.op.Op.{Op as Given}
+use Rattle.op_jobs.specs.declared.beside.Beside.{Beside}
+use Rattle.edit_plans.specs.Planned.{is_source_node}
+use Rattle.edit_plans.proofs.Forming.{step_at}
+use Rattle.edit_plans.proofs.Positions.{position_at}
+use Rattle.kept_map.specs.Maps.{at_place, source_in, kept_in, layer_in, names_in, stamps_seen}
+use Rattle.kept_map.specs.Keeps.{AreKeptSources, IsKeptStep, IsKept}
+use Rattle.kept_map.specs.declared.maps.Sources.{Sources}
+use Rattle.kept_map.specs.declared.maps.KeptMap.{KeptMap}
+
+pub node_made : (s : EngineState) (n : Name) (making : Making) → find_making (layers s.entries) n ≡ Some making → find_node (nodes_of s.entries) n ≡ Some (made_node n making)
+node_made s n making e = find_node-making (layers s.entries) n ∙ ap (option_map (made_node n)) e
+
+-- ---- sources
+
+module _ (s : EngineState) (sources : Sources) (are : AreKeptSources s sources) where
+  -- a flat statement isn't among them
+  pub no_source : (n : Name) (op : Op) → find_making (layers s.entries) n ≡ Some (by_op op) → source_in sources n ≡ None
+  no_source n op making = go (position (bytes_eq n) sources.names.keys) (are.stand n ∙ ap is_source_node (node_made s n (by_op op) making))
+    where
+      go : (o : Option ℕ) → is_some o ≡ false → at_place sources.layers.items o ≡ None
+      go None e = refl
+      go (Some i) e = absurd (true≢false e)
+
+  -- each has its layer
+  pub source_there : (n : Name) (grid : Grid) → find_making (layers s.entries) n ≡ Some (given_grid grid) → (l : LayerState) × (source_in sources n ≡ Some l)
+  source_there n grid making = go (position (bytes_eq n) sources.names.keys) refl (are.stand n ∙ ap is_source_node (node_made s n (given_grid grid) making))
+    where
+      go : (o : Option ℕ) → position (bytes_eq n) sources.names.keys ≡ o → is_some o ≡ true → (l : LayerState) × (at_place sources.layers.items o ≡ Some l)
+      go None e h = absurd (false≢true h)
+      go (Some i) e h = step_at sources.names.keys sources.layers.items are.count i n (position_at n sources.names.keys i e)
+
+-- ---- statements
+
+-- what is kept is that of a step
+pub kept_step : (m : KeptMap) → IsKept m → (n : Name) (own : Kept Beside) → kept_in m n ≡ Some own → (x : Step Given) × IsKeptStep (names_in m) n x own
+kept_step m kept n own e = go (position (bytes_eq n) m.planned.names.keys) refl e
+  where
+    go : (o : Option ℕ) → position (bytes_eq n) m.planned.names.keys ≡ o → at_place m.kept.items o ≡ Some own → (x : Step Given) × IsKeptStep (names_in m) n x own
+    go None at is = absurd (none-some own is)
+    go (Some k) at is =
+        let named = position_at n m.planned.names.keys k at in
+        let step = step_at m.planned.names.keys m.planned.steps.items kept.statements.planned_are.count k n named in
+        (step.0, kept.statements.each k n step.0 own named step.1 is)
+
+-- a statement's layer is what is kept of it
+pub layer_kept : (m : KeptMap) (n : Name) (own : Kept Beside) → source_in m.sources n ≡ None → kept_in m n ≡ Some own → layer_in m n ≡ Some own.layer
+layer_kept m n own none e = ap (λ o. option_or o (option_map (λ (k : Kept Beside). k.layer) (kept_in m n))) none ∙ ap (option_map (λ (k : Kept Beside). k.layer)) e
+
+pub layer_source : (m : KeptMap) (n : Name) (l : LayerState) → source_in m.sources n ≡ Some l → layer_in m n ≡ Some l
+layer_source m n l e = ap (λ o. option_or o (option_map (λ (k : Kept Beside). k.layer) (kept_in m n))) e
+
+-- ---- stamps
+
+-- the stamps of a layer that is defined
+pub stamps_found : (by_name : Name → Option LayerState) (s : EngineState) (n : Name) (l : LayerState) → by_name n ≡ Some l → is_some (value_of s n) ≡ true → stamps_of (stamps_seen by_name s) n ≡ Some l.stamps
+stamps_found by_name s n l is there =
+    kept_found stamps_by (λ m. is_some (value_of s m)) n (layers s.entries)
+    ∙ ap (λ (b : Bool). if b then Some (stamps_by n) else None) (value_there s n ∙ there)
+    ∙ ap (λ o. Some (unwrap_or (option_map (λ (k : LayerState). k.stamps) o) [])) is
+  where
+    stamps_by : Name → List ℕ
+    stamps_by m = unwrap_or (option_map (λ (k : LayerState). k.stamps) (by_name m)) []

@@ -1,0 +1,96 @@
+-- What is prepared of all statements can be put in place of what was kept.
+use Rattle.std.proofs.Common.{◌≡◌, ℕ, ◌<◌, zero, suc, List, [], ◌∷◌, map, filter, not, length, get_or, position, Option, Some, None, is_some, slice_get, slice_index_or, bytes_eq, refl, sym, ap, subst, ◌∙◌, arith}
+use Rattle.std.proofs.lemmas.List.Quantifiers.{position-Some}
+use Rattle.std.proofs.lemmas.Option.{same_Some, slice_get_within, slice_get-get_or}
+use Rattle.map_defs.specs.Ops.{Name, terms_of}
+use Rattle.map_defs.specs.Nodes.{Node, lacks}
+use Rattle.map_defs.specs.Depths.{by_depth}
+use Rattle.map_edits.specs.LayerDefs.{nodes_of}
+use Rattle.map_edits.specs.WholeStates.{WholeState}
+use Rattle.map_edits.specs.WholeEdits.{WholeEdit}
+use Rattle.map_edits.proofs.GroupsOnce.{groups_once}
+use Rattle.map_edits.proofs.Once.{IsOnce, once_filter, by_depth_once}
+use Rattle.statement_parser.specs.Views.{op_view}
+use Rattle.statement_parser.specs.declared.op.Op.{Op as Given}
+use Rattle.op_jobs.specs.declared.beside.Beside.{Beside}
+use Rattle.map_waves.specs.Prepared.{IsReady}
+use Rattle.map_waves.specs.Placing.{slot_of, HaveOwnSlots, AreReady}
+use Rattle.map_waves.specs.Plans.{StepDef}
+use Rattle.map_waves.specs.declared.keeping.Kept.{Kept}
+use Rattle.map_waves.specs.declared.keeping.Made.{Made}
+use Rattle.map_waves.specs.declared.plans.Ref.{Ref}
+use Rattle.map_waves.specs.declared.plans.Step.{Step}
+use Rattle.map_waves.specs.declared.plans.Shift.{Shift}
+use Rattle.edit_plans.specs.Orderly.{IsOrderly}
+use Rattle.edit_plans.specs.PlansFor.{AreRefsFor}
+use Rattle.edit_plans.proofs.Positions.{position_at}
+use Rattle.edit_plans.proofs.TouchedAlone.{order_is_kept}
+use Rattle.kept_map.specs.Maps.{at_place, seen}
+use Rattle.kept_map.specs.Keeps.{IsKept}
+use Rattle.kept_map.specs.Edits.{IsSetUp}
+use Rattle.kept_map.specs.Repairs.{step_in, plan_in, IsUnder, AreMadeOf}
+use Rattle.kept_map.specs.Commits.{IsAtRest, Rests}
+use Rattle.kept_map.specs.declared.maps.KeptMap.{KeptMap}
+use Rattle.kept_map.proofs.Resting.{own_place}
+
+-- what was kept, as slots
+pub slot_kept : (kept : List (Kept Beside)) (i : Option ℕ) → slot_of (map (λ k. Some k) kept) i ≡ at_place kept i
+slot_kept kept None = refl
+slot_kept kept (Some i) = go kept i
+  where
+    go : (xs : List (Kept Beside)) (i : ℕ) → slice_index_or (map (λ k. Some k) xs) i None ≡ slice_get xs i
+    go [] i = refl
+    go (x ∷ xs) zero = refl
+    go (x ∷ xs) (suc i) = go xs i
+
+module _ (m : KeptMap) (e : WholeEdit) (t : WholeState) (shift : Shift) (sources names : List Name) (steps : List (Step Given)) (kept : IsKept m) (under : IsUnder m e t shift sources names steps) where
+  -- a step has a name
+  name_at : (k : ℕ) (x : Step Given) → slice_get steps k ≡ Some x → (n : Name) × (slice_get names k ≡ Some n)
+  name_at k x here = (get_or names k [], slice_get-get_or names k [] (let within = slice_get_within steps k x here in let count = under.count in omega (arith, within, count)))
+
+  -- what was kept of it stood under its name
+  stood_named : (k i : ℕ) (n : Name) (x : Step Given) → slice_get names k ≡ Some n → slice_get steps k ≡ Some x → x.kept ≡ Some i → slice_get m.planned.names.keys i ≡ Some n
+  stood_named k i n x at here is = position_at n m.planned.names.keys i (sym (under.kept k n x at here) ∙ is)
+
+  pub slots_within : (k i : ℕ) (x : Step Given) → slice_get steps k ≡ Some x → x.kept ≡ Some i → i < length m.kept.items
+  slots_within k i x here is =
+      let n = name_at k x here in
+      let within = (position-Some (bytes_eq n.0) m.planned.names.keys i [] (sym (under.kept k n.0 x n.1 here) ∙ is)).0 in
+      let steps_count = kept.statements.planned_are.count in
+      let kept_count = kept.statements.count in
+      omega (arith, within, steps_count, kept_count)
+
+  module _ (set_up : IsSetUp m e t shift sources) where
+    orderly : IsOrderly t.names
+    orderly = order_is_kept (seen m) t e kept.lawful set_up.said set_up.attempt
+
+    -- each name stands at one place of the plan
+    one_place : (k : ℕ) (n : Name) → slice_get names k ≡ Some n → position (bytes_eq n) names ≡ Some k
+    one_place k n at =
+        let nodes = nodes_of t.names.entries in
+        let listed = filter (λ (node : Node). not (is_some (lacks nodes node.name))) (by_depth nodes) in
+        let once : IsOnce listed = once_filter (λ (node : Node). not (is_some (lacks nodes node.name))) (by_depth nodes) (by_depth_once nodes (groups_once t.names.entries orderly.groups orderly.apart)) in
+        ap (position (bytes_eq n)) under.whole ∙ own_place listed once k n (ap (λ ns. slice_get ns k) (sym under.whole) ∙ at)
+
+    pub own_slots : HaveOwnSlots steps
+    own_slots j k i x y here there is was =
+        let n = name_at j x here in
+        let q = name_at k y there in
+        let same : n.0 ≡ q.0 = same_Some n.0 q.0 (sym (stood_named j i n.0 x n.1 here is) ∙ stood_named k i q.0 y q.1 there was) in
+        same_Some j k (sym (one_place j n.0 n.1) ∙ ap (λ l. position (bytes_eq l) names) same ∙ one_place k q.0 q.1)
+
+  pub are_ready : (made : List (Option (Made Beside))) → AreMadeOf m shift steps made → AreReady m.extent (map (λ k. Some k) m.kept.items) steps made
+  are_ready made are_made k x r here is = subst (λ o. IsReady m.extent o r) (sym (slot_kept m.kept.items x.kept)) (are_made k x r here is).ready
+
+  -- steps at rest have their operands, where the sources have the same places after
+  pub rests_after : (new : List (Step Given)) → Rests steps new → (k : ℕ) (x y : Step Given) → slice_get steps k ≡ Some x → slice_get new k ≡ Some y → IsAtRest k x y × AreRefsFor sources names k (terms_of (op_view x.op)) y.refs.items
+  rests_after new rests k x y here there =
+      let n = name_at k x here in
+      let rested = rests.1 k x here in
+      let same : rested.0 ≡ y = same_Some rested.0 y (sym rested.1 ∙ there) in
+      let step : (plan_in m shift steps).step k ≡ step_in m (Some x) = ap (step_in m) here in
+      let refs : AreRefsFor sources names k (terms_of (op_view x.op)) x.refs.items = subst (λ (d : StepDef). AreRefsFor sources names k (terms_of d.op) d.refs) step (under.plan.steps k n.0 n.1).refs in (
+        subst (λ (z : Step Given). IsAtRest k x z) same rested.2,
+        subst (λ (z : Step Given). AreRefsFor sources names k (terms_of (op_view x.op)) z.refs.items) same
+            (subst (λ (rs : List Ref). AreRefsFor sources names k (terms_of (op_view x.op)) rs) (ap (λ v. v.items) (sym rested.3)) refs),
+      )

@@ -1,0 +1,193 @@
+-- What an edit makes of the sources of a map, and of their stamps.
+use Rattle.std.proofs.Common.{◌≡◌, ℕ, zero, suc, ℤ, Bool, true, false, List, [], ◌∷◌, ◌++◌, length, position, Option, Some, None, is_some, option_map, slice_get, bytes_eq, refl, sym, ap, subst, ◌∙◌, ◌⊎◌, inl, inr, arith, Bor}
+use Rattle.std.specs.List.{IsDistinct, AllByRecursion, list_any}
+use Rattle.std.proofs.lemmas.Bool.{true≢false, false≢true}
+use Rattle.std.proofs.lemmas.Map.Keys.{IsDistinct-head, IsDistinct-tail}
+use Rattle.std.proofs.lemmas.Option.{none-some, same_Some, slice_get_past}
+use Rattle.map_nums.specs.Grids.{Size, IsSize, Grid, Cells, constant}
+use Rattle.map_defs.specs.Damage.{changed_tiles}
+use Rattle.map_defs.specs.Ops.{Name}
+use Rattle.map_defs.specs.MadeProcedures.{IsUndotted}
+use Rattle.layer_tiles.specs.Changes.{same_change, constant_change}
+use Rattle.layer_tiles.specs.Layers.{LayerState, IsLayer, IsStamped, layer_of}
+use Rattle.layer_tiles.specs.Tiles.{tiles_in}
+use Rattle.map_edits.specs.Entries.{Def, source, statement, Entry, find_def}
+use Rattle.map_edits.specs.LayerDefs.{Making, given_grid, layers, find_making, nodes_of}
+use Rattle.map_edits.specs.EngineStates.{EngineState, made, value_of}
+use Rattle.map_edits.specs.WholeStates.{WholeState, cells_of}
+use Rattle.map_edits.specs.StampsAfter.{stamps_at}
+use Rattle.map_edits.specs.Laws.{HasNoCycle}
+use Rattle.map_edits.proofs.Among.{same_name, bytes_eq-self}
+use Rattle.map_edits.proofs.Heads.{head_of, head_undotted}
+use Rattle.map_edits.proofs.Groups.{group_making, making_by_head}
+use Rattle.map_edits.proofs.LawfulEdits.{IsGoodChange}
+use Rattle.map_edits.proofs.Unfolds.{value_unfolds}
+use Rattle.map_waves.specs.Bases.{source_by}
+use Rattle.map_waves.specs.Operands.{IsOperand}
+use Rattle.map_waves.specs.declared.plans.Shift.{Shift}
+use Rattle.map_waves.specs.declared.plans.Shift.TheVariants.{Nothing, Loaded}
+use Rattle.map_waves.proofs.Damages.{changed_none}
+use Rattle.map_waves.proofs.Making.{all_get}
+use Rattle.edit_plans.specs.PlansFor.{IsChangeOf}
+use Rattle.edit_plans.proofs.Positions.{some_position, position_at, any_at_place}
+use Rattle.edit_plans.proofs.Restamped.{old_is_stamped, new_is_stamped}
+use Rattle.kept_map.specs.Maps.{grid_of, at_place, source_in, layer_in, entries_in, names_in, seen}
+use Rattle.kept_map.specs.Keeps.{IsKept}
+use Rattle.kept_map.specs.Edits.{change_in}
+use Rattle.kept_map.specs.declared.maps.KeptMap.{KeptMap}
+use Rattle.kept_map.proofs.SourceLayers.{source_at, source_place, source_whole, layer_at}
+use Rattle.kept_map.proofs.Given.{undotted, source_making, source_value}
+use Rattle.kept_map.proofs.LayersByName.{layer_source, stamps_found}
+use Rattle.kept_map.proofs.Naming.{source_def}
+
+-- ---- names that stand apart
+
+all_at : (P : Name → Type 0) (ks : List Name) (i : ℕ) (n : Name) → AllByRecursion P ks → slice_get ks i ≡ Some n → P n
+all_at P [] i n all e = absurd (none-some n e)
+all_at P (k ∷ ks) zero n all e = subst P (same_Some k n e) all.0
+all_at P (k ∷ ks) (suc i) n all e = all_at P ks i n all.1 e
+
+-- a name stands at one place
+pub one_place : (ks : List Name) → IsDistinct bytes_eq ks → (i j : ℕ) (n : Name) → slice_get ks i ≡ Some n → slice_get ks j ≡ Some n → i ≡ j
+one_place [] distinct i j n a b = absurd (none-some n a)
+one_place (k ∷ ks) distinct zero zero n a b = refl
+one_place (k ∷ ks) distinct zero (suc j) n a b =
+    let apart : bytes_eq k n ≡ false = all_at (λ y. bytes_eq k y ≡ false) ks j n (IsDistinct-head bytes_eq k ks distinct) b in
+    absurd (true≢false (sym (bytes_eq-self k) ∙ ap (bytes_eq k) (same_Some k n a) ∙ apart))
+one_place (k ∷ ks) distinct (suc i) zero n a b =
+    let apart : bytes_eq k n ≡ false = all_at (λ y. bytes_eq k y ≡ false) ks i n (IsDistinct-head bytes_eq k ks distinct) a in
+    absurd (true≢false (sym (bytes_eq-self k) ∙ ap (bytes_eq k) (same_Some k n b) ∙ apart))
+one_place (k ∷ ks) distinct (suc i) (suc j) n a b = ap suc (one_place ks (IsDistinct-tail bytes_eq k ks distinct) i j n a b)
+
+-- and is found there
+pub place_is : (ks : List Name) → IsDistinct bytes_eq ks → (i : ℕ) (n : Name) → slice_get ks i ≡ Some n → position (bytes_eq n) ks ≡ Some i
+place_is ks distinct i n e = go (position (bytes_eq n) ks) refl
+  where
+    go : (o : Option ℕ) → position (bytes_eq n) ks ≡ o → position (bytes_eq n) ks ≡ Some i
+    go None at = absurd (false≢true (sym (ap is_some at) ∙ some_position (bytes_eq n) ks ∙ any_at_place n ks i e))
+    go (Some j) at = at ∙ ap (λ k. Some k) (one_place ks distinct j i n (position_at n ks j at) e)
+
+-- ---- operands
+
+module _ (s : Size) (w : Cells) where
+  none_changed : (was : Cells) → Some w ≡ Some was → [] ≡ changed_tiles s (Some was) w
+  none_changed was e = sym (changed_none s [] w) ∙ ap (λ o. changed_tiles s o w) e
+
+pub same_operand : (s : Size) (l : LayerState) → l.size ≡ s → IsOperand s (same_change l)
+same_operand s l size = record { size = size; exact = λ was e. none_changed s l.cells was e; same = λ was e none. same_Some l.cells was e }
+
+pub constant_operand : (s : Size) (cell : Option ℤ) → IsOperand s (constant_change s cell)
+constant_operand s cell = record { size = refl; exact = λ was e. none_changed s (constant s cell).cells was e; same = λ was e none. same_Some (constant s cell).cells was e }
+
+module _ (m : KeptMap) (keeps : IsKept m) where
+  layer_size : (i : ℕ) (l : LayerState) → slice_get m.sources.layers.items i ≡ Some l → l.size ≡ m.extent
+  layer_size i l e = (all_get (λ (k : LayerState). (k.size ≡ m.extent) × IsLayer k) m.sources.layers.items keeps.sources.whole i l e).0
+
+  pub nothing_operands : (i : ℕ) → IsOperand m.extent (change_in m Nothing i)
+  nothing_operands i = go (slice_get m.sources.layers.items i) refl
+    where
+      go : (o : Option LayerState) → slice_get m.sources.layers.items i ≡ o → IsOperand m.extent (source_by m.extent Nothing i o)
+      go None e = constant_operand m.extent None
+      go (Some l) e = same_operand m.extent l (layer_size i l e)
+
+  pub loaded_operands : (new : Bor LayerState) → new.now.size ≡ m.extent → (i : ℕ) → IsOperand m.extent (change_in m (Loaded new) i)
+  loaded_operands new size i = go (slice_get m.sources.layers.items i) refl
+    where
+      go : (o : Option LayerState) → slice_get m.sources.layers.items i ≡ o → IsOperand m.extent (source_by m.extent (Loaded new) i o)
+      go None e = same_operand m.extent new.now size
+      go (Some l) e = same_operand m.extent l (layer_size i l e)
+
+-- ---- what becomes of the sources
+
+get_pushed : {X : Type 0} (xs : List X) (x y : X) (i : ℕ) → slice_get (xs ++ x ∷ []) i ≡ Some y → (slice_get xs i ≡ Some y) ⊎ ((i ≡ length xs) × (x ≡ y))
+get_pushed [] x y zero e = inr (refl, same_Some x y e)
+get_pushed [] x y (suc i) e = absurd (none-some y e)
+get_pushed (z ∷ xs) x y zero e = inl e
+get_pushed (z ∷ xs) x y (suc i) e = elim (get_pushed xs x y i e) [ inl at ↦ inl at | inr at ↦ inr (ap suc at.0, at.1) ]
+
+module _ (m : KeptMap) (keeps : IsKept m) where
+  pub placed_layer : (i : ℕ) (n : Name) → slice_get m.sources.names.keys i ≡ Some n → (l : LayerState) × (slice_get m.sources.layers.items i ≡ Some l)
+  placed_layer i n e = layer_at m.sources n keeps.sources.count i (place_is m.sources.names.keys keeps.sources.apart i n e)
+
+  pub placed_def : (i : ℕ) (n : Name) (l : LayerState) → slice_get m.sources.names.keys i ≡ Some n → slice_get m.sources.layers.items i ≡ Some l → find_def (entries_in m) n ≡ Some (source (grid_of l))
+  placed_def i n l e there = source_def m n keeps l (source_at m.sources n i (place_is m.sources.names.keys keeps.sources.apart i n e) ∙ there)
+
+  pub value_before : (n : Name) (l : LayerState) → find_def (entries_in m) n ≡ Some (source (grid_of l)) → cells_of (names_in m) n ≡ Some l.cells
+  value_before n l def = ap (option_map (λ (g : Grid). g.cells)) (source_value (names_in m) n (grid_of l) keeps.lawful.groups keeps.lawful.apart keeps.lawful.none_looped def)
+
+  -- a name that isn't there has no layer
+  pub absent_before : (n : Name) → IsUndotted n → find_def (entries_in m) n ≡ None → cells_of (names_in m) n ≡ None
+  absent_before n plain absent =
+      let making : find_making (layers (entries_in m)) n ≡ None = making_by_head (entries_in m) n keeps.lawful.groups keeps.lawful.apart ∙ ap (group_making n) (ap (find_def (entries_in m)) (head_undotted n plain) ∙ absent) in
+      ap (option_map (λ (g : Grid). g.cells)) (value_unfolds (names_in m) keeps.lawful.none_looped n ∙ ap (made m.extent (value_of (names_in m))) making)
+
+  module _ (t : EngineState) (none : HasNoCycle (nodes_of t.entries)) where
+    value_after : (n : Name) (o : Option Making) → find_making (layers t.entries) n ≡ o → value_of t n ≡ made t.size (value_of t) o
+    value_after n o e = value_unfolds t none n ∙ ap (made t.size (value_of t)) e
+
+    -- a layer that is gone, or is made as before
+    abbrev pub IsLeft : Name → Type 0
+    IsLeft n = (find_making (layers t.entries) n ≡ None) ⊎ (find_making (layers t.entries) n ≡ find_making (layers (entries_in m)) n)
+
+    pub left_change : (n : Name) (l : LayerState) → find_def (entries_in m) n ≡ Some (source (grid_of l)) → IsLeft n → IsChangeOf (names_in m) t n (same_change l)
+    left_change n l def left = record { after = λ now e. go left now e; before = λ was e. sym (value_before n l def) ∙ e }
+      where
+        go : IsLeft n → (now : List (Option ℤ)) → cells_of t n ≡ Some now → l.cells ≡ now
+        go (inl gone) now e = absurd (none-some now (sym (ap (option_map (λ (g : Grid). g.cells)) (value_after n None gone)) ∙ e))
+        go (inr same) now e =
+            let making = same ∙ source_making (entries_in m) n keeps.lawful.groups keeps.lawful.apart (grid_of l) def in
+            same_Some l.cells now (sym (ap (option_map (λ (g : Grid). g.cells)) (value_after n (Some (given_grid (grid_of l))) making)) ∙ e)
+
+    -- of the sources that were there
+    pub left_changes : (shift : Shift) → ((i : ℕ) (l : LayerState) → slice_get m.sources.layers.items i ≡ Some l → change_in m shift i ≡ same_change l)
+        → ((n : Name) (grid : Grid) → find_def (entries_in m) n ≡ Some (source grid) → IsLeft n) → (i : ℕ) (n : Name) → slice_get m.sources.names.keys i ≡ Some n → IsChangeOf (names_in m) t n (change_in m shift i)
+    left_changes shift stays left i n e =
+        let r = placed_layer i n e in
+        let def = placed_def i n r.0 e r.1 in
+        subst (IsChangeOf (names_in m) t n) (sym (stays i r.0 r.1)) (left_change n r.0 def (left n (grid_of r.0) def))
+
+    -- and of one more
+    pub loaded_changes : (new : Bor LayerState) (edited : Name) → IsUndotted edited → find_def (entries_in m) edited ≡ None → cells_of t edited ≡ Some new.now.cells → ((n : Name) (grid : Grid) → find_def (entries_in m) n ≡ Some (source grid) → IsLeft n)
+        → (i : ℕ) (n : Name) → slice_get (m.sources.names.keys ++ edited ∷ []) i ≡ Some n → IsChangeOf (names_in m) t n (change_in m (Loaded new) i)
+    loaded_changes new edited plain absent there left i n e = elim (get_pushed m.sources.names.keys edited n i e) [
+      | inl at ↦ left_changes (Loaded new) (λ j l is. ap (source_by m.extent (Loaded new) j) is) left i n at
+      | inr at ↦ last at.0 at.1
+    ]
+      where
+        no_layer : i ≡ length m.sources.names.keys → slice_get m.sources.layers.items i ≡ None
+        no_layer at = let count = keeps.sources.count in slice_get_past m.sources.layers.items i (omega arith)
+
+        last : i ≡ length m.sources.names.keys → edited ≡ n → IsChangeOf (names_in m) t n (change_in m (Loaded new) i)
+        last at own = subst (λ q. IsChangeOf (names_in m) t q (change_in m (Loaded new) i)) own (subst (IsChangeOf (names_in m) t edited) (sym (ap (source_by m.extent (Loaded new) i) (no_layer at)))
+            (record { after = λ now e. same_Some new.now.cells now (sym there ∙ e); before = λ was e. absurd (none-some was (sym (absent_before edited plain absent) ∙ e)) }))
+
+-- what an edit of a name leaves of the other sources
+module _ (m : KeptMap) (keeps : IsKept m) (t : EngineState) (edited : Name) (change : IsGoodChange (entries_in m) edited t.entries) where
+  pub others_left : ((grid : Grid) → find_def (entries_in m) edited ≡ Some (source grid) → find_def t.entries edited ≡ None) → (n : Name) (grid : Grid) → find_def (entries_in m) n ≡ Some (source grid) → IsLeft m keeps t change.good.none_looped n
+  others_left gone n grid def = go (bytes_eq edited (head_of n)) refl
+    where
+      head : head_of n ≡ n
+      head = head_undotted n (undotted (entries_in m) n (source grid) keeps.lawful.groups def)
+
+      go : (b : Bool) → bytes_eq edited (head_of n) ≡ b → IsLeft m keeps t change.good.none_looped n
+      go true same =
+          let at : edited ≡ head_of n = same_name edited (head_of n) same in
+          inl (making_by_head t.entries n change.good.groups change.good.apart ∙ ap (group_making n) (ap (find_def t.entries) (sym at) ∙ gone grid (ap (find_def (entries_in m)) (at ∙ head) ∙ def)))
+      go false differs = inr (change.makings n differs)
+
+-- ---- stamps
+
+module _ (m : KeptMap) (keeps : IsKept m) (t : WholeState) (size : t.names.size ≡ m.extent) (n : Name) where
+  -- a source that stays as it is
+  pub stamps_stay : (l : LayerState) → source_in m.sources n ≡ Some l → cells_of t.names n ≡ Some l.cells → l.stamps ≡ stamps_at (seen m) t n
+  stamps_stay l there after =
+      let whole = source_whole m.sources n (names_in m) l keeps.sources there in
+      let value = source_value (names_in m) n (grid_of l) keeps.lawful.groups keeps.lawful.apart keeps.lawful.none_looped (source_def m n keeps l there) in
+      old_is_stamped (seen m) t n l.cells l.cells l.stamps l.stamps (subst IsSize (sym size) keeps.size)
+      (ap (option_map (λ (g : Grid). g.cells)) value) after
+      (stamps_found (layer_in m) (names_in m) n l (layer_source m n l there) (ap is_some value))
+      (record { count = whole.1.stamps ∙ ap tiles_in (whole.0 ∙ sym size); same = λ k within e. refl; changed = λ k within differs. absurd (differs refl) })
+
+  -- and a new one
+  pub stamps_begin : (cells : Cells) → cells_of (names_in m) n ≡ None → (layer_of t.names.size cells t.names.number).stamps ≡ stamps_at (seen m) t n
+  stamps_begin cells none = new_is_stamped (seen m) t n cells none

@@ -1,0 +1,13 @@
+pub mod Groups
+pub mod Maps
+pub mod Keeps
+pub mod Flats
+pub mod Edits
+pub mod Halts
+pub mod Told
+pub mod Rooms
+pub mod Lowering
+pub mod Planning
+pub mod Repairs
+pub mod Commits
+pub mod Asked

@@ -1,0 +1,179 @@
+-- The flat statements of a formed statement have their numbers in range, where the bodies of all procedures are formed.
+use Rattle.std.proofs.Common.{◌≡◌, ℕ, zero, suc, ◌≤◌, ◌==◌, Bool, true, false, cond, List, [], ◌∷◌, ◌++◌, map, length, codes, Option, Some, None, Result, Ok, Err, bytes_eq, refl, sym, subst, arith}
+use Rattle.std.specs.List.{All}
+use Rattle.std.specs.List.{AllByRecursion as ByRecursion}
+use Rattle.std.proofs.lemmas.List.{length-map}
+use Rattle.std.proofs.lemmas.List.Elements.{All-from_recursion, recursion_from_All}
+use Rattle.map_words.specs.Bytes.{Text}
+use Rattle.map_defs.specs.Ops.{Name, Term, layer_term, number_term, Op, local_op, difference_op, ratio_op, rating_op, focal_op, zonal_op, form_op, direction_op, flow_op, spread_op, sight_op, region_op}
+use Rattle.map_defs.specs.Statements.{Written, plain, call, Flat, Inner, Procedure}
+use Rattle.map_defs.specs.Bindings.{Binding, named_term, term_with, op_with, given_for}
+use Rattle.map_defs.specs.Expansion.{WrongCall, wrong_count, find_procedure, Expands, inner_flats, inner_name, dotted, body_flats, called, called_flats, call_flats, expansion_of}
+use Rattle.map_defs.proofs.Naming.{both_are}
+use Rattle.statement_parser.specs.Formed.{Each, IsTerm, IsWritten, AreInner, IsBody, IsProcedure}
+use Rattle.statement_parser.specs.Views.{op_view}
+use Rattle.procedure_expand.specs.declared.flat.Flat as held
+use Rattle.procedure_expand.specs.Flats.{flats_view}
+use Rattle.op_jobs.specs.Ranges.{IsInRange, HasRanges}
+use Rattle.op_jobs.proofs.Ranges.{ranges_of}
+
+-- ---- what is formed is in range
+
+term_ranges : (t : Term) → IsTerm t → IsInRange t
+term_ranges (layer_term n) h = tt
+term_ranges (number_term z) h = h
+
+terms_ranges : (ts : List Term) → Each IsTerm ts → Each IsInRange ts
+terms_ranges [] h = tt
+terms_ranges (t ∷ ts) h = (term_ranges t h.0, terms_ranges ts h.1)
+
+abbrev WrittenInRange : Written → Type 0
+WrittenInRange (plain op) = HasRanges op
+WrittenInRange (call p ts) = Each IsInRange ts
+
+written_ranges : (w : Written) → IsWritten w → WrittenInRange w
+written_ranges (plain op) h = ranges_of op h
+written_ranges (call p ts) h = terms_ranges ts h.3
+
+-- ---- terms that stand for what is bound
+
+abbrev BoundInRange : List Binding → Type 0
+BoundInRange bs = Each (λ (b : Binding). IsInRange b.term) bs
+
+named_ranges : (bs : List Binding) (n : Name) → BoundInRange bs → IsInRange (named_term bs n)
+named_ranges [] n bound = tt
+named_ranges (b ∷ bs) n bound = go (bytes_eq b.name n) (named_ranges bs n bound.1)
+  where
+    go : (o : Bool) → IsInRange (named_term bs n) → IsInRange (cond o b.term (named_term bs n))
+    go true rest = bound.0
+    go false rest = rest
+
+bound_more : (bs : List Binding) (b : Binding) → BoundInRange bs → IsInRange b.term → BoundInRange (bs ++ b ∷ [])
+bound_more [] b bound more = (more, tt)
+bound_more (c ∷ bs) b bound more = (bound.0, bound_more bs b bound.1 more)
+
+given_ranges : (takes : List Name) (ts : List Term) → Each IsInRange ts → BoundInRange (given_for takes ts)
+given_ranges [] ts h = tt
+given_ranges (n ∷ ns) [] h = tt
+given_ranges (n ∷ ns) (t ∷ ts) h = (h.0, given_ranges ns ts h.1)
+
+module _ (bs : List Binding) (bound : BoundInRange bs) where
+  with_term : (t : Term) → IsInRange t → IsInRange (term_with bs t)
+  with_term (layer_term n) h = named_ranges bs n bound
+  with_term (number_term z) h = h
+
+  with_terms : (ts : List Term) → Each IsInRange ts → Each IsInRange (map (term_with bs) ts)
+  with_terms [] h = tt
+  with_terms (t ∷ ts) h = (with_term t h.0, with_terms ts h.1)
+
+  with_op : (op : Op) → HasRanges op → HasRanges (op_with bs op)
+  with_op (local_op s ts) h =
+      let same : length (map (term_with bs) ts) ≡ length ts = length-map ts (term_with bs) in
+      let least : 2 ≤ length ts = h.0 in
+      let most : length ts ≤ 8 = h.1 in
+      (omega (arith, same, least), omega (arith, same, most), with_terms ts h.2)
+  with_op (difference_op t u) h = (with_term t h.0, with_term u h.1)
+  with_op (ratio_op t u) h = (with_term t h.0, with_term u h.1)
+  with_op (rating_op t rs) h = (with_term t h.0, h.1, h.2, h.3)
+  with_op (focal_op s r t) h = (h.0, h.1, with_term t h.2)
+  with_op (zonal_op s t u) h = (h.0, with_term t h.1, with_term u h.2)
+  with_op (form_op f t) h = with_term t h
+  with_op (direction_op t) h = with_term t h
+  with_op (flow_op t u) h = (with_term t h.0, with_term u h.1)
+  with_op (spread_op limit t u) h = (h.0, with_term t h.1, with_term u h.2)
+  with_op (sight_op s t u) h = (h.0, with_term t h.1, with_term u h.2)
+  with_op (region_op t) h = with_term t h
+
+-- ---- an expansion
+
+abbrev FlatsInRange : List Flat → Type 0
+FlatsInRange fs = Each (λ (f : Flat). HasRanges f.op) fs
+
+flats_join : (fs gs : List Flat) → FlatsInRange fs → FlatsInRange gs → FlatsInRange (fs ++ gs)
+flats_join [] gs first rest = rest
+flats_join (f ∷ fs) gs first rest = (first.0, flats_join fs gs first.1 rest)
+
+-- what a call gives is in range, where its terms are
+abbrev IsRanged : Expands → Type 0
+IsRanged expand = (name prefix p : Name) (ts : List Term) (fs : List Flat) → Each IsInRange ts → expand name prefix p ts ≡ Ok fs → FlatsInRange fs
+
+abbrev BodyInRange : List Inner → Type 0
+BodyInRange is = Each (λ (i : Inner). WrittenInRange i.written) is
+
+one_flat : (name : Name) (op : Op) (fs : List Flat) (r : Result (List Flat) WrongCall) → HasRanges op → r ≡ Ok (record { name = name; op = op } ∷ []) → r ≡ Ok fs → FlatsInRange fs
+one_flat name op fs r h is e =
+    let same : record { name = name; op = op } ∷ [] ≡ fs = cc in
+    subst FlatsInRange same (h, tt)
+
+module _ (expand : Expands) (ranged : IsRanged expand) where
+  inner_ranges : (bs : List Binding) (name prefix : Name) (w : Written) (fs : List Flat) → BoundInRange bs → WrittenInRange w → inner_flats expand bs name prefix w ≡ Ok fs → FlatsInRange fs
+  inner_ranges bs name prefix (plain op) fs bound h e = one_flat name (op_with bs op) fs (inner_flats expand bs name prefix (plain op)) (with_op bs bound op h) refl e
+  inner_ranges bs name prefix (call p ts) fs bound h e = ranged name prefix p (map (term_with bs) ts) fs (with_terms bs bound ts h) e
+
+  body_ranges : (name prefix : Name) (bs : List Binding) (is : List Inner) (fs : List Flat) → BoundInRange bs → BodyInRange is → body_flats expand name prefix bs is ≡ Ok fs → FlatsInRange fs
+  body_ranges name prefix bs [] fs bound h e = let same : [] ≡ fs = cc in subst FlatsInRange same tt
+  body_ranges name prefix bs (i ∷ is) fs bound h e =
+      let more : Binding = record { name = i.name; term = layer_term (inner_name name prefix i.name) } in
+      let both = both_are (inner_flats expand bs (inner_name name prefix i.name) (dotted prefix i.name) i.written) (body_flats expand name prefix (bs ++ more ∷ []) is) fs e in
+      subst FlatsInRange both.joined
+      (flats_join both.front both.rest
+      (inner_ranges bs (inner_name name prefix i.name) (dotted prefix i.name) i.written both.front bound h.0 both.first)
+      (body_ranges name prefix (bs ++ more ∷ []) is both.rest (bound_more bs more bound tt) h.1 both.second))
+
+abbrev BodiesInRange : List Procedure → Type 0
+BodiesInRange ps = Each (λ (p : Procedure). BodyInRange p.body) ps
+
+found_ranges : (ps : List Procedure) (p : Name) (q : Procedure) → BodiesInRange ps → find_procedure ps p ≡ Some q → BodyInRange q.body
+found_ranges [] p q h e = absurd cc
+found_ranges (x ∷ ps) p q h e = go (bytes_eq x.name p) e (found_ranges ps p q h.1)
+  where
+    go : (o : Bool) → cond o (Some x) (find_procedure ps p) ≡ Some q → (find_procedure ps p ≡ Some q → BodyInRange q.body) → BodyInRange q.body
+    go true e rest = let same : x ≡ q = cc in subst (λ (r : Procedure). BodyInRange r.body) same h.0
+    go false e rest = rest e
+
+called_is : (o : Option Procedure) (p : Name) (ts : List Term) (q : Procedure) → called o p ts ≡ Ok q → o ≡ Some q
+called_is None p ts q e = absurd cc
+called_is (Some r) p ts q e = go (length ts == length r.takes) e
+  where
+    go : (b : Bool) → cond b (Ok r) (Err (wrong_count (length ts) (length r.takes))) ≡ Ok q → Some r ≡ Some q
+    go true e = cc
+    go false e = absurd cc
+
+call_ranges : (k : ℕ) (ps : List Procedure) → BodiesInRange ps → IsRanged (call_flats k ps)
+call_ranges zero ps bodies name prefix p ts fs h e = absurd cc
+call_ranges (suc k) ps bodies name prefix p ts fs h e = go (call_ranges k ps bodies) (called (find_procedure ps p) p ts) (called_is (find_procedure ps p) p ts) e
+  where
+    go : IsRanged (call_flats k ps) → (r : Result Procedure WrongCall) → ((q : Procedure) → r ≡ Ok q → find_procedure ps p ≡ Some q) → called_flats r (call_flats k ps) name prefix ts ≡ Ok fs → FlatsInRange fs
+    go rest (Err w) is e = absurd cc
+    go rest (Ok q) is e = body_ranges (call_flats k ps) rest name prefix (given_for q.takes ts) q.body fs (given_ranges q.takes ts h) (found_ranges ps p q bodies (is q refl)) e
+
+expansion_ranges : (ps : List Procedure) (n : Name) (w : Written) (fs : List Flat) → BodiesInRange ps → WrittenInRange w → expansion_of ps n w ≡ Ok fs → FlatsInRange fs
+unfolding expansion_of
+expansion_ranges ps n (plain op) fs bodies h e = one_flat n op fs (expansion_of ps n (plain op)) h refl e
+expansion_ranges ps n (call p ts) fs bodies h e = call_ranges (length ps) ps bodies n n p ts fs h e
+
+-- ---- formed procedures
+
+inner_formed : (ns : List Text) (is : List Inner) → AreInner ns is → BodyInRange is
+inner_formed ns [] h = tt
+inner_formed ns (i ∷ is) h = (written_ranges i.written h.1.0, inner_formed (ns ++ i.name ∷ []) is h.2)
+
+body_join : (is js : List Inner) → BodyInRange is → BodyInRange js → BodyInRange (is ++ js)
+body_join [] js first rest = rest
+body_join (i ∷ is) js first rest = (first.0, body_join is js first.1 rest)
+
+body_formed : (ps : List Text) (body : List Inner) → IsBody ps body → BodyInRange body
+body_formed ps body h =
+    subst BodyInRange (sym h.whole) (body_join h.before (record { name = codes "result"; written = h.last } ∷ []) (inner_formed ps h.before h.inner) (written_ranges h.last h.result.0, tt))
+
+bodies_formed : (ps : List Procedure) → ByRecursion IsProcedure ps → BodiesInRange ps
+bodies_formed [] h = tt
+bodies_formed (p ∷ ps) h = (body_formed p.takes p.body h.0.body, bodies_formed ps h.1)
+
+held_ranges : (fs : List held.Flat) → FlatsInRange (flats_view fs) → ByRecursion (λ (f : held.Flat). HasRanges (op_view f.op)) fs
+held_ranges [] h = tt
+held_ranges (f ∷ fs) h = (h.0, held_ranges fs h.1)
+
+pub ranged_flats : (ps : List Procedure) (n : Name) (w : Written) (fs : List held.Flat) → All IsProcedure ps → IsWritten w → expansion_of ps n w ≡ Ok (flats_view fs) → All (λ (f : held.Flat). HasRanges (op_view f.op)) fs
+ranged_flats ps n w fs procedures formed e =
+    All-from_recursion (λ (f : held.Flat). HasRanges (op_view f.op)) fs (held_ranges fs (expansion_ranges ps n w (flats_view fs) (bodies_formed ps (recursion_from_All IsProcedure ps procedures)) (written_ranges w formed) e))

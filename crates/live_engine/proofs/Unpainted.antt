@@ -1,0 +1,45 @@
+-- Why a source is not painted.
+use Rattle.std.proofs.Common.{◌≡◌, ℕ, Bool, true, false, cond, List, position, Option, Some, None, is_some, Ok, Err, bytes_eq, refl, sym, ap, ◌∙◌, ℤ}
+use Rattle.std.proofs.lemmas.Bool.{true≢false, false≢true}
+use Rattle.std.proofs.lemmas.Option.{none-some}
+use Rattle.map_nums.specs.Grids.{Grid}
+use Rattle.map_defs.specs.Ops.{Name}
+use Rattle.layer_tiles.specs.Layers.{LayerState}
+use Rattle.map_edits.specs.Entries.{Def, source, statement, find_def, put_entry}
+use Rattle.map_edits.specs.EditForms.{Rectangle, paint}
+use Rattle.map_edits.specs.EntriesAfter.{paint_source}
+use Rattle.map_edits.specs.Painting.{is_within, painted}
+use Rattle.map_edits.specs.Refusals.{unknown, is_derived, wrong_size}
+use Rattle.map_edits.specs.Attempts.{with_names, attempted}
+use Rattle.map_edits.specs.WholeEdits.{of_names}
+use Rattle.edit_plans.specs.Planned.{is_source_node}
+use Rattle.kept_map.specs.Maps.{grid_of, source_in, entries_in, names_in, seen}
+use Rattle.kept_map.specs.Keeps.{IsKept}
+use Rattle.kept_map.specs.declared.maps.KeptMap.{KeptMap}
+use Rattle.kept_map.proofs.Given.{source_node}
+use Rattle.kept_map.proofs.Naming.{source_def}
+
+module _ (m : KeptMap) (kept : IsKept m) (n : Name) (r : Rectangle) (cell : Option ℤ) where
+  painting : (o : Option Def) → find_def (entries_in m) n ≡ o → attempted (seen m) (of_names (paint n r cell)) ≡ with_names (seen m) (paint n r cell) (paint_source (names_in m) n r cell o)
+  painting o is = ap (λ q. with_names (seen m) (paint n r cell) (paint_source (names_in m) n r cell q)) is
+
+  pub paint_unknown : is_some (find_def (entries_in m) n) ≡ false → attempted (seen m) (of_names (paint n r cell)) ≡ Err (unknown n)
+  paint_unknown none = go (find_def (entries_in m) n) refl none
+    where
+      go : (o : Option Def) → find_def (entries_in m) n ≡ o → is_some o ≡ false → attempted (seen m) (of_names (paint n r cell)) ≡ Err (unknown n)
+      go None is h = painting None is
+      go (Some d) is h = absurd (true≢false h)
+
+  -- what is there and no source is a statement
+  pub paint_derived : position (bytes_eq n) m.sources.names.keys ≡ None → is_some (find_def (entries_in m) n) ≡ true → attempted (seen m) (of_names (paint n r cell)) ≡ Err (is_derived n)
+  paint_derived away there = go (find_def (entries_in m) n) refl there
+    where
+      go : (o : Option Def) → find_def (entries_in m) n ≡ o → is_some o ≡ true → attempted (seen m) (of_names (paint n r cell)) ≡ Err (is_derived n)
+      go None is h = absurd (false≢true h)
+      go (Some (source grid)) is h = absurd (false≢true (sym (ap is_some away) ∙ kept.sources.stand n ∙ ap is_source_node (source_node (entries_in m) n kept.lawful.groups kept.lawful.apart grid is)))
+      go (Some (statement written flats)) is h = painting (Some (statement written flats)) is
+
+  pub paint_outside : (l : LayerState) → source_in m.sources n ≡ Some l → is_within m.extent r ≡ false → attempted (seen m) (of_names (paint n r cell)) ≡ Err (wrong_size m.extent)
+  paint_outside l there out =
+      painting (Some (source (grid_of l))) (source_def m n kept l there)
+      ∙ ap (λ b. with_names (seen m) (paint n r cell) (cond b (Ok (put_entry (entries_in m) n (source (painted m.extent r cell (grid_of l))))) (Err (wrong_size m.extent)))) out

@@ -1,0 +1,12 @@
+use Rattle.std.proofs.Common.{◌+◌, ◌*◌}
+use Rattle.layer_tiles.specs.Tiles.{tiles_across}
+use Rattle.layer_tiles.specs.Tallies.{RisesBy}
+use Rattle.kept_map.specs.Maps.{grid_of}
+use Rattle.live_engine.specs.Painting.{rectangle_of, met_count, ArePainted}
+use Rattle.live_engine.proofs.painting.paint_tiles_in_row.Given as goal
+
+abbrev pub invariant-loop-column : goal.invariant-loop-column
+invariant-loop-column g l = record {
+  painted : ArePainted (grid_of l.layer) (rectangle_of l.rectangle) l.cell (l.row * tiles_across l.layer.size + l.column) l.patch;
+  tally : RisesBy (met_count l.layer.size (rectangle_of l.rectangle) (l.row * tiles_across l.layer.size) l.column) 0 (g.M.Tally.counts l.initial.tally) (g.M.Tally.counts l.tally);
+}

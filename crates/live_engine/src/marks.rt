@@ -1,0 +1,95 @@
+//! Labels and symbols are put.
+
+ghost use Rattle.std.specs.Prelude.{◌≡◌, ◌<◌, ◌≤◌, false};
+ghost use Rattle.map_edits.specs.WholeEdits.{label as labels, symbol as symbols};
+ghost use Rattle.kept_map.specs.Maps.{seen};
+ghost use Rattle.kept_map.specs.Keeps.{IsKept};
+ghost use Rattle.live_engine.specs.Accepts.{Accepts, ReadsWithin};
+
+use crate::edits::{Accepted, Refusal, Which};
+use crate::limits::has;
+use crate::noting::{Note, take_note};
+use kept_map::KeptMap;
+use layer_tiles::{Tally, Text};
+use map_nums::Value;
+use map_words::Name;
+use std::alloc::Global;
+use std::thread::Threads;
+use tile_workers::Gate;
+
+/// The most labels, and the most symbols.
+const MOST_MARKS: usize = 4096;
+
+/// Puts a label for a value of a layer.
+pub(crate) fn label<M: Tally + Send, G: Gate + Sync, R: Threads + Sync>(
+    map: &mut KeptMap,
+    rt: &R,
+    alloc: Global,
+    name: Name,
+    value: Value,
+    text: Text,
+    workers: u32,
+    gate: &G,
+    tally: &mut M,
+) -> Result<Accepted, Refusal>
+    requires kept { IsKept map.old }
+    requires some { 1 ≤ workers }
+    requires most { workers ≤ 64 }
+    requires whole { 1 < workers → ((M.counts tally.old).is_part ≡ false) × ((M.counts tally.old).parts_out ≡ 0) }
+    ensures accepts { Accepts (seen map.old) (seen map.new) (labels name value text) result }
+    ensures kept { IsKept map.new }
+    ensures reads { ReadsWithin (seen map.old) (labels name value text) (M.counts tally.old) (M.counts tally.new) }
+{
+    if !has(map, &name) {
+        return Err(Refusal::Unknown(name));
+    }
+    if map.labels.count_with(&name, value) > MOST_MARKS {
+        return Err(Refusal::Limit(Which::Labels));
+    }
+    take_note(
+        map,
+        rt,
+        alloc,
+        Note::Label(name, value, text),
+        workers,
+        gate,
+        tally,
+    )
+}
+
+/// Puts a symbol for a value of a layer.
+pub(crate) fn symbol<M: Tally + Send, G: Gate + Sync, R: Threads + Sync>(
+    map: &mut KeptMap,
+    rt: &R,
+    alloc: Global,
+    name: Name,
+    value: Value,
+    sign: u8,
+    workers: u32,
+    gate: &G,
+    tally: &mut M,
+) -> Result<Accepted, Refusal>
+    requires kept { IsKept map.old }
+    requires some { 1 ≤ workers }
+    requires most { workers ≤ 64 }
+    requires whole { 1 < workers → ((M.counts tally.old).is_part ≡ false) × ((M.counts tally.old).parts_out ≡ 0) }
+    ensures accepts { Accepts (seen map.old) (seen map.new) (symbols name value sign) result }
+    ensures kept { IsKept map.new }
+    ensures reads { ReadsWithin (seen map.old) (symbols name value sign) (M.counts tally.old) (M.counts tally.new) }
+{
+    if !has(map, &name) {
+        return Err(Refusal::Unknown(name));
+    }
+    if map.symbols.count_with(&name, value) > MOST_MARKS {
+        return Err(Refusal::Limit(Which::Symbols));
+    }
+    take_note(
+        map,
+        rt,
+        alloc,
+        Note::Symbol(name, value, sign),
+        workers,
+        gate,
+        tally,
+    )
+}

@@ -1,0 +1,55 @@
+-- Texts that are cut into lines, as another program cuts them.
+use Rattle.std.specs.Prelude.{◌≡◌, [], ◌∷◌, codes}
+use Rattle.map_machine.specs.Lines.{lines_of, open_piece, further_lines}
+use Rattle.map_machine.specs.Text.{session_lines}
+
+pub record CutRows : Type 0 where
+  -- all lines of a text
+  pub whole : (lines_of [] ≡ [])
+      × (lines_of (codes "\n") ≡ [] ∷ [])
+      × (lines_of (codes "\r\n") ≡ [] ∷ [])
+      × (lines_of (codes "\r\r\n") ≡ (codes "\r") ∷ [])
+      × (lines_of (codes "\r") ≡ (codes "\r") ∷ [])
+      × (lines_of (codes "x\r") ≡ (codes "x\r") ∷ [])
+      × (lines_of (codes "x") ≡ (codes "x") ∷ [])
+      × (lines_of (codes "x\n") ≡ (codes "x") ∷ [])
+      × (lines_of (codes "x\r\ny") ≡ (codes "x") ∷ (codes "y") ∷ [])
+      × (lines_of (codes "\n\nx\r\n\ry\n") ≡ [] ∷ [] ∷ (codes "x") ∷ (codes "\ry") ∷ [])
+      × (lines_of (codes "\ry\ryyyx") ≡ (codes "\ry\ryyyx") ∷ [])
+      × (lines_of (codes "\r\ny") ≡ [] ∷ (codes "y") ∷ [])
+      × (lines_of (codes "\n\n\r") ≡ [] ∷ [] ∷ (codes "\r") ∷ [])
+      × (lines_of (codes "\n\rx\nx\n") ≡ [] ∷ (codes "\rx") ∷ (codes "x") ∷ [])
+      × (lines_of (codes "y\n\r") ≡ (codes "y") ∷ (codes "\r") ∷ [])
+      × (lines_of (codes "\n\r\n\n\n") ≡ [] ∷ [] ∷ [] ∷ [] ∷ [])
+      × (lines_of (codes "x\r\n\n\n\n\n") ≡ (codes "x") ∷ [] ∷ [] ∷ [] ∷ [] ∷ [])
+      × (lines_of (codes "\n\n\r\r") ≡ [] ∷ [] ∷ (codes "\r\r") ∷ [])
+  -- what further bytes end
+  pub further : (further_lines [] (codes "\r\r\n") ≡ (codes "\r") ∷ [])
+      × (further_lines (codes "x") (codes "\r\ny") ≡ (codes "x") ∷ [])
+      × (further_lines (codes "\n\n") (codes "x\r\n\ry\n") ≡ (codes "x") ∷ (codes "\ry") ∷ [])
+      × (further_lines (codes "\ry\ryy") (codes "yx") ≡ [])
+      × (further_lines [] (codes "\r\ny") ≡ [] ∷ [])
+      × (further_lines (codes "\n") (codes "\n\r") ≡ [] ∷ [])
+      × (further_lines (codes "\n\r") (codes "x\nx\n") ≡ (codes "\rx") ∷ (codes "x") ∷ [])
+      × (further_lines [] (codes "y\n\r") ≡ (codes "y") ∷ [])
+      × (further_lines (codes "\n\r") (codes "\n\n\n") ≡ [] ∷ [] ∷ [] ∷ [])
+      × (further_lines (codes "x\r\n") (codes "\n\n\n\n") ≡ [] ∷ [] ∷ [] ∷ [] ∷ [])
+      × (further_lines (codes "\n") (codes "\n\r\r") ≡ [] ∷ [])
+  -- what stands after the last line feed
+  pub open_pieces : (open_piece (codes "\r\r\n") ≡ [])
+      × (open_piece (codes "x\r\ny") ≡ codes "y")
+      × (open_piece (codes "\n\nx\r\n\ry\n") ≡ [])
+      × (open_piece (codes "\ry\ryyyx") ≡ codes "\ry\ryyyx")
+      × (open_piece (codes "\r\ny") ≡ codes "y")
+      × (open_piece (codes "\n\n\r") ≡ codes "\r")
+      × (open_piece (codes "\n\rx\nx\n") ≡ [])
+      × (open_piece (codes "y\n\r") ≡ codes "\r")
+      × (open_piece (codes "\n\r\n\n\n") ≡ [])
+      × (open_piece (codes "x\r\n\n\n\n\n") ≡ [])
+      × (open_piece (codes "\n\n\r\r") ≡ codes "\r\r")
+  -- of a session: the limit is the first number
+  pub sessions : (session_lines 1 (codes "x\r\ny\nz") ≡ [])
+      × (session_lines 4 (codes "x\r\ny\nz") ≡ (codes "x") ∷ [])
+      × (session_lines 5 (codes "x\r\ny\nz") ≡ (codes "x") ∷ (codes "y") ∷ [])
+      × (session_lines 6 (codes "x\r\ny\nz") ≡ (codes "x") ∷ (codes "y") ∷ [])
+      × (session_lines 9 (codes "x\r\ny\nz") ≡ (codes "x") ∷ (codes "y") ∷ (codes "z") ∷ [])

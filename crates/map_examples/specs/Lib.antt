@@ -1,0 +1,12 @@
+pub mod Runs
+pub mod CutRows
+pub mod WordRows
+pub mod LoadRows
+pub mod LineRows
+pub mod DisplayRows
+pub mod OperationRows
+pub mod RepairRows
+pub mod TileRows
+pub mod SampleRows
+pub mod ReadRows
+pub mod LimitRows

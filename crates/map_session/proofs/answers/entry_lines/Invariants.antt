@@ -1,7 +1,0 @@
-use Rattle.std.proofs.Common.{◌≡◌, ◌≤◌, length, take}
-use Rattle.std.specs.List.{flat_map}
-use Rattle.map_machine.specs.Answers.{entry_line}
-use Rattle.map_session.proofs.answers.entry_lines.Given as goal
-
-abbrev pub invariant-loop-place : goal.invariant-loop-place
-invariant-loop-place l = record { text : l.text.items ≡ flat_map entry_line (take l.place l.engine.entries); within : l.place ≤ length l.engine.entries }
