@@ -1,10 +1,11 @@
-//! Measures the reading of a grid: reads the text of a file so many times, in memory.
+//! Measures the reading and the printing of a grid, in memory.
 //!
-//! The words are the number of rounds and the file's name. What is printed is the sum of all values of the last grid that was
-//! read. `bench/grid` tells the time of a byte from two such runs.
+//! The words are the number of rounds, the file's name, and `print` where its grid is read once and printed each round; else each
+//! round reads its text. What is told is the sum of all values of the last grid that was read, or the number of bytes that all
+//! rounds printed. `bench/grid` tells the time of a byte from two such runs.
 #![tactic(auto)]
 
-use grid_text::{GridRefusal, read_grid};
+use grid_text::{GridRefusal, print_grid, read_grid};
 use layer_tiles::Layer;
 use map_outside::{Counts, FileShelf, Shelf};
 use std::alloc::Global;
@@ -25,8 +26,16 @@ fn total(layer: &Layer) -> i64 {
     total
 }
 
+/// What the words ask for.
+#[derive(Drop)]
+struct Task {
+    count: u32,
+    name: String,
+    prints: bool,
+}
+
 // Reads the text so many times, and at least once.
-fn rounds(alloc: Global, bytes: &[u8], count: u32) -> Result<i64, GridRefusal> {
+fn reads(alloc: Global, bytes: &[u8], count: u32) -> Result<i64, GridRefusal> {
     let mut grid = read_grid(alloc, bytes, 1)?;
     for stamp in 1..count {
         grid = read_grid(alloc, bytes, stamp as u64)?;
@@ -34,8 +43,21 @@ fn rounds(alloc: Global, bytes: &[u8], count: u32) -> Result<i64, GridRefusal> {
     Ok(total(&grid.layer))
 }
 
-// The number of rounds and the file's name.
-fn task(rt: &HostRuntime) -> io::Result<(u32, String)> {
+// Reads the text once, and prints its grid so many times.
+fn prints(alloc: Global, bytes: &[u8], count: u32) -> Result<i64, GridRefusal> {
+    let grid = read_grid(alloc, bytes, 1)?;
+    let mut tally = Counts::new();
+    let mut printed: i64 = 0;
+    for _ in 0..count {
+        let Ok(text) = print_grid(alloc, &grid.header, &grid.layer, &mut tally) else {
+            return Err(GridRefusal::NoMemory);
+        };
+        printed = printed.wrapping_add(text.len() as i64);
+    }
+    Ok(printed)
+}
+
+fn task(rt: &HostRuntime) -> io::Result<Task> {
     let mut words = env::args(rt)?.skip(1);
     let count = match words.next() {
         Some(word) => word.parse().unwrap_or(1),
@@ -45,19 +67,35 @@ fn task(rt: &HostRuntime) -> io::Result<(u32, String)> {
         Some(word) => word,
         None => String::new(rt.alloc()),
     };
-    Ok((count, name))
+    let prints = match words.next() {
+        Some(word) => word == "print",
+        None => false,
+    };
+    Ok(Task {
+        count,
+        name,
+        prints,
+    })
+}
+
+fn told(alloc: Global, bytes: &[u8], task: &Task) -> Result<i64, GridRefusal> {
+    if task.prints {
+        prints(alloc, bytes, task.count)
+    } else {
+        reads(alloc, bytes, task.count)
+    }
 }
 
 fn main(rt: HostRuntime) -> ExitCode {
-    let Ok((count, name)) = task(&rt) else {
+    let Ok(task) = task(&rt) else {
         return ExitCode::from(1);
     };
     let mut shelf = FileShelf::new(&rt);
-    let Ok(bytes) = shelf.fetch(rt.alloc(), &name, LONGEST_FILE) else {
+    let Ok(bytes) = shelf.fetch(rt.alloc(), &task.name, LONGEST_FILE) else {
         return ExitCode::from(1);
     };
-    match rounds(rt.alloc(), &bytes, count) {
-        Ok(total) => match println!(&rt; "{total}") {
+    match told(rt.alloc(), &bytes, &task) {
+        Ok(told) => match println!(&rt; "{told}") {
             Ok(()) => ExitCode::from(0),
             Err(_) => ExitCode::from(1),
         },
