@@ -57,7 +57,7 @@ fn prints(alloc: Global, bytes: &[u8], count: u32) -> Result<i64, GridRefusal> {
     Ok(printed)
 }
 
-fn task(rt: &HostRuntime) -> io::Result<Task> {
+fn read_task(rt: &HostRuntime) -> io::Result<Task> {
     let mut words = env::args(rt)?.skip(1);
     let count = match words.next() {
         Some(word) => word.parse().unwrap_or(1),
@@ -68,7 +68,7 @@ fn task(rt: &HostRuntime) -> io::Result<Task> {
         None => String::new(rt.alloc()),
     };
     let prints = match words.next() {
-        Some(word) => word == "print",
+        Some(word) => word.as_str() == "print",
         None => false,
     };
     Ok(Task {
@@ -87,7 +87,7 @@ fn told(alloc: Global, bytes: &[u8], task: &Task) -> Result<i64, GridRefusal> {
 }
 
 fn main(rt: HostRuntime) -> ExitCode {
-    let Ok(task) = task(&rt) else {
+    let Ok(task) = read_task(&rt) else {
         return ExitCode::from(1);
     };
     let mut shelf = FileShelf::new(&rt);
