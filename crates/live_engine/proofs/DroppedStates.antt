@@ -13,7 +13,7 @@ use Rattle.map_edits.specs.LayerDefs.{Making, layers_of, layers, find_making, no
 use Rattle.map_edits.specs.EditForms.{drop_name}
 use Rattle.map_edits.specs.Refusals.{unknown}
 use Rattle.map_edits.specs.Limits.{is_source, is_flat, most_sources, most_flats}
-use Rattle.map_edits.specs.NamesAfter.{entries_with}
+use Rattle.map_edits.specs.EntriesAfter.{entries_with}
 use Rattle.map_edits.specs.Attempts.{with_names, attempted}
 use Rattle.map_edits.specs.Touches.{whole, touch_of}
 use Rattle.map_edits.specs.WholeStates.{WholeState}
