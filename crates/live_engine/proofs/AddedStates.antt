@@ -10,7 +10,7 @@ use Rattle.layer_tiles.specs.Layers.{LayerState}
 use Rattle.procedure_expand.proofs.Plain.{plain_undotted}
 use Rattle.statement_graph.specs.Groups.{Group, nodes_in, has_group}
 use Rattle.statement_graph.specs.Puts.{source_node}
-use Rattle.map_edits.specs.Entries.{source, statement, Entry, find_def, put_entry}
+use Rattle.map_edits.specs.Entries.{source, Entry, find_def, put_entry}
 use Rattle.map_edits.specs.LayerDefs.{layers_of, layers, nodes_of}
 use Rattle.map_edits.specs.EditForms.{Edit, load, new_layer}
 use Rattle.map_edits.specs.EntriesAfter.{same_size, add_source, entries_with}
