@@ -11,7 +11,7 @@ use Rattle.map_edits.specs.EngineStates.{EngineState, value_of}
 use Rattle.map_edits.specs.Faults.{Fault, fault_of_layer, fault_of}
 use Rattle.map_edits.specs.Laws.{HasNoCycle}
 use Rattle.map_edits.specs.Touches.{Touch}
-use Rattle.map_waves.specs.Statements.{made, viewers_in, fault_in, wide_at, too_many}
+use Rattle.map_waves.specs.Statements.{fault_in}
 use Rattle.map_waves.specs.Statements as waves
 use Rattle.map_waves.specs.Plans.{Plan, operands_at, fault_at}
 use Rattle.edit_plans.specs.PlansFor.{IsPlanFor}

@@ -76,9 +76,6 @@ pub record IsPlannedTo (nodes : List Node) (sources : List Name) (flats : List (
   pub count : length steps ≡ length names
   pub each : (j : ℕ) (n : Name) (x : Step Given) → slice_get names j ≡ Some n → slice_get steps j ≡ Some x → IsPlannedStep nodes sources flats old names j n x
 
-pub planned_none : (nodes : List Node) (sources : List Name) (flats : List (List ℕ × FlatDef)) (old : List Name) → IsPlannedTo nodes sources flats old 0 [] []
-planned_none nodes sources flats old = record { names_are = refl; count = refl; each = λ j n x at here. absurd (none-some n at) }
-
 module _ (nodes : List Node) (acyclic : HasNoCycle nodes) (apart : AreNamedApart nodes) (sources : List Name) (are : AreSources nodes sources) (flats : List (List ℕ × FlatDef)) (known : AreFlats nodes flats) (old : List Name)
     (k : ℕ) (names : List Name) (steps : List (Step Given)) (up : IsPlannedTo nodes sources flats old k names steps) where
   -- each is as deep as the nodes are many at most

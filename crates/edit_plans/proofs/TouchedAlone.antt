@@ -13,7 +13,7 @@ use Rattle.map_edits.specs.LayerDefs.{Making, given_grid, by_op, LayerDef, flat_
 use Rattle.map_edits.specs.EngineStates.{EngineState}
 use Rattle.map_edits.specs.Refusals.{Refusal, procedures, labels, symbols, exists_already, unknown}
 use Rattle.map_edits.specs.EditForms.{Edit, load, new_layer, paint, define, drop_name, Rectangle}
-use Rattle.map_edits.specs.EntriesAfter.{paint_source}
+use Rattle.map_edits.specs.EntriesAfter.{paint_source, entries_with}
 use Rattle.map_edits.specs.Painting.{is_within, painted}
 use Rattle.map_edits.proofs.Puts.{find_put}
 use Rattle.map_edits.proofs.Accepted.{cond_ok}
@@ -22,7 +22,6 @@ use Rattle.map_edits.specs.Laws.{edited}
 use Rattle.map_edits.specs.Marks.{put_mark}
 use Rattle.map_edits.specs.WholeStates.{WholeState}
 use Rattle.map_edits.specs.WholeEdits.{WholeEdit, of_names, define_procedure, label, symbol}
-use Rattle.map_edits.specs.NamesAfter.{entries_with}
 use Rattle.map_edits.specs.Attempts.{marks_after, with_names, with_procedure, with_labels, with_symbols, attempted}
 use Rattle.map_edits.specs.Touches.{nothing, whole, touch_of_names, touch_of, stands_for}
 use Rattle.map_edits.specs.GroupLaws.{IsLawful, IsPlainEdit, IsSaid}

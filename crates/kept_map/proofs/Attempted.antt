@@ -11,7 +11,7 @@ use Rattle.map_edits.specs.Edits.{with_entries}
 use Rattle.map_edits.specs.Marks.{put_mark}
 use Rattle.map_edits.specs.WholeStates.{WholeState}
 use Rattle.map_edits.specs.WholeEdits.{WholeEdit, of_names, define_procedure, label, symbol}
-use Rattle.map_edits.specs.NamesAfter.{entries_with}
+use Rattle.map_edits.specs.EntriesAfter.{entries_with}
 use Rattle.map_edits.specs.Attempts.{marks_after, with_names, with_procedure, with_labels, with_symbols, attempted}
 use Rattle.map_edits.proofs.LawfulEdits.{within_is, known_is, new_is}
 

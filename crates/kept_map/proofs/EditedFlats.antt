@@ -2,7 +2,6 @@
 use Rattle.std.proofs.Common.{◌≡◌, ℕ, Bool, true, false, cond, List, [], ◌∷◌, ◌++◌, map, find, flat_map, Option, Some, None, option_map, bytes_eq, refl, sym, ap, ◌∙◌, if◌then◌else◌}
 use Rattle.std.specs.Map.{lookup}
 use Rattle.std.specs.Cmp.Lexicographic.{nat_list_eq_equiv}
-use Rattle.std.proofs.lemmas.Bool.{true≢false}
 use Rattle.std.proofs.lemmas.Option.{none-some}
 use Rattle.map_nums.specs.Grids.{Size}
 use Rattle.map_defs.specs.Ops.{Name, Op}
@@ -11,11 +10,11 @@ use Rattle.layer_tiles.specs.Layers.{LayerState}
 use Rattle.statement_parser.specs.Views.{op_view}
 use Rattle.procedure_expand.specs.Flats.{flat_view, flats_view}
 use Rattle.procedure_expand.specs.declared.flat.Flat.{Flat}
-use Rattle.map_edits.specs.Entries.{Def, source, statement, Entry, find_def}
+use Rattle.map_edits.specs.Entries.{Def, source, statement, find_def}
 use Rattle.map_edits.specs.LayerDefs.{Making, given_grid, by_op, LayerDef, flat_layer, find_making}
 use Rattle.map_edits.specs.Laws.{IsApart}
 use Rattle.map_edits.specs.GroupLaws.{IsGroup, AreGroups}
-use Rattle.map_edits.proofs.Among.{same_name, bytes_eq-self}
+use Rattle.map_edits.proofs.Among.{same_name}
 use Rattle.map_edits.proofs.Heads.{head_of}
 use Rattle.map_edits.proofs.Groups.{or_else, def_layers, outsider, group_making}
 use Rattle.edit_plans.specs.Planned.{FlatDef}

@@ -3,7 +3,7 @@ use Rattle.std.proofs.Common.{◌≡◌, ℕ, Bool, true, false, cond, ◌||◌,
 use Rattle.std.specs.List.{All, AllByRecursion, list_any}
 use Rattle.std.specs.Map.{lookup}
 use Rattle.std.specs.Option.{option_or}
-use Rattle.std.proofs.lemmas.Bool.{true≢false, false≢true}
+use Rattle.std.proofs.lemmas.Bool.{true≢false}
 use Rattle.std.proofs.lemmas.Option.{none-some, same_Some}
 use Rattle.std.proofs.lemmas.List.Elements.{recursion_from_All}
 use Rattle.map_nums.specs.Grids.{Grid}
@@ -11,11 +11,10 @@ use Rattle.map_defs.specs.Ops.{Name, Op}
 use Rattle.map_defs.specs.Nodes.{Node, find_node}
 use Rattle.map_defs.specs.Statements as statements
 use Rattle.map_defs.specs.MadeProcedures.{IsUndotted}
-use Rattle.layer_tiles.specs.Layers.{LayerState}
 use Rattle.statement_parser.specs.Views.{op_view}
 use Rattle.procedure_expand.specs.declared.flat.Flat.{Flat}
 use Rattle.map_edits.specs.Entries.{Def, source, statement, Entry, find_def}
-use Rattle.map_edits.specs.LayerDefs.{Making, given_grid, by_op, LayerDef, layers_of, layers, find_making, nodes_of}
+use Rattle.map_edits.specs.LayerDefs.{given_grid, by_op, LayerDef, layers_of, layers, find_making, nodes_of}
 use Rattle.map_edits.specs.Laws.{IsApart}
 use Rattle.map_edits.specs.GroupLaws.{IsGroup, AreGroups}
 use Rattle.map_edits.specs.Touches.{whole, stands_for, is_whole}

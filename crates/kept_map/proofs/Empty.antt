@@ -1,5 +1,5 @@
 -- A map without names.
-use Rattle.std.proofs.Common.{◌≡◌, List, [], None, slice_get, refl, sym, ap, subst, ◌∙◌, arith}
+use Rattle.std.proofs.Common.{◌≡◌, [], None, slice_get, refl, sym, ap, subst, ◌∙◌, arith}
 use Rattle.map_nums.specs.Grids.{Size, IsSize}
 use Rattle.std.specs.List.{IsDistinct}
 use Rattle.std.proofs.lemmas.Option.{none-some}

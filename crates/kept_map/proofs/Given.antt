@@ -1,10 +1,10 @@
 -- The sources of a state, as layers, as nodes and by value.
-use Rattle.std.proofs.Common.{◌≡◌, Bool, true, false, cond, not, List, [], ◌∷◌, find, Option, Some, None, is_some, option_map, bytes_eq, refl, sym, ap, ◌∙◌}
+use Rattle.std.proofs.Common.{◌≡◌, Bool, true, false, cond, List, [], ◌∷◌, find, Option, Some, None, option_map, bytes_eq, refl, sym, ap, ◌∙◌}
 use Rattle.std.proofs.lemmas.Bool.{false≢true}
-use Rattle.std.proofs.lemmas.Option.{none-some, same_Some}
+use Rattle.std.proofs.lemmas.Option.{none-some}
 use Rattle.map_nums.specs.Grids.{Grid}
 use Rattle.map_defs.specs.Ops.{Name}
-use Rattle.map_defs.specs.Nodes.{Node, find_node}
+use Rattle.map_defs.specs.Nodes.{find_node}
 use Rattle.map_defs.specs.MadeProcedures.{IsUndotted}
 use Rattle.map_edits.specs.Entries.{Def, source, statement, Entry, find_def}
 use Rattle.map_edits.specs.LayerDefs.{Making, given_grid, by_op, LayerDef, layers, find_making, nodes_of}

@@ -1,21 +1,21 @@
 -- What a name of a map is, by its item, and by its place among the sources.
-use Rattle.std.proofs.Common.{◌≡◌, ℕ, Bool, true, false, List, position, Option, Some, None, is_some, option_map, slice_get, bytes_eq, refl, sym, ap, ◌∙◌}
+use Rattle.std.proofs.Common.{◌≡◌, ℕ, true, false, position, Option, Some, None, is_some, option_map, slice_get, bytes_eq, refl, sym, ap, ◌∙◌}
 use Rattle.std.specs.Map.{lookup}
 use Rattle.std.proofs.lemmas.Bool.{false≢true}
-use Rattle.std.proofs.lemmas.Option.{none-some, same_Some}
+use Rattle.std.proofs.lemmas.Option.{none-some}
 use Rattle.map_nums.specs.Grids.{Grid}
 use Rattle.map_defs.specs.Ops.{Name}
-use Rattle.layer_tiles.specs.Layers.{LayerState, IsLayer}
+use Rattle.layer_tiles.specs.Layers.{LayerState}
 use Rattle.statement_parser.specs.Views.{written_view}
 use Rattle.procedure_expand.specs.Flats.{flats_view}
-use Rattle.map_edits.specs.Entries.{Def, source, statement, find_def}
+use Rattle.map_edits.specs.Entries.{source, statement, find_def}
 use Rattle.edit_plans.specs.Planned.{is_source_node}
-use Rattle.kept_map.specs.Maps.{grid_of, source_in, source_grid, def_by, entries_in, names_in}
+use Rattle.kept_map.specs.Maps.{grid_of, source_in, source_grid, def_by, entries_in}
 use Rattle.kept_map.specs.Keeps.{IsKept}
 use Rattle.kept_map.specs.declared.maps.Item.{Item}
 use Rattle.kept_map.specs.declared.maps.Item.TheVariants.{Source, Statement}
 use Rattle.kept_map.specs.declared.maps.KeptMap.{KeptMap}
-use Rattle.kept_map.proofs.SourceLayers.{source_at, source_place, source_whole, layer_at, find_item}
+use Rattle.kept_map.proofs.SourceLayers.{source_place, layer_at, find_item}
 use Rattle.kept_map.proofs.Given.{node_source, source_node}
 
 module _ (m : KeptMap) (n : Name) where

@@ -1,5 +1,5 @@
 -- A map that has other room keeps what it keeps.
-use Rattle.std.proofs.Common.{◌≡◌, ℕ, ◌≤◌, List, length, count_by, position, Option, is_some, None, option_map, bytes_eq, sym, ap, subst, ◌∙◌}
+use Rattle.std.proofs.Common.{◌≡◌, ℕ, ◌≤◌, List, length, count_by, position, Option, is_some, option_map, bytes_eq, sym, ap, subst, ◌∙◌}
 use Rattle.std.specs.List.{All, IsDistinct}
 use Rattle.std.specs.Option.{option_or}
 use Rattle.map_defs.specs.Nodes.{find_node}

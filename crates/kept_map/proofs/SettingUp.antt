@@ -1,6 +1,6 @@
 -- What an edit makes of the sources of a map, and of their stamps.
 use Rattle.std.proofs.Common.{◌≡◌, ℕ, zero, suc, ℤ, Bool, true, false, List, [], ◌∷◌, ◌++◌, length, position, Option, Some, None, is_some, option_map, slice_get, bytes_eq, refl, sym, ap, subst, ◌∙◌, ◌⊎◌, inl, inr, arith, Bor}
-use Rattle.std.specs.List.{IsDistinct, AllByRecursion, list_any}
+use Rattle.std.specs.List.{IsDistinct, AllByRecursion}
 use Rattle.std.proofs.lemmas.Bool.{true≢false, false≢true}
 use Rattle.std.proofs.lemmas.Map.Keys.{IsDistinct-head, IsDistinct-tail}
 use Rattle.std.proofs.lemmas.Option.{none-some, same_Some, slice_get_past}
@@ -9,9 +9,9 @@ use Rattle.map_defs.specs.Damage.{changed_tiles}
 use Rattle.map_defs.specs.Ops.{Name}
 use Rattle.map_defs.specs.MadeProcedures.{IsUndotted}
 use Rattle.layer_tiles.specs.Changes.{same_change, constant_change}
-use Rattle.layer_tiles.specs.Layers.{LayerState, IsLayer, IsStamped, layer_of}
+use Rattle.layer_tiles.specs.Layers.{LayerState, IsLayer, layer_of}
 use Rattle.layer_tiles.specs.Tiles.{tiles_in}
-use Rattle.map_edits.specs.Entries.{Def, source, statement, Entry, find_def}
+use Rattle.map_edits.specs.Entries.{source, find_def}
 use Rattle.map_edits.specs.LayerDefs.{Making, given_grid, layers, find_making, nodes_of}
 use Rattle.map_edits.specs.EngineStates.{EngineState, made, value_of}
 use Rattle.map_edits.specs.WholeStates.{WholeState, cells_of}
@@ -31,11 +31,11 @@ use Rattle.map_waves.proofs.Making.{all_get}
 use Rattle.edit_plans.specs.PlansFor.{IsChangeOf}
 use Rattle.edit_plans.proofs.Positions.{some_position, position_at, any_at_place}
 use Rattle.edit_plans.proofs.Restamped.{old_is_stamped, new_is_stamped}
-use Rattle.kept_map.specs.Maps.{grid_of, at_place, source_in, layer_in, entries_in, names_in, seen}
+use Rattle.kept_map.specs.Maps.{grid_of, source_in, layer_in, entries_in, names_in, seen}
 use Rattle.kept_map.specs.Keeps.{IsKept}
 use Rattle.kept_map.specs.Edits.{change_in}
 use Rattle.kept_map.specs.declared.maps.KeptMap.{KeptMap}
-use Rattle.kept_map.proofs.SourceLayers.{source_at, source_place, source_whole, layer_at}
+use Rattle.kept_map.proofs.SourceLayers.{source_at, source_whole, layer_at}
 use Rattle.kept_map.proofs.Given.{undotted, source_making, source_value}
 use Rattle.kept_map.proofs.LayersByName.{layer_source, stamps_found}
 use Rattle.kept_map.proofs.Naming.{source_def}

@@ -1,16 +1,16 @@
 -- The layers of sources by name, and the entries that a map's names are.
-use Rattle.std.proofs.Common.{◌≡◌, ◌≢◌, inl, inr, ℕ, zero, suc, ◌<◌, Bool, true, false, cond, not, List, [], ◌∷◌, ◌++◌, length, set, find, position, Option, Some, None, is_some, option_map, slice_get, bytes_eq, refl, sym, ap, subst, ◌∙◌, arith, if◌then◌else◌}
+use Rattle.std.proofs.Common.{◌≡◌, ◌≢◌, inl, inr, ℕ, zero, suc, Bool, true, false, cond, not, List, [], ◌∷◌, ◌++◌, length, set, find, position, Option, Some, None, is_some, option_map, slice_get, bytes_eq, refl, sym, ap, ◌∙◌, arith, if◌then◌else◌}
 use Rattle.std.specs.Map.{lookup, remove_entry}
 use Rattle.std.specs.Option.{option_or}
 use Rattle.std.specs.Cmp.Lexicographic.{nat_list_eq_equiv}
-use Rattle.std.proofs.lemmas.Bool.{true≢false, false≢true}
+use Rattle.std.proofs.lemmas.Bool.{true≢false}
 use Rattle.std.proofs.lemmas.Option.{none-some, same_Some, slice_get_cases}
 use Rattle.std.proofs.lemmas.List.Quantifiers.{position-Some}
 use Rattle.indexmap.specs.IndexMap.{insert_entry}
-use Rattle.map_nums.specs.Grids.{Size, Grid}
+use Rattle.map_nums.specs.Grids.{Size}
 use Rattle.map_defs.specs.Ops.{Name}
 use Rattle.layer_tiles.specs.Layers.{LayerState, IsLayer}
-use Rattle.map_edits.specs.Entries.{Def, source, Entry, find_def, put_entry, drop_entry}
+use Rattle.map_edits.specs.Entries.{source, Entry, find_def, put_entry, drop_entry}
 use Rattle.map_edits.specs.EngineStates.{EngineState}
 use Rattle.map_edits.specs.Laws.{IsApart}
 use Rattle.map_edits.proofs.Among.{same_name}
@@ -19,7 +19,7 @@ use Rattle.edit_plans.proofs.Positions.{position_push, position_at, get_more}
 use Rattle.kept_map.specs.Maps.{at_place, source_in, source_grid, def_by, entry_by, entries_by}
 use Rattle.kept_map.specs.Keeps.{AreKeptSources}
 use Rattle.kept_map.specs.declared.maps.Item.{Item}
-use Rattle.kept_map.specs.declared.maps.Item.TheVariants.{Source, Statement}
+use Rattle.kept_map.specs.declared.maps.Item.TheVariants.{Source}
 use Rattle.kept_map.specs.declared.maps.Sources.{Sources}
 
 -- ---- lists

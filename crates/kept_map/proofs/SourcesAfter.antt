@@ -1,44 +1,39 @@
 -- The sources of a map after an edit: which names they are, their layers, and their stamps.
-use Rattle.std.proofs.Common.{◌≡◌, ℕ, ◌+◌, Bool, true, false, List, [], ◌∷◌, ◌++◌, length, position, Option, Some, None, is_some, option_map, slice_get, bytes_eq, refl, sym, ap, subst, ◌∙◌, arith, if◌then◌else◌}
-use Rattle.std.specs.Prelude.{remove}
+use Rattle.std.proofs.Common.{◌≡◌, ℕ, ◌+◌, Bool, true, false, List, [], ◌∷◌, ◌++◌, length, position, Option, Some, None, is_some, option_map, bytes_eq, refl, sym, ap, subst, ◌∙◌, arith, if◌then◌else◌}
 use Rattle.std.specs.List.{All, IsDistinct}
-use Rattle.std.specs.Map.{lookup, remove_entry}
 use Rattle.std.specs.Option.{option_or}
 use Rattle.std.proofs.lemmas.Bool.{true≢false, false≢true}
-use Rattle.std.proofs.lemmas.Option.{none-some, same_Some}
+use Rattle.std.proofs.lemmas.Option.{same_Some}
 use Rattle.std.proofs.lemmas.List.{length-append}
 use Rattle.std.proofs.lemmas.List.Elements.{All-push}
 use Rattle.indexmap.specs.IndexMap.{insert_entry}
-use Rattle.map_nums.specs.Counts.{raised}
-use Rattle.map_nums.specs.Grids.{Size, Grid}
+use Rattle.map_nums.specs.Grids.{Grid}
 use Rattle.map_defs.specs.Ops.{Name}
 use Rattle.map_defs.specs.Nodes.{find_node}
 use Rattle.map_defs.specs.MadeProcedures.{IsUndotted}
 use Rattle.layer_tiles.specs.Layers.{LayerState, IsLayer, layer_of}
-use Rattle.map_edits.specs.Entries.{Def, source, statement, Entry, find_def, put_entry, drop_entry}
+use Rattle.map_edits.specs.Entries.{Def, source, statement, Entry, find_def, put_entry}
 use Rattle.map_edits.specs.LayerDefs.{nodes_of}
 use Rattle.map_edits.specs.EngineStates.{EngineState}
 use Rattle.map_edits.specs.WholeStates.{WholeState, cells_of}
 use Rattle.map_edits.specs.StampsAfter.{stamps_at}
 use Rattle.map_edits.specs.Laws.{IsApart}
 use Rattle.map_edits.specs.GroupLaws.{AreGroups}
-use Rattle.map_edits.proofs.Among.{same_name, bytes_eq-self, bytes_eq-turned}
-use Rattle.map_edits.proofs.Puts.{find_put, find_put_other, find_drop, find_drop_other}
+use Rattle.map_edits.proofs.Among.{same_name, bytes_eq-turned}
+use Rattle.map_edits.proofs.Puts.{find_put, find_put_other}
 use Rattle.map_edits.proofs.LawfulEdits.{AreGood}
 use Rattle.edit_plans.specs.Planned.{is_source_node}
 use Rattle.edit_plans.proofs.Positions.{position_push}
-use Rattle.kept_map.specs.Maps.{grid_of, source_in, def_by, entries_by, entries_in, names_in, seen}
+use Rattle.kept_map.specs.Maps.{grid_of, source_in, def_by, entries_by, entries_in, seen}
 use Rattle.kept_map.specs.Keeps.{AreKeptSources, IsKept}
-use Rattle.kept_map.specs.declared.maps.Item.{Item}
-use Rattle.kept_map.specs.declared.maps.Item.TheVariants.{Source, Statement}
+use Rattle.kept_map.specs.declared.maps.Item.TheVariants.{Source}
 use Rattle.kept_map.specs.declared.maps.Sources.{Sources}
 use Rattle.kept_map.specs.declared.maps.KeptMap.{KeptMap}
-use Rattle.kept_map.proofs.SourceLayers.{source_added, source_beside, find_item, entries_insert, entries_elsewhere, entries_remove}
+use Rattle.kept_map.proofs.SourceLayers.{source_added, source_beside, entries_insert, entries_elsewhere}
 use Rattle.kept_map.proofs.Given.{source_node, node_source, source_value}
 use Rattle.kept_map.proofs.Naming.{source_def}
 use Rattle.kept_map.proofs.EditedFlats.{no_item}
 use Rattle.kept_map.proofs.SettingUp.{stamps_stay, stamps_begin, absent_before}
-use Rattle.kept_map.proofs.TakenOut.{gone_position, gone_source, left_position, left_source}
 
 -- ---- sources by what their names are
 

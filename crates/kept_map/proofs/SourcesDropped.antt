@@ -1,5 +1,5 @@
 -- The sources of a map after a name was dropped, and the operands that go with them.
-use Rattle.std.proofs.Common.{◌≡◌, ◌≢◌, ℕ, zero, suc, ◌+◌, ◌<◌, ◌&&◌, Bool, true, false, List, [], ◌∷◌, length, map, get_or, position, Option, Some, None, is_some, option_map, slice_get, bytes_eq, refl, sym, ap, subst, ◌∙◌, arith}
+use Rattle.std.proofs.Common.{◌≡◌, ◌≢◌, ℕ, zero, suc, Bool, true, false, List, [], ◌∷◌, length, map, get_or, position, Option, Some, None, is_some, option_map, slice_get, bytes_eq, refl, sym, ap, subst, ◌∙◌, arith}
 use Rattle.std.specs.Prelude.{remove}
 use Rattle.std.specs.List.{All, AllByRecursion, IsDistinct}
 use Rattle.std.specs.Map.{remove_entry}
@@ -26,7 +26,6 @@ use Rattle.map_edits.proofs.LawfulEdits.{AreGood}
 use Rattle.map_waves.specs.declared.plans.Step.{Step}
 use Rattle.map_waves.specs.declared.plans.Shift.{Shift}
 use Rattle.map_waves.specs.Plans.{StepDef}
-use Rattle.map_waves.proofs.Making.{all_get}
 use Rattle.edit_plans.specs.PlansFor.{AreRefsFor}
 use Rattle.edit_plans.proofs.There.{all_cons}
 use Rattle.edit_plans.proofs.Valued.{operands_made}
@@ -34,11 +33,11 @@ use Rattle.edit_plans.proofs.Positions.{position_at}
 use Rattle.kept_map.specs.Maps.{at_place, source_in, entries_by, entries_in, names_in, seen}
 use Rattle.kept_map.specs.Keeps.{AreKeptSources, IsKept}
 use Rattle.kept_map.specs.Commits.{IsAtRest, Rests}
-use Rattle.kept_map.specs.Lowering.{lowered, IsLowered, AreLowered, IsTakenOut}
+use Rattle.kept_map.specs.Lowering.{lowered, IsLowered, IsTakenOut}
 use Rattle.kept_map.specs.Repairs.{plan_in, step_in, IsUnder}
 use Rattle.kept_map.specs.declared.maps.Sources.{Sources}
 use Rattle.kept_map.specs.declared.maps.KeptMap.{KeptMap}
-use Rattle.kept_map.proofs.SourceLayers.{source_at, source_none, entries_remove}
+use Rattle.kept_map.proofs.SourceLayers.{source_none, entries_remove}
 use Rattle.kept_map.proofs.TakenOut.{IsOther, AreOther, refs_lowered, gone_position, gone_source, left_position, left_source}
 use Rattle.kept_map.proofs.SourcesAfter.{is_source_def, stand_by, stood_by, other_stamps}
 use Rattle.kept_map.proofs.Ready.{rests_after}

@@ -1,7 +1,6 @@
 -- What an edit of a map is, before its statements are planned and repaired.
 use Rattle.std.specs.Prelude.{◌≡◌, ℕ, ◌+◌, ◌≤◌, List, length, count_by, false, Some, Ok, slice_get, bytes_eq}
 use Rattle.std.specs.Map.{lookup}
-use Rattle.map_nums.specs.Grids.{Size}
 use Rattle.map_defs.specs.Ops.{Name, Op}
 use Rattle.layer_tiles.specs.Changes.{ChangeState}
 use Rattle.statement_parser.specs.Views.{op_view}

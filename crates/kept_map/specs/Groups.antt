@@ -1,9 +1,9 @@
 -- The groups of a graph that goes with entries.
-use Rattle.std.specs.Prelude.{◌≡◌, List, map, flat_map, Some, Result, Ok, Err, IsTrue, IsFalse, ⊤}
-use Rattle.map_defs.specs.Ops.{Name, term_names, needs_of}
+use Rattle.std.specs.Prelude.{◌≡◌, List, map, Result, Ok, Err, IsTrue, IsFalse, ⊤}
+use Rattle.map_defs.specs.Ops.{Name}
 use Rattle.map_defs.specs.Nodes.{Node}
 use Rattle.map_defs.specs.Depths.{is_looped}
-use Rattle.map_defs.specs.Statements.{Flat, Written, plain, call}
+use Rattle.map_defs.specs.Statements.{Flat}
 use Rattle.map_edits.specs.Entries.{Entry}
 use Rattle.map_edits.specs.LayerDefs.{layers_of, flat_layer, node_of_layer}
 use Rattle.statement_graph.specs.Groups.{Group, nodes_in, put_group}
@@ -19,11 +19,6 @@ groups_of entries = map group_of entries
 -- the nodes of a statement
 abbrev pub statement_nodes : List Flat → List Node
 statement_nodes flats = map node_of_layer (map flat_layer flats)
-
--- the node of a statement that is written
-abbrev pub written_node : Name → Written → Node
-written_node n (plain op) = record { name = n; needs = Some (needs_of op) }
-written_node n (call p ts) = record { name = n; needs = Some (flat_map term_names ts) }
 
 -- the graph with a statement, exactly where its name isn't reached from its own needs
 abbrev pub IsGraphWith : List Group → Name → List Node → Result (List Group) GraphRefusal → Type 0

@@ -1,7 +1,7 @@
 -- What a map keeps at every moment.
 use Rattle.std.specs.Prelude.{◌≡◌, ℕ, ◌≤◌, List, length, count_by, false, Some, None, is_some, slice_get, position, bytes_eq, IsTrue}
 use Rattle.std.specs.List.{All, IsDistinct}
-use Rattle.map_nums.specs.Grids.{Size, IsSize}
+use Rattle.map_nums.specs.Grids.{IsSize}
 use Rattle.map_words.specs.Names.{is_plain}
 use Rattle.map_defs.specs.Ops.{Name}
 use Rattle.map_defs.specs.Nodes.{find_node}
@@ -24,7 +24,6 @@ use Rattle.edit_plans.specs.declared.planning.Planned.{Planned}
 use Rattle.op_jobs.specs.Beside.{suits}
 use Rattle.op_jobs.specs.Ranges.{HasRanges}
 use Rattle.op_jobs.specs.declared.beside.Beside.{Beside}
-use Rattle.statement_graph.specs.Groups.{Group}
 use Rattle.kept_map.specs.Groups.{groups_of}
 use Rattle.kept_map.specs.Maps.{entries_in, names_in, seen}
 use Rattle.kept_map.specs.Flats.{flats_kept}

@@ -1,8 +1,8 @@
 -- What is answered of an edit whose statements are prepared, and what it reads.
-use Rattle.std.proofs.Common.{◌≡◌, ℕ, ◌+◌, ◌-◌, ◌*◌, ◌≤◌, List, length, Ok, refl, sym, ap, ◌∙◌, arith}
+use Rattle.std.proofs.Common.{◌≡◌, ℕ, ◌+◌, ◌-◌, ◌*◌, ◌≤◌, List, length, Ok, sym, ap, ◌∙◌, arith}
 use Rattle.map_defs.specs.Ops.{Name}
 use Rattle.layer_tiles.specs.Tallies.{TallyState, RisesBy}
-use Rattle.layer_tiles.proofs.Rising.{rises_none, rises_then, rises_within}
+use Rattle.layer_tiles.proofs.Rising.{rises_then, rises_within}
 use Rattle.map_edits.specs.WholeStates.{WholeState}
 use Rattle.map_edits.specs.WholeEdits.{WholeEdit}
 use Rattle.map_edits.specs.Attempts.{attempted}
@@ -29,10 +29,6 @@ use Rattle.kept_map.specs.declared.maps.KeptMap.{KeptMap}
 use Rattle.kept_map.specs.declared.preparing.Prepared.{Prepared}
 use Rattle.kept_map.proofs.Allowed.{sources_allowed}
 use Rattle.live_engine.specs.Accepts.{ReadsWithin}
-
--- nothing is read
-pub reads_none : (s : WholeState) (e : WholeEdit) (a : TallyState) → ReadsWithin s e a a
-reads_none s e a = rises_within 0 0 (edit_reads s e).looks (edit_reads s e).picks a a (omega arith) (omega arith) (rises_none a)
 
 -- no more than for the tiles of the edit's own source
 pub reads_tried : (s t : WholeState) (e : WholeEdit) → IsLawful s → IsSaid e → attempted s e ≡ Ok t → (a : ℕ) (x y : TallyState) → a ≤ 64 * (counts_of_touched (touch_of e) s.names t.names).evaluated → RisesBy a 0 x y → ReadsWithin s e x y

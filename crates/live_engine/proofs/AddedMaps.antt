@@ -1,5 +1,5 @@
 -- A map after a source is put in place.
-use Rattle.std.proofs.Common.{◌≡◌, ℕ, ◌+◌, ◌<◌, Bool, true, false, cond, List, [], ◌∷◌, ◌++◌, length, map, count_by, slice_get, Option, Some, None, Ok, bytes_eq, IsTrue, refl, sym, ap, subst, ◌∙◌, arith}
+use Rattle.std.proofs.Common.{◌≡◌, ℕ, ◌+◌, ◌<◌, cond, List, [], ◌∷◌, ◌++◌, length, map, count_by, slice_get, Option, Some, None, Ok, bytes_eq, IsTrue, refl, sym, ap, subst, ◌∙◌}
 use Rattle.std.specs.List.{All}
 use Rattle.std.proofs.lemmas.Option.{none-some}
 use Rattle.indexmap.specs.IndexMap.{insert_entry}
@@ -18,9 +18,8 @@ use Rattle.statement_graph.specs.Groups.{Group}
 use Rattle.statement_graph.specs.Puts.{source_node}
 use Rattle.map_edits.specs.Entries.{source, Entry, find_def}
 use Rattle.map_edits.specs.EngineStates.{EngineState}
-use Rattle.map_edits.specs.LayerDefs.{Making, given_grid, layers, find_making}
+use Rattle.map_edits.specs.LayerDefs.{given_grid, layers, find_making}
 use Rattle.map_edits.specs.LayerChanges.{now_of, changed_of}
-use Rattle.map_edits.specs.EditCounts.{Counts}
 use Rattle.map_edits.specs.EditForms.{Edit}
 use Rattle.map_edits.specs.Limits.{is_source, most_sources}
 use Rattle.map_edits.specs.StampsAfter.{stamped}
@@ -32,15 +31,13 @@ use Rattle.map_edits.proofs.Puts.{find_put}
 use Rattle.map_edits.proofs.LawfulEdits.{IsGoodChange}
 use Rattle.map_waves.specs.Placing.{ArePlaced}
 use Rattle.map_waves.specs.declared.plans.Step.{Step}
-use Rattle.map_waves.specs.declared.plans.Shift.{Shift}
 use Rattle.edit_plans.specs.PlansFor.{AreRefsFor}
 use Rattle.edit_plans.specs.SourceCounts.{joined, counts_of_source, counts_of_touched}
 use Rattle.edit_plans.specs.declared.planning.Planned.{Planned}
 use Rattle.kept_map.specs.Maps.{grid_of, source_in, entries_by, entries_in, names_in, seen}
 use Rattle.kept_map.specs.Keeps.{IsNamed, IsKept}
 use Rattle.kept_map.specs.Commits.{IsAtRest, IsCommitted}
-use Rattle.kept_map.specs.Edits.{IsSetUp}
-use Rattle.kept_map.specs.Repairs.{IsPreparedFor, counts_view}
+use Rattle.kept_map.specs.Repairs.{counts_view}
 use Rattle.kept_map.specs.declared.maps.Item.{Item}
 use Rattle.kept_map.specs.declared.maps.Item.TheVariants.{Source}
 use Rattle.kept_map.specs.declared.maps.Sources.{Sources}

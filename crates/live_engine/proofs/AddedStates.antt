@@ -1,31 +1,24 @@
 -- The state that an edit makes which adds a source.
-use Rattle.std.proofs.Common.{◌≡◌, ℕ, ◌+◌, ◌<◌, ◌≤◌, ◌^◌, Bool, true, false, cond, not, List, [], ◌∷◌, ◌++◌, length, count_by, position, nat_lt, ◌==◌, ℤ, Option, Some, None, is_some, option_map, Result, Ok, Err, bytes_eq, IsTrue, IsFalse, Bor, refl, sym, ap, subst, ◌∙◌, arith}
-use Rattle.std.specs.List.{All}
-use Rattle.std.proofs.lemmas.Bool.{true≢false, lt-ltb, le-ltb, and_parts, and_from, eqb-true, eq-eqb}
+use Rattle.std.proofs.Common.{◌≡◌, ℕ, ◌+◌, ◌<◌, ◌≤◌, ◌^◌, Bool, true, false, cond, List, [], ◌∷◌, ◌++◌, length, count_by, position, ◌==◌, ℤ, Option, Some, None, is_some, option_map, Ok, Err, bytes_eq, IsTrue, Bor, refl, sym, ap, subst, ◌∙◌, arith}
+use Rattle.std.proofs.lemmas.Bool.{true≢false, lt-ltb, le-ltb, and_from, eq-eqb}
 use Rattle.std.proofs.lemmas.List.{length-append}
 use Rattle.map_nums.specs.Grids.{Size, Grid, constant}
 use Rattle.map_words.specs.Names.{is_plain}
 use Rattle.map_defs.specs.Ops.{Name}
-use Rattle.map_defs.specs.Statements as statements
 use Rattle.map_defs.specs.MadeProcedures.{IsUndotted}
-use Rattle.layer_tiles.specs.Layers.{LayerState, IsLayer}
-use Rattle.statement_parser.specs.Views.{op_view}
-use Rattle.procedure_expand.specs.declared.flat.Flat.{Flat}
+use Rattle.layer_tiles.specs.Layers.{LayerState}
 use Rattle.procedure_expand.proofs.Plain.{plain_undotted}
 use Rattle.statement_graph.specs.Groups.{Group, nodes_in, has_group}
 use Rattle.statement_graph.specs.Puts.{source_node}
-use Rattle.op_jobs.specs.Ranges.{HasRanges}
-use Rattle.map_edits.specs.Entries.{Def, source, statement, Entry, find_def, put_entry}
-use Rattle.map_edits.specs.LayerDefs.{LayerDef, layers_of, layers, nodes_of}
+use Rattle.map_edits.specs.Entries.{source, Entry, find_def, put_entry}
+use Rattle.map_edits.specs.LayerDefs.{layers_of, layers, nodes_of}
 use Rattle.map_edits.specs.EditForms.{Edit, load, new_layer}
-use Rattle.map_edits.specs.EntriesAfter.{same_size, add_source}
+use Rattle.map_edits.specs.EntriesAfter.{same_size, add_source, entries_with}
 use Rattle.map_edits.specs.Edits.{with_entries}
-use Rattle.map_edits.specs.Refusals.{sources, Refusal, exists_already, wrong_size, beyond}
+use Rattle.map_edits.specs.Refusals.{sources, exists_already, wrong_size, beyond}
 use Rattle.map_edits.specs.Limits.{is_source, is_flat, most_sources, most_flats}
-use Rattle.map_edits.specs.Marks.{Mark}
-use Rattle.map_edits.specs.NamesAfter.{entries_with}
 use Rattle.map_edits.specs.Attempts.{marks_after, with_names, attempted}
-use Rattle.map_edits.specs.Touches.{whole, is_whole}
+use Rattle.map_edits.specs.Touches.{is_whole}
 use Rattle.map_edits.specs.WholeEdits.{WholeEdit, of_names}
 use Rattle.map_edits.specs.Counted.{accept_counted}
 use Rattle.map_edits.specs.WholeStates.{WholeState, cells_of}
@@ -166,10 +159,6 @@ no_place m keeps n absent = go (position (bytes_eq n) m.sources.names.keys) (sto
     go None e = refl
     go (Some i) e = absurd (true≢false e)
 
-pub none_from : (o : Option Def) → is_some o ≡ false → o ≡ None
-none_from None e = refl
-none_from (Some d) e = absurd cc
-
 module _ (s : WholeState) (n : Name) where
   load_by : (grid : Grid) (b : Bool) → is_some (find_def s.names.entries n) ≡ false → same_size grid.size s.names.size ≡ b → entries_with s.procedures s.names (load n grid) ≡ cond b (add_source s.names.entries n grid) (Err (wrong_size s.names.size))
   load_by grid b free size =
@@ -204,11 +193,6 @@ same_itself s = and_from (s.rows == s.rows) (s.columns == s.columns) (eq-eqb s.r
 
 pub size_of : (one other : Size) → one ≡ other → same_size one other ≡ true
 size_of one other same = ap (λ s. same_size s other) same ∙ same_itself other
-
-pub size_is : (one other : Size) → same_size one other ≡ true → one ≡ other
-size_is one other e =
-    let both = and_parts (one.rows == other.rows) (one.columns == other.columns) e in
-    ap (λ k. record { rows = k; columns = one.columns }) (eqb-true one.rows other.rows both.0) ∙ ap (λ k. record { rows = other.rows; columns = k }) (eqb-true one.columns other.columns both.1)
 
 -- the state that is seen is refused with its own size
 pub size_refused : (s : WholeState) (e : WholeEdit) (rows columns : ℕ) → accept_counted s e ≡ Err (wrong_size s.names.size) → rows ≡ s.names.size.rows → columns ≡ s.names.size.columns → Refuses s s e (a_refusal.Size rows columns)

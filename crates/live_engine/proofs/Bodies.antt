@@ -1,19 +1,17 @@
 -- The body of a formed procedure has names without dots, all different, and result comes last.
-use Rattle.std.proofs.Common.{◌≡◌, ◌≢◌, ◌≤◌, inl, inr, Bool, true, false, ◌||◌, List, [], ◌∷◌, ◌++◌, map, length, codes, bytes_eq, IsTrue, IsFalse, refl, sym, ap, subst, ◌∙◌, arith}
-use Rattle.std.specs.List.{list_any}
+use Rattle.std.proofs.Common.{◌≡◌, ◌≢◌, inl, inr, Bool, true, false, ◌||◌, List, [], ◌∷◌, ◌++◌, codes, bytes_eq, IsTrue, refl, sym, ap, subst, ◌∙◌, arith}
 use Rattle.std.proofs.lemmas.Bool.{true≢false, or_left, or_right, false_from_ne_true}
 use Rattle.map_words.specs.Bytes.{Text}
 use Rattle.map_words.specs.Names.{is_plain}
 use Rattle.map_defs.specs.Ops.{Name}
 use Rattle.map_defs.specs.Statements.{Written, Inner, Procedure}
 use Rattle.map_defs.specs.FlatNames.{IsIn}
-use Rattle.map_defs.specs.FlatNames as names
-use Rattle.map_defs.specs.MadeProcedures.{IsUndotted, written_names, is_result, inner_names}
+use Rattle.map_defs.specs.MadeProcedures.{is_result, inner_names}
 use Rattle.map_defs.specs.MadeProcedures as made
 use Rattle.map_edits.proofs.Among.{same_name, bytes_eq-self}
 use Rattle.statement_parser.specs.Scopes.{has_name}
-use Rattle.statement_parser.specs.Formed.{IsWritten, IsInner, AreInner, IsProcedure}
-use Rattle.procedure_expand.specs.CalledProcedures.{IsShort, AreShort}
+use Rattle.statement_parser.specs.Formed.{IsWritten, AreInner, IsProcedure}
+use Rattle.procedure_expand.specs.CalledProcedures.{AreShort}
 use Rattle.procedure_expand.proofs.Plain.{plain_undotted, plain_short, plain_named}
 use Rattle.live_engine.proofs.Undotted.{written_undotted}
 

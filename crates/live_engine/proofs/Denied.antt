@@ -1,5 +1,5 @@
 -- Why a procedure, a label or a symbol is not noted.
-use Rattle.std.proofs.Common.{◌≡◌, ℕ, ◌+◌, ◌<◌, Bool, true, false, cond, nat_lt, List, [], ◌∷◌, length, Option, Some, None, is_some, option_map, option_copied, Ok, Err, Bor, refl, ap, ◌∙◌, arith}
+use Rattle.std.proofs.Common.{◌≡◌, ℕ, ◌+◌, ◌<◌, true, false, cond, nat_lt, List, [], ◌∷◌, length, Option, Some, None, is_some, option_map, option_copied, Ok, Err, Bor, refl, ap, ◌∙◌, arith}
 use Rattle.std.proofs.lemmas.Bool.Decides.{nat_tests}
 use Rattle.map_defs.specs.Ops.{Name}
 use Rattle.map_defs.specs.Statements as meant

@@ -1,6 +1,5 @@
 -- The state that a drop makes.
-use Rattle.std.proofs.Common.{◌≡◌, ℕ, ◌+◌, ◌≤◌, Bool, true, false, cond, not, List, [], ◌∷◌, ◌++◌, length, count_by, slice_get, Option, Some, None, is_some, option_map, Ok, Err, bytes_eq, IsTrue, refl, sym, ap, subst, ◌∙◌, arith}
-use Rattle.std.specs.List.{All}
+use Rattle.std.proofs.Common.{◌≡◌, ◌≤◌, Bool, true, false, cond, not, List, [], ◌∷◌, length, count_by, slice_get, Some, None, is_some, Ok, Err, bytes_eq, IsTrue, refl, sym, ap, subst, ◌∙◌, arith}
 use Rattle.std.proofs.lemmas.List.{append-nil}
 use Rattle.map_words.specs.Names.{is_plain}
 use Rattle.map_defs.specs.Ops.{Name}
@@ -9,11 +8,11 @@ use Rattle.procedure_expand.proofs.Plain.{plain_undotted}
 use Rattle.statement_graph.specs.Groups.{Group, drop_group}
 use Rattle.map_edits.specs.Entries.{Entry, find_def, drop_entry}
 use Rattle.map_edits.specs.EngineStates.{EngineState, made, value_of}
-use Rattle.map_edits.specs.LayerDefs.{Making, layers_of, layers, find_making, nodes_of}
+use Rattle.map_edits.specs.LayerDefs.{layers_of, layers, find_making, nodes_of}
 use Rattle.map_edits.specs.EditForms.{drop_name}
 use Rattle.map_edits.specs.Refusals.{unknown}
 use Rattle.map_edits.specs.Limits.{is_source, is_flat, most_sources, most_flats}
-use Rattle.map_edits.specs.NamesAfter.{entries_with}
+use Rattle.map_edits.specs.EntriesAfter.{entries_with}
 use Rattle.map_edits.specs.Attempts.{with_names, attempted}
 use Rattle.map_edits.specs.Touches.{whole, touch_of}
 use Rattle.map_edits.specs.WholeStates.{WholeState}

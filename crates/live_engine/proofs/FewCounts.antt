@@ -1,8 +1,8 @@
 -- What is prepared counts few enough for its sum with the edit's own source.
-use Rattle.std.proofs.Common.{◌≡◌, ℕ, zero, suc, ◌+◌, ◌*◌, ◌<◌, ◌≤◌, ◌^◌, List, length, count_by, filter, Option, Some, None, refl, sym, ap, ◌∙◌, arith}
+use Rattle.std.proofs.Common.{◌≡◌, ℕ, zero, suc, ◌*◌, ◌<◌, ◌≤◌, ◌^◌, List, length, count_by, Option, Some, None, ap, arith}
 use Rattle.std.proofs.lemmas.List.Sums.{length-filter, count_by-le-length}
 use Rattle.std.proofs.lemmas.List.FromFn.{length-range_with_len}
-use Rattle.map_nums.specs.Grids.{Size, IsSize, Cells}
+use Rattle.map_nums.specs.Grids.{Size, Cells}
 use Rattle.map_nums.specs.Tiles.{tiles}
 use Rattle.map_defs.specs.Ops.{Name}
 use Rattle.map_defs.specs.Differences.{differs, tile_has, changed_tiles}
@@ -13,7 +13,7 @@ use Rattle.map_edits.specs.Limits.{is_source, is_flat, most_sources, most_flats}
 use Rattle.map_edits.specs.WholeStates.{WholeState}
 use Rattle.map_edits.specs.WholeEdits.{WholeEdit}
 use Rattle.map_edits.specs.EditCounts.{Counts}
-use Rattle.map_waves.specs.Plans.{Plan, change_at, damage_at, changed_to, evaluated_to, reckoned, operands_at}
+use Rattle.map_waves.specs.Plans.{Plan, change_at, damage_at, reckoned, operands_at}
 use Rattle.map_waves.specs.Answers.{total_of}
 use Rattle.map_waves.specs.declared.plans.Step.{Step}
 use Rattle.map_waves.specs.declared.plans.Shift.{Shift}

@@ -1,9 +1,9 @@
 -- Names that are plain, with statements that are formed, after an edit of one.
-use Rattle.std.proofs.Common.{◌≡◌, ℕ, Bool, true, false, cond, List, [], ◌∷◌, Some, bytes_eq, IsTrue, subst}
+use Rattle.std.proofs.Common.{ℕ, Bool, true, false, cond, List, [], ◌∷◌, bytes_eq, IsTrue}
 use Rattle.std.specs.List.{All}
 use Rattle.std.specs.List.{AllByRecursion as ByRecursion}
 use Rattle.std.proofs.lemmas.List.Elements.{All-from_recursion, recursion_from_All}
-use Rattle.std.specs.Map.{lookup, remove_entry}
+use Rattle.std.specs.Map.{remove_entry}
 use Rattle.indexmap.specs.IndexMap.{insert_entry}
 use Rattle.map_words.specs.Names.{is_plain}
 use Rattle.map_defs.specs.Ops.{Name}
@@ -27,20 +27,9 @@ module _ (n : Name) where
       go true rest = named.1
       go false rest = (named.0, rest)
 
-  found : (items : List (List ℕ × Item)) (item : Item) → lookup (bytes_eq n) items ≡ Some item → ByRecursion IsNamed items → IsItem item
-  found [] item there named = absurd cc
-  found (e ∷ es) item there named = go (bytes_eq n e.0) there (λ t. found es item t named.1)
-    where
-      go : (b : Bool) → cond b (Some e.1) (lookup (bytes_eq n) es) ≡ Some item → (lookup (bytes_eq n) es ≡ Some item → IsItem item) → IsItem item
-      go true there rest = let same : e.1 ≡ item = cc in subst IsItem same named.0.1
-      go false there rest = rest there
-
 module _ (items : List (List ℕ × Item)) (n : Name) (named : All IsNamed items) where
   pub named_insert : (item : Item) → IsTrue (is_plain n) → IsItem item → All IsNamed (insert_entry bytes_eq items n item)
   named_insert item plain good = All-from_recursion IsNamed (insert_entry bytes_eq items n item) (inserted n items item plain good (recursion_from_All IsNamed items named))
 
   pub named_remove : All IsNamed (remove_entry (bytes_eq n) items)
   named_remove = All-from_recursion IsNamed (remove_entry (bytes_eq n) items) (removed n items (recursion_from_All IsNamed items named))
-
-  pub named_item : (item : Item) → lookup (bytes_eq n) items ≡ Some item → IsItem item
-  named_item item there = found n items item there (recursion_from_All IsNamed items named)

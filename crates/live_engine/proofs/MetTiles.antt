@@ -1,10 +1,10 @@
 -- The tiles that a rectangle meets, counted and listed.
-use Rattle.std.proofs.Common.{◌≡◌, inl, inr, ℕ, zero, suc, ◌+◌, ◌-◌, ◌*◌, ◌/◌, ◌%◌, ◌<◌, ◌≤◌, ◌==◌, Bool, true, false, cond, List, [], ◌∷◌, filter, length, IsSome, refl, sym, ap, subst, ◌∙◌, arith, IsTrue}
-use Rattle.std.specs.List.{Contains, range_with_len}
+use Rattle.std.proofs.Common.{◌≡◌, ℕ, zero, suc, ◌+◌, ◌-◌, ◌*◌, ◌/◌, ◌%◌, ◌<◌, ◌≤◌, ◌==◌, Bool, true, false, cond, [], ◌∷◌, filter, length, IsSome, sym, ap, subst, ◌∙◌, arith, IsTrue}
+use Rattle.std.specs.List.{range_with_len}
 use Rattle.std.proofs.lemmas.Bool.{eqb-true, eq-eqb}
 use Rattle.std.proofs.lemmas.List.{length-map}
-use Rattle.std.proofs.lemmas.Nat.{div-mul-add, mod-mul-add, mul-le, div_below, mod_below, div-add-mod', mul-add-lt}
-use Rattle.map_nums.specs.Grids.{Size, IsSize, Grid, cells_in}
+use Rattle.std.proofs.lemmas.Nat.{div-mul-add, mod-mul-add, mul-le, mod_below, div-add-mod', mul-add-lt}
+use Rattle.map_nums.specs.Grids.{Size, IsSize, cells_in}
 use Rattle.map_nums.specs.Tiles.{tiles}
 use Rattle.map_defs.specs.Differences.{tile_has}
 use Rattle.map_edits.specs.EditForms.{Rectangle}

@@ -1,5 +1,5 @@
 -- An edit that notes something beside the names: the state that it makes, and the map after it.
-use Rattle.std.proofs.Common.{◌≡◌, inl, inr, ℕ, ◌+◌, ◌≤◌, Bool, true, false, cond, nat_lt, List, [], ◌∷◌, ◌++◌, length, Option, Some, None, is_some, option_map, Ok, Err, slice_get, bytes_eq, refl, sym, ap, subst, ◌∙◌, arith}
+use Rattle.std.proofs.Common.{◌≡◌, inr, ℕ, ◌+◌, ◌≤◌, Bool, true, false, cond, nat_lt, [], ◌∷◌, length, Some, is_some, option_map, Ok, Err, refl, sym, ap, subst, ◌∙◌, arith}
 use Rattle.std.specs.List.{All}
 use Rattle.std.proofs.lemmas.Bool.{true≢false}
 use Rattle.std.proofs.lemmas.Bool.Decides.{nat_tests}
@@ -8,18 +8,15 @@ use Rattle.map_nums.specs.Counts.{raised}
 use Rattle.map_nums.specs.Grids.{Grid}
 use Rattle.map_defs.specs.Ops.{Name}
 use Rattle.map_defs.specs.Calls.{wrong_call}
-use Rattle.map_defs.specs.Expansion.{find_procedure}
 use Rattle.layer_tiles.specs.Layers.{LayerState, IsLayer}
 use Rattle.statement_parser.specs.Formed.{IsProcedure}
 use Rattle.statement_parser.specs.Procedures.{procedure_view}
 use Rattle.map_edits.specs.Refusals.{Which, beyond, procedures, labels, symbols, exists_already, unknown}
 use Rattle.map_edits.specs.Marks.{put_mark}
 use Rattle.map_edits.specs.WholeStates.{WholeState, cells_of}
-use Rattle.map_edits.specs.WholeEdits.{WholeEdit}
-use Rattle.map_edits.specs.Attempts.{unless_more, counted, with_procedure, with_labels, with_symbols, attempted}
+use Rattle.map_edits.specs.Attempts.{unless_more, with_procedure, with_labels, with_symbols, attempted}
 use Rattle.map_edits.specs.Touches.{touch_of, is_whole, nothing}
 use Rattle.map_edits.specs.GroupLaws.{IsSaid}
-use Rattle.map_edits.specs.Entries.{find_def}
 use Rattle.map_edits.specs.EditCounts.{Counts}
 use Rattle.map_waves.specs.Bases.{source_by}
 use Rattle.map_waves.specs.declared.plans.Shift.TheVariants.{Nothing}
@@ -34,7 +31,7 @@ use Rattle.kept_map.proofs.Given.{source_value}
 use Rattle.kept_map.proofs.Naming.{source_def}
 use Rattle.kept_map.proofs.SettingUp.{nothing_operands, left_changes, stamps_stay}
 use Rattle.live_engine.specs.Notes.{edit_of_note, procedures_with, labels_with, symbols_with, with_note, MayNote}
-use Rattle.live_engine.specs.Settles.{HaveSettled, IsSettled}
+use Rattle.live_engine.specs.Settles.{IsSettled}
 use Rattle.live_engine.specs.declared.noting.Note.{Note}
 use Rattle.live_engine.specs.declared.noting.Note.TheVariants as notes
 use Rattle.live_engine.proofs.Bodies.{body_made}

@@ -1,28 +1,26 @@
 -- An edit that paints a source: the state that it makes, what it does to the sources, and the map after it.
-use Rattle.std.proofs.Common.{◌≡◌, ◌≢◌, inl, inr, ℕ, ◌+◌, ◌*◌, ◌≤◌, ◌==◌, Bool, true, false, cond, if◌then◌else◌, List, [], ◌∷◌, filter, count_by, length, set, position, Option, Some, None, is_some, option_map, unwrap_or, Ok, Err, slice_get, bytes_eq, Bor, refl, sym, ap, subst, ◌∙◌, arith, ℤ}
+use Rattle.std.proofs.Common.{◌≡◌, ◌≢◌, inr, ℕ, ◌≤◌, ◌==◌, Bool, true, false, cond, if◌then◌else◌, List, [], count_by, length, set, position, Option, Some, None, is_some, option_map, unwrap_or, Ok, Err, slice_get, bytes_eq, Bor, refl, sym, ap, subst, ◌∙◌, arith, ℤ}
 use Rattle.std.specs.List.{All}
 use Rattle.std.proofs.lemmas.Bool.{true≢false, eqb-true, eq-eqb}
 use Rattle.std.proofs.lemmas.List.{length-map, length-set}
 use Rattle.std.proofs.lemmas.List.Elements.{All-set}
-use Rattle.std.proofs.lemmas.Option.{none-some, same_Some}
+use Rattle.std.proofs.lemmas.Option.{same_Some}
 use Rattle.map_nums.specs.Counts.{raised}
-use Rattle.map_nums.specs.Grids.{Size, IsSize, Grid, Cells}
+use Rattle.map_nums.specs.Grids.{Size, Grid, Cells}
 use Rattle.map_defs.specs.Ops.{Name, Op}
 use Rattle.map_defs.specs.Differences.{changed_tiles}
 use Rattle.map_defs.specs.MadeProcedures.{IsUndotted}
 use Rattle.layer_tiles.specs.Changes.{same_change, patched_change}
 use Rattle.layer_tiles.specs.Layers.{LayerState, IsLayer, IsStamped, IsCommitted}
-use Rattle.layer_tiles.specs.Patches.{PatchState, patched, numbers_of}
+use Rattle.layer_tiles.specs.Patches.{PatchState, patched}
 use Rattle.layer_tiles.specs.Tiles.{Block}
 use Rattle.statement_parser.specs.Formed.{IsProcedure}
 use Rattle.statement_graph.specs.Groups.{nodes_in}
-use Rattle.map_edits.specs.Entries.{Def, source, Entry, find_def, put_entry}
-use Rattle.map_edits.specs.EditCounts.{Counts}
+use Rattle.map_edits.specs.Entries.{source, Entry, find_def, put_entry}
 use Rattle.map_edits.specs.EditForms.{Rectangle, paint}
 use Rattle.map_edits.specs.Edits.{with_entries}
-use Rattle.map_edits.specs.EngineStates.{EngineState, value_of}
 use Rattle.map_edits.specs.EntriesAfter.{paint_source}
-use Rattle.map_edits.specs.LayerDefs.{Making, given_grid, by_op, layers, find_making, nodes_of}
+use Rattle.map_edits.specs.LayerDefs.{given_grid, by_op, layers, find_making}
 use Rattle.map_edits.specs.LayerChanges.{changed_of}
 use Rattle.map_edits.specs.Limits.{is_source, is_flat, most_sources, most_flats}
 use Rattle.map_edits.specs.Painting.{is_within, painted}
@@ -42,7 +40,7 @@ use Rattle.map_waves.specs.Operands.{IsOperand}
 use Rattle.map_waves.specs.declared.plans.Shift.{Shift}
 use Rattle.map_waves.specs.declared.plans.Shift.TheVariants.{Painted}
 use Rattle.edit_plans.specs.PlansFor.{IsChangeOf}
-use Rattle.edit_plans.specs.SourceCounts.{joined, counts_of_source, counts_of_touched}
+use Rattle.edit_plans.specs.SourceCounts.{counts_of_source, counts_of_touched}
 use Rattle.edit_plans.proofs.Positions.{position_at}
 use Rattle.edit_plans.proofs.Restamped.{old_is_stamped}
 use Rattle.edit_plans.proofs.TouchedAlone.{source_only}
@@ -50,7 +48,6 @@ use Rattle.kept_map.specs.Maps.{grid_of, source_in, source_grid, layer_in, entri
 use Rattle.kept_map.specs.Keeps.{IsKept}
 use Rattle.kept_map.specs.Edits.{change_in, IsSetUp, IsSamePlan}
 use Rattle.kept_map.specs.Repairs.{IsPreparedFor, own_damage}
-use Rattle.kept_map.specs.declared.maps.Item.TheVariants.{Source}
 use Rattle.kept_map.specs.declared.maps.KeptMap.{KeptMap}
 use Rattle.kept_map.specs.declared.preparing.Prepared.{Prepared}
 use Rattle.kept_map.proofs.Given.{undotted, source_making, source_value}
@@ -59,7 +56,7 @@ use Rattle.kept_map.proofs.LayersByName.{layer_source, stamps_found}
 use Rattle.kept_map.proofs.Naming.{placed_item, source_def}
 use Rattle.map_waves.proofs.Making.{all_get}
 use Rattle.kept_map.proofs.SettingUp.{place_is, same_operand, constant_operand, placed_layer, placed_def, value_before, left_change, stamps_stay}
-use Rattle.kept_map.proofs.SourceLayers.{source_at, source_place, source_whole, source_painted, source_unpainted, entries_painted}
+use Rattle.kept_map.proofs.SourceLayers.{source_at, source_painted, source_unpainted, entries_painted}
 use Rattle.live_engine.specs.Painting.{met_tiles}
 use Rattle.live_engine.specs.Repainting.{IsRepainted}
 use Rattle.live_engine.specs.Settles.{HaveSettled, IsSettled}

@@ -10,22 +10,14 @@ use Rattle.map_defs.specs.Statements.{Written, plain, call, Flat, Inner, Procedu
 use Rattle.map_defs.specs.Bindings.{Binding, named_term, term_with, op_with, given_for}
 use Rattle.map_defs.specs.Expansion.{WrongCall, wrong_count, find_procedure, Expands, inner_flats, inner_name, dotted, body_flats, called, called_flats, call_flats, expansion_of}
 use Rattle.map_defs.proofs.Naming.{both_are}
-use Rattle.statement_parser.specs.Formed.{Each, IsTerm, IsWritten, AreInner, IsBody, IsProcedure}
+use Rattle.statement_parser.specs.Formed.{Each, IsWritten, AreInner, IsBody, IsProcedure}
 use Rattle.statement_parser.specs.Views.{op_view}
 use Rattle.procedure_expand.specs.declared.flat.Flat as held
 use Rattle.procedure_expand.specs.Flats.{flats_view}
 use Rattle.op_jobs.specs.Ranges.{IsInRange, HasRanges}
-use Rattle.op_jobs.proofs.Ranges.{ranges_of}
+use Rattle.op_jobs.proofs.Ranges.{each_of_line, ranges_of}
 
 -- ---- what is formed is in range
-
-term_ranges : (t : Term) → IsTerm t → IsInRange t
-term_ranges (layer_term n) h = tt
-term_ranges (number_term z) h = h
-
-terms_ranges : (ts : List Term) → Each IsTerm ts → Each IsInRange ts
-terms_ranges [] h = tt
-terms_ranges (t ∷ ts) h = (term_ranges t h.0, terms_ranges ts h.1)
 
 abbrev WrittenInRange : Written → Type 0
 WrittenInRange (plain op) = HasRanges op
@@ -33,7 +25,7 @@ WrittenInRange (call p ts) = Each IsInRange ts
 
 written_ranges : (w : Written) → IsWritten w → WrittenInRange w
 written_ranges (plain op) h = ranges_of op h
-written_ranges (call p ts) h = terms_ranges ts h.3
+written_ranges (call p ts) h = each_of_line ts h.3
 
 -- ---- terms that stand for what is bound
 

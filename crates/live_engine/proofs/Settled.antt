@@ -1,5 +1,5 @@
 -- An edit that leaves the plan: what is prepared can be put in place, and the map is then that of the edit.
-use Rattle.std.proofs.Common.{◌≡◌, Bool, ℕ, ◌+◌, ◌≤◌, cond, List, [], ◌∷◌, ◌++◌, length, map, count_by, position, Option, Some, is_some, slice_get, bytes_eq, refl, sym, ap, subst, ◌∙◌, arith}
+use Rattle.std.proofs.Common.{◌≡◌, Bool, ℕ, ◌+◌, ◌≤◌, cond, List, [], ◌∷◌, length, count_by, position, Option, Some, is_some, bytes_eq, refl, sym, ap, subst, ◌∙◌}
 use Rattle.std.specs.List.{All, IsDistinct}
 use Rattle.map_nums.specs.Counts.{raised}
 use Rattle.map_nums.specs.Grids.{Size}
@@ -8,22 +8,20 @@ use Rattle.map_defs.specs.Nodes.{Node, find_node}
 use Rattle.layer_tiles.specs.Layers.{LayerState, IsLayer}
 use Rattle.statement_parser.specs.Formed.{IsProcedure}
 use Rattle.statement_parser.specs.Views.{op_view}
-use Rattle.statement_parser.specs.declared.op.Op.{Op as Given}
 use Rattle.statement_graph.specs.Groups.{nodes_in}
 use Rattle.map_edits.specs.Entries.{Entry}
-use Rattle.map_edits.specs.LayerDefs.{LayerDef, layers, layers_of, nodes_of}
+use Rattle.map_edits.specs.LayerDefs.{layers, layers_of, nodes_of}
 use Rattle.map_edits.specs.EngineStates.{EngineState}
 use Rattle.map_edits.specs.Limits.{is_source, is_flat, most_sources, most_flats}
 use Rattle.map_edits.specs.WholeStates.{WholeState}
 use Rattle.map_edits.specs.WholeEdits.{WholeEdit}
 use Rattle.map_edits.specs.StampsAfter.{stamps_at}
 use Rattle.map_waves.specs.declared.plans.Shift.{Shift}
-use Rattle.map_waves.specs.declared.plans.Step.{Step}
 use Rattle.edit_plans.specs.PlansFor.{AreRefsFor}
 use Rattle.edit_plans.specs.Planned.{is_source_node}
 use Rattle.kept_map.specs.Groups.{group_of, groups_of}
-use Rattle.kept_map.specs.Maps.{source_in, def_by, entry_by, entries_by, entries_in, names_in, seen}
-use Rattle.kept_map.specs.Keeps.{IsNamed, AreKeptSources, IsKept}
+use Rattle.kept_map.specs.Maps.{source_in, def_by, entries_by, entries_in, names_in, seen}
+use Rattle.kept_map.specs.Keeps.{IsNamed, IsKept}
 use Rattle.kept_map.specs.Edits.{IsSetUp}
 use Rattle.kept_map.specs.Repairs.{IsPreparedFor}
 use Rattle.kept_map.specs.Commits.{IsCommitted}

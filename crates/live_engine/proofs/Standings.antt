@@ -1,11 +1,11 @@
 -- What a name stands for, by its item, and how many of the names are sources.
-use Rattle.std.proofs.Common.{◌≡◌, ℕ, ◌+◌, Bool, true, false, cond, List, [], ◌∷◌, map, count_by, Option, Some, None, is_some, option_map, bytes_eq, refl, sym, ap, ◌∙◌}
+use Rattle.std.proofs.Common.{◌≡◌, ℕ, ◌+◌, cond, List, [], ◌∷◌, map, count_by, Option, is_some, option_map, bytes_eq, refl, sym, ap, ◌∙◌}
 use Rattle.std.specs.Map.{lookup}
 use Rattle.std.proofs.lemmas.List.Sums.{sum_by-cons}
 use Rattle.map_nums.specs.Grids.{Size}
 use Rattle.map_defs.specs.Ops.{Name}
 use Rattle.layer_tiles.specs.Layers.{LayerState}
-use Rattle.map_edits.specs.Entries.{Def, Entry, find_def}
+use Rattle.map_edits.specs.Entries.{Entry, find_def}
 use Rattle.map_edits.specs.Limits.{is_source}
 use Rattle.edit_plans.proofs.There.{some_map}
 use Rattle.kept_map.specs.Maps.{def_by, entry_by, entries_by}

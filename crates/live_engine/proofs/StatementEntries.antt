@@ -21,8 +21,7 @@ use Rattle.map_edits.specs.Entries.{Def, source, statement, Entry, find_def, put
 use Rattle.map_edits.specs.LayerDefs.{flat_layer, layers, node_of_layer, nodes_of}
 use Rattle.map_edits.specs.Limits.{is_source, is_flat, is_zonal}
 use Rattle.map_edits.specs.EditForms.{define}
-use Rattle.map_edits.specs.EntriesAfter.{bounded, put_statement}
-use Rattle.map_edits.specs.NamesAfter.{define_with, entries_with}
+use Rattle.map_edits.specs.EntriesAfter.{bounded, put_statement, define_with, entries_with}
 use Rattle.map_edits.specs.Attempts.{with_names, attempted}
 use Rattle.map_edits.specs.Counted.{of_attempt, accept_counted}
 use Rattle.map_edits.specs.GroupLaws.{IsSaid}

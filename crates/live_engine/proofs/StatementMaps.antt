@@ -1,5 +1,5 @@
 -- A map after a statement is put in place.
-use Rattle.std.proofs.Common.{◌≡◌, ℕ, ◌+◌, List, map, length, slice_get, Some, None, Ok, Vec, bytes_eq, IsTrue, sym, ap, subst, ◌∙◌, arith}
+use Rattle.std.proofs.Common.{◌≡◌, ℕ, List, map, length, slice_get, Some, None, Ok, Vec, bytes_eq, IsTrue, sym, ap, subst, ◌∙◌}
 use Rattle.std.specs.List.{All}
 use Rattle.std.specs.declared.alloc.Global.{Global}
 use Rattle.std.proofs.lemmas.List.{append-nil}
@@ -17,14 +17,13 @@ use Rattle.statement_graph.specs.Groups.{Group}
 use Rattle.layer_tiles.specs.Layers.{LayerState}
 use Rattle.map_edits.specs.Entries.{Entry}
 use Rattle.map_edits.specs.EngineStates.{EngineState}
-use Rattle.map_edits.specs.EditCounts.{Counts}
 use Rattle.map_edits.specs.StampsAfter.{stamps_at, stamped}
 use Rattle.map_edits.specs.WholeStates.{WholeState}
 use Rattle.map_waves.specs.Placing.{ArePlaced}
 use Rattle.map_waves.specs.declared.plans.Step.{Step}
 use Rattle.map_waves.specs.declared.plans.Shift.TheVariants.{Nothing}
 use Rattle.edit_plans.specs.PlansFor.{AreRefsFor}
-use Rattle.edit_plans.specs.SourceCounts.{no_counts, joined}
+use Rattle.edit_plans.specs.SourceCounts.{joined}
 use Rattle.edit_plans.specs.declared.planning.Planned.{Planned}
 use Rattle.kept_map.specs.Maps.{source_in, entries_by, names_in, seen, names_with}
 use Rattle.kept_map.specs.Keeps.{IsNamed, IsKept, AreKeptSources}
@@ -44,18 +43,9 @@ use Rattle.live_engine.specs.Puts.{ArePut}
 use Rattle.live_engine.specs.declared.edits.Accepted as told
 use Rattle.live_engine.proofs.Items.{named_insert}
 use Rattle.live_engine.proofs.Accepting.{accepted_is}
+use Rattle.live_engine.proofs.Noted.{joined_none}
 use Rattle.live_engine.proofs.StatementEntries.{sources_with_few}
 use Rattle.live_engine.proofs.StatementStates.{defined_set_up, defined_replanned, defined_sources, defined_stamps, own_counts}
-
-none_more : (n : ℕ) → 0 + n ≡ n
-none_more n = omega arith
-
--- beside no counts
-joined_none : (c : Counts) → joined no_counts c ≡ c
-joined_none c =
-    ap (λ k. record { changed = k; evaluated = 0 + c.evaluated; worked = 0 + c.worked }) (none_more c.changed)
-    ∙ ap (λ k. record { changed = c.changed; evaluated = k; worked = 0 + c.worked }) (none_more c.evaluated)
-    ∙ ap (λ k. record { changed = c.changed; evaluated = c.evaluated; worked = k }) (none_more c.worked)
 
 module _ (m : KeptMap) (keeps : IsKept m) (n : Name) (written : Written) (plain : IsTrue (is_plain n)) (formed : IsWritten (written_view written)) (flats : Vec Flat Global) (graph : List Group) (d : IsDraft m n written flats.items graph) where
   abbrev state : WholeState

@@ -1,8 +1,6 @@
 -- Why a source is not painted.
-use Rattle.std.proofs.Common.{◌≡◌, ℕ, Bool, true, false, cond, List, position, Option, Some, None, is_some, Ok, Err, bytes_eq, refl, sym, ap, ◌∙◌, ℤ}
+use Rattle.std.proofs.Common.{◌≡◌, true, false, cond, position, Option, Some, None, is_some, Ok, Err, bytes_eq, refl, sym, ap, ◌∙◌, ℤ}
 use Rattle.std.proofs.lemmas.Bool.{true≢false, false≢true}
-use Rattle.std.proofs.lemmas.Option.{none-some}
-use Rattle.map_nums.specs.Grids.{Grid}
 use Rattle.map_defs.specs.Ops.{Name}
 use Rattle.layer_tiles.specs.Layers.{LayerState}
 use Rattle.map_edits.specs.Entries.{Def, source, statement, find_def, put_entry}

@@ -5,12 +5,11 @@ use Rattle.map_defs.specs.Ops.{Name}
 use Rattle.layer_tiles.specs.Layers.{LayerState}
 use Rattle.map_edits.specs.Entries.{source, put_entry}
 use Rattle.map_edits.specs.EditForms.{Edit}
-use Rattle.map_edits.specs.EntriesAfter.{add_source}
+use Rattle.map_edits.specs.EntriesAfter.{add_source, entries_with}
 use Rattle.map_edits.specs.Edits.{with_entries}
 use Rattle.map_edits.specs.GroupLaws.{IsPlainEdit}
 use Rattle.map_edits.specs.Laws.{edited}
 use Rattle.map_edits.specs.Marks.{Mark}
-use Rattle.map_edits.specs.NamesAfter.{entries_with}
 use Rattle.map_edits.specs.Attempts.{marks_after}
 use Rattle.map_edits.specs.Touches.{whole, touch_of_names}
 use Rattle.map_edits.specs.WholeEdits.{of_names}

@@ -1,5 +1,5 @@
 -- What an edit notes beside the names: a procedure, a label or a symbol.
-use Rattle.std.specs.Prelude.{◌≡◌, ℕ, ◌+◌, ◌≤◌, List, [], ◌∷◌, ◌++◌, length, None, true, is_some, Result, Ok, Err}
+use Rattle.std.specs.Prelude.{◌≡◌, ◌+◌, ◌≤◌, List, [], ◌∷◌, ◌++◌, length, None, true, is_some, Result, Ok, Err}
 use Rattle.map_defs.specs.Statements.{Procedure}
 use Rattle.map_defs.specs.Expansion.{find_procedure}
 use Rattle.map_defs.specs.Calls.{wrong_call}

@@ -1,5 +1,5 @@
 -- An edit that leaves the plan is put in place.
-use Rattle.std.specs.Prelude.{◌≡◌, ℕ, ◌<◌, List, length, map, Some, slice_get}
+use Rattle.std.specs.Prelude.{◌≡◌, ℕ, ◌<◌, length, map, Some, slice_get}
 use Rattle.map_nums.specs.Counts.{raised}
 use Rattle.map_waves.specs.Placing.{HaveOwnSlots, AreReady, ArePlaced}
 use Rattle.map_waves.specs.declared.plans.Step.{Step}

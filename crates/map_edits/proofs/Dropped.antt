@@ -1,5 +1,5 @@
 -- A drop brings no fault: what read the dropped name has no grid any more, and the others keep theirs.
-use Rattle.std.proofs.Common.{◌≡◌, ℕ, zero, suc, Bool, true, false, ◌&&◌, nat_lt, List, [], ◌∷◌, map, flat_map, length, Option, Some, None, is_some, option_map, Ok, Err, cond, bytes_eq, if◌then◌else◌, refl, sym, ap, subst, ◌∙◌, ◌⊎◌, inl, inr}
+use Rattle.std.proofs.Common.{◌≡◌, ℕ, zero, suc, Bool, true, false, ◌&&◌, nat_lt, List, [], ◌∷◌, map, flat_map, length, Option, Some, None, is_some, option_map, bytes_eq, if◌then◌else◌, refl, sym, ap, ◌∙◌, ◌⊎◌, inl, inr}
 use Rattle.std.proofs.lemmas.Bool.{true≢false, false≢true, or_cases, or_left, or_right}
 use Rattle.std.proofs.lemmas.List.Folds.{list_any-append}
 use Rattle.std.proofs.lemmas.Option.{none-some}
@@ -9,21 +9,17 @@ use Rattle.map_defs.specs.Ops.{Name, Term, layer_term, number_term, Op, sight_op
 use Rattle.map_defs.specs.Operate.{operate}
 use Rattle.map_defs.specs.Nodes.{Node, find_node, needs_in}
 use Rattle.map_defs.specs.Depths.{by_depth}
-use Rattle.map_edits.specs.Entries.{Entry, find_def, drop_entry}
 use Rattle.map_edits.specs.LayerDefs.{Making, given_grid, by_op, layers, find_making, nodes_of}
 use Rattle.map_edits.specs.EngineStates.{EngineState, all_some, term_cells, made, value_of}
 use Rattle.map_nums.specs.Options.{first_some}
 use Rattle.map_edits.specs.Faults.{Fault, too_many_viewers, viewers_among, viewers_of, wide_place, overflow_at, fault_of_layer, fault_of}
-use Rattle.map_edits.specs.Edits.{Edit, load, new_layer, paint, define, drop_name, unknown, entries_after, accept}
-use Rattle.map_edits.specs.Laws.{is_among, is_named_in, HasNoCycle, IsOwn, IsWellMade}
+use Rattle.map_edits.specs.Laws.{is_among, is_named_in, HasNoCycle}
 use Rattle.map_edits.proofs.Among.{same_name, bytes_eq-self, none_at}
 use Rattle.map_edits.proofs.Chains.{goes_on, chains_end}
 use Rattle.map_edits.proofs.Looks.{making_needs, needs_in-layers, made_node, find_node-making}
 use Rattle.map_edits.proofs.Unfolds.{value_unfolds}
 use Rattle.map_edits.proofs.Order.{all_flats_listed}
-use Rattle.map_edits.proofs.Listed.{Each, each_more, IsListed, listed}
-use Rattle.map_edits.proofs.Puts.{find_drop, find_drop_other, own_drop, def_making, making_by_entry}
-use Rattle.map_edits.proofs.Accepted.{accepted_is, drop_keeps}
+use Rattle.map_edits.proofs.Listed.{Each, IsListed}
 
 -- ---- operands that are there are the same
 
@@ -171,42 +167,3 @@ module _ (s t : EngineState) (none_s : HasNoCycle (nodes_of s.entries)) (none_t 
       go (inr same) (Some ns) e =
           let before : is_named_in node.name (by_depth (nodes_of s.entries)) ≡ true = all_flats_listed (nodes_of s.entries) none_s node.name node ns (there same) e in
           from_before (fault_of_making node.name (find_making (layers t.entries) node.name) refl (sym same)) (named_faultless (fault_of_layer s) node.name (by_depth (nodes_of s.entries)) none before)
-
--- ---- a drop
-
-less_after_drop : (es : List Entry) (n : Name) → IsOwn es → (m : Name) → IsLess (find_making (layers (drop_entry es n)) m) (find_making (layers es) m)
-less_after_drop es n own m = go (bytes_eq m n) refl
-  where
-    by_entry : find_making (layers (drop_entry es n)) m ≡ def_making (find_def (drop_entry es n) m)
-    by_entry = making_by_entry (drop_entry es n) m (own_drop es n own)
-
-    go : (b : Bool) → bytes_eq m n ≡ b → IsLess (find_making (layers (drop_entry es n)) m) (find_making (layers es) m)
-    go true same = inl (by_entry ∙ ap def_making (ap (find_def (drop_entry es n)) (same_name m n same) ∙ find_drop es n))
-    go false differs = inr (by_entry ∙ ap def_making (find_drop_other es n m differs) ∙ sym (making_by_entry es m own))
-
-pub drop_has_no_fault : (s t : EngineState) (n : Name) → t.size ≡ s.size → t.entries ≡ drop_entry s.entries n → IsWellMade s.entries → fault_of s ≡ None → fault_of t ≡ None
-unfolding fault_of
-drop_has_no_fault s t n size is well none =
-    let well_t : IsWellMade t.entries = subst IsWellMade (sym is) (drop_keeps s.entries n well) in
-    let less = λ (m : Name). subst (λ es. IsLess (find_making (layers es) m) (find_making (layers s.entries) m)) (sym is) (less_after_drop s.entries n well.own m) in
-    none_first (fault_of_layer t) (by_depth (nodes_of t.entries)) (each_more (IsListed (nodes_of t.entries)) (λ node. fault_of_layer t node.name ≡ None)
-    (listed_faultless s t well.none_looped well_t.none_looped size less none) (by_depth (nodes_of t.entries)) (listed t.entries well_t.own well_t.apart))
-
--- ---- every edit
-
-pub dropped_entries : (s t : EngineState) (n : Name) → entries_after s (drop_name n) ≡ Ok t.entries → t.entries ≡ drop_entry s.entries n
-dropped_entries s t n e = go (is_some (find_def s.entries n)) e
-  where
-    go : (b : Bool) → cond b (Ok (drop_entry s.entries n)) (Err (unknown n)) ≡ Ok t.entries → t.entries ≡ drop_entry s.entries n
-    go true e = cc
-    go false e = absurd cc
-
--- no accepted edit leaves a fault
-pub accept_has_no_fault : (s t : EngineState) (edit : Edit) → accept s edit ≡ Ok t → IsWellMade s.entries → fault_of s ≡ None → fault_of t ≡ None
-accept_has_no_fault s t (load n grid) e well none = (accepted_is s t (load n grid) e).faultless refl
-accept_has_no_fault s t (new_layer n cell) e well none = (accepted_is s t (new_layer n cell) e).faultless refl
-accept_has_no_fault s t (paint n r cell) e well none = (accepted_is s t (paint n r cell) e).faultless refl
-accept_has_no_fault s t (define n written) e well none = (accepted_is s t (define n written) e).faultless refl
-accept_has_no_fault s t (drop_name n) e well none =
-    let is = accepted_is s t (drop_name n) e in
-    drop_has_no_fault s t n (ap (λ (u : EngineState). u.size) is.state) (dropped_entries s t n is.entries) well none

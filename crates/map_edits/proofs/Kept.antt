@@ -1,18 +1,13 @@
 -- Edits bring no cycle: fewer needs close none, and new needs of one name close one only through that name.
-use Rattle.std.proofs.Common.{◌≡◌, ℕ, zero, suc, ◌+◌, ◌≤◌, Bool, true, false, List, [], length, Some, bytes_eq, refl, sym, ap, ◌∙◌, arith}
+use Rattle.std.proofs.Common.{◌≡◌, ℕ, zero, suc, ◌+◌, ◌≤◌, Bool, true, false, List, length, bytes_eq, refl, sym, ap, ◌∙◌, arith}
 use Rattle.std.specs.List.{list_any}
-use Rattle.std.proofs.lemmas.Bool.{true≢false, false≢true, both_ways, or_parts, false_from_ne_true}
-use Rattle.map_nums.specs.Grids.{Grid}
+use Rattle.std.proofs.lemmas.Bool.{true≢false, both_ways, or_parts, false_from_ne_true}
 use Rattle.map_defs.specs.Ops.{Name}
 use Rattle.map_defs.specs.Nodes.{Node, needs_in}
 use Rattle.map_defs.specs.Depths.{reaches, is_looped}
-use Rattle.map_edits.specs.Entries.{Def, source, Entry, put_entry, drop_entry}
-use Rattle.map_edits.specs.LayerDefs.{nodes_of}
-use Rattle.map_edits.specs.Laws.{is_among, HasNoCycle, IsOwnDef, IsOwn}
+use Rattle.map_edits.specs.Laws.{is_among, HasNoCycle}
 use Rattle.map_edits.proofs.Among.{same_name, any_at, any_found, none_at, any_none, any_more}
 use Rattle.map_edits.proofs.Chains.{goes_on, chains_end, no_cycle_from_ends}
-use Rattle.map_edits.proofs.Looks.{making_needs}
-use Rattle.map_edits.proofs.Puts.{find_put, find_put_other, find_drop, find_drop_other, own_put, own_drop, def_making, needs_by_entry, length-nodes_of, length_put}
 
 -- ---- fewer needs
 
@@ -69,45 +64,3 @@ module _ (old new : List Node) (n : Name) (others : (m : Name) → bytes_eq m n 
   -- where one name alone needs others than before, and isn't looped, no cycle comes
   pub no_cycle_changed : HasNoCycle new
   no_cycle_changed = no_cycle_from_ends new (λ m. (suc (length old) + suc (suc (length old)), toward (suc (length old)) (suc (length old) + suc (suc (length old))) m (omega arith) (chains_end old none m)))
-
--- ---- entries
-
-module _ (es : List Entry) (n : Name) (own : IsOwn es) where
-  put_needs : (d : Def) → IsOwnDef n d → needs_in (nodes_of (put_entry es n d)) n ≡ making_needs (def_making (Some d))
-  put_needs d here = needs_by_entry (put_entry es n d) n (own_put es n d own here) ∙ ap (λ o. making_needs (def_making o)) (find_put es n d)
-
-  -- a source is never looped
-  pub source_alone : (grid : Grid) → is_looped (nodes_of (put_entry es n (source grid))) n ≡ false
-  unfolding is_looped
-  source_alone grid = let nodes = nodes_of (put_entry es n (source grid)) in ap (list_any (reaches (length nodes) nodes n)) (put_needs (source grid) tt)
-
-  pub put_needs_other : (d : Def) → IsOwnDef n d → (m : Name) → bytes_eq m n ≡ false → needs_in (nodes_of (put_entry es n d)) m ≡ needs_in (nodes_of es) m
-  put_needs_other d here m h = needs_by_entry (put_entry es n d) m (own_put es n d own here) ∙ ap (λ o. making_needs (def_making o)) (find_put_other es n d m h) ∙ sym (needs_by_entry es m own)
-
-  drop_needs : needs_in (nodes_of (drop_entry es n)) n ≡ []
-  drop_needs = needs_by_entry (drop_entry es n) n (own_drop es n own) ∙ ap (λ o. making_needs (def_making o)) (find_drop es n)
-
-  pub drop_needs_other : (m : Name) → bytes_eq m n ≡ false → needs_in (nodes_of (drop_entry es n)) m ≡ needs_in (nodes_of es) m
-  drop_needs_other m h = needs_by_entry (drop_entry es n) m (own_drop es n own) ∙ ap (λ o. making_needs (def_making o)) (find_drop_other es n m h) ∙ sym (needs_by_entry es m own)
-
-  -- what needs nothing at n, and elsewhere what it needed
-  fewer_by : (new : List Node) → needs_in new n ≡ [] → ((m : Name) → bytes_eq m n ≡ false → needs_in new m ≡ needs_in (nodes_of es) m) → (t m : Name) → is_among m (needs_in new t) ≡ true → is_among m (needs_in (nodes_of es) t) ≡ true
-  fewer_by new here others t m a = go (bytes_eq t n) refl
-    where
-      go : (b : Bool) → bytes_eq t n ≡ b → is_among m (needs_in (nodes_of es) t) ≡ true
-      go true same = absurd (false≢true (ap (is_among m) (sym (ap (needs_in new) (same_name t n same) ∙ here)) ∙ a))
-      go false differs = ap (is_among m) (sym (others t differs)) ∙ a
-
-  pub drop_keeps_no_cycle : HasNoCycle (nodes_of es) → HasNoCycle (nodes_of (drop_entry es n))
-  drop_keeps_no_cycle none = no_cycle_fewer (nodes_of es) (nodes_of (drop_entry es n)) (fewer_by (nodes_of (drop_entry es n)) drop_needs drop_needs_other) none
-
-  -- a definition that isn't looped closes no cycle
-  pub put_keeps_no_cycle : (d : Def) → IsOwnDef n d → HasNoCycle (nodes_of es) → is_looped (nodes_of (put_entry es n d)) n ≡ false → HasNoCycle (nodes_of (put_entry es n d))
-  put_keeps_no_cycle d here none alone =
-      let longer = length_put es n d in
-      let before = length-nodes_of es own in
-      let after = length-nodes_of (put_entry es n d) (own_put es n d own here) in
-      no_cycle_changed (nodes_of es) (nodes_of (put_entry es n d)) n (put_needs_other d here) (omega arith) none alone
-
-  pub source_keeps_no_cycle : (grid : Grid) → HasNoCycle (nodes_of es) → HasNoCycle (nodes_of (put_entry es n (source grid)))
-  source_keeps_no_cycle grid none = put_keeps_no_cycle (source grid) tt none (source_alone grid)

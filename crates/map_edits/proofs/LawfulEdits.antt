@@ -18,13 +18,12 @@ use Rattle.map_edits.specs.Refusals.{Which, procedures, labels, symbols, Refusal
 use Rattle.map_edits.specs.Limits.{most_sources, is_source}
 use Rattle.map_edits.specs.Painting.{is_within, painted}
 use Rattle.map_edits.specs.EditForms.{Edit, load, new_layer, paint, define, drop_name, Rectangle}
-use Rattle.map_edits.specs.EntriesAfter.{same_size, add_source, paint_source, put_statement}
+use Rattle.map_edits.specs.EntriesAfter.{same_size, add_source, paint_source, put_statement, define_with, entries_with}
 use Rattle.map_edits.specs.Edits.{with_entries}
 use Rattle.map_edits.specs.Laws.{HasNoCycle, IsApart, edited}
 use Rattle.map_edits.specs.Marks.{put_mark}
 use Rattle.map_edits.specs.WholeStates.{WholeState}
 use Rattle.map_edits.specs.WholeEdits.{WholeEdit, of_names, define_procedure, label, symbol}
-use Rattle.map_edits.specs.NamesAfter.{define_with, entries_with}
 use Rattle.map_edits.specs.Attempts.{unless_more, marks_after, with_names, with_procedure, with_labels, with_symbols, attempted}
 use Rattle.map_edits.specs.StampsAfter.{stamped}
 use Rattle.map_edits.specs.Counted.{Accepted, fault_after, done, unless_fault, of_attempt, accept_counted}

@@ -11,7 +11,7 @@ use Rattle.map_edits.specs.EngineStates.{EngineState, value_of}
 use Rattle.map_edits.specs.Faults.{fault_of_layer, fault_of}
 use Rattle.map_edits.specs.Refusals.{procedures, labels, symbols, Refusal, unknown, exists_already}
 use Rattle.map_edits.specs.EditForms.{load, new_layer, paint, define, drop_name}
-use Rattle.map_edits.specs.EntriesAfter.{entries_after}
+use Rattle.map_edits.specs.EntriesAfter.{entries_with}
 use Rattle.map_edits.specs.Edits.{with_entries}
 use Rattle.map_edits.specs.Marks.{put_mark}
 use Rattle.map_edits.specs.WholeStates.{WholeState}
@@ -39,7 +39,7 @@ drop_faultless s t n size is good none =
     (listed_faultless s t good.none_looped groups.none_looped size less none) (by_depth (nodes_of t.entries)) (groups_listed t.entries groups.groups groups.apart))
 
 module _ (s t : WholeState) (l : IsLawful s) (none : fault_of s.names ≡ None) where
-  drop_by : (n : Name) (o : Result (List Entry) Refusal) → entries_after s.names (drop_name n) ≡ o → with_names s (drop_name n) o ≡ Ok t → fault_of t.names ≡ None
+  drop_by : (n : Name) (o : Result (List Entry) Refusal) → entries_with s.procedures s.names (drop_name n) ≡ o → with_names s (drop_name n) o ≡ Ok t → fault_of t.names ≡ None
   drop_by n (Err r) is e = absurd cc
   drop_by n (Ok es) is e =
       let names : with_entries s.names es ≡ t.names = cc in
@@ -64,7 +64,7 @@ module _ (s t : WholeState) (l : IsLawful s) (none : fault_of s.names ≡ None) 
   untested (of_names (new_layer n cell)) is fault = fault
   untested (of_names (paint n r cell)) is fault = fault
   untested (of_names (define n written)) is fault = fault
-  untested (of_names (drop_name n)) is fault = drop_by n (entries_after s.names (drop_name n)) refl is
+  untested (of_names (drop_name n)) is fault = drop_by n (entries_with s.procedures s.names (drop_name n)) refl is
   untested (define_procedure p) is fault =
       by_procedure p (wrong_call s.procedures p.body) (new_is (is_some (find_procedure s.procedures p.name)) (exists_already p.name) (with_procedure s p (wrong_call s.procedures p.body)) t is).1
   untested (label n z text) is fault =

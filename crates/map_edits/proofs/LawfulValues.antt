@@ -14,7 +14,7 @@ use Rattle.map_edits.specs.Edits.{with_entries}
 use Rattle.map_edits.specs.Laws.{is_among, edited}
 use Rattle.map_edits.specs.WholeStates.{WholeState}
 use Rattle.map_edits.specs.WholeEdits.{of_names}
-use Rattle.map_edits.specs.NamesAfter.{entries_with}
+use Rattle.map_edits.specs.EntriesAfter.{entries_with}
 use Rattle.map_edits.specs.Attempts.{with_names}
 use Rattle.map_edits.specs.GroupLaws.{IsLawful, IsPlainEdit}
 use Rattle.map_edits.specs.ValueLaws.{OthersKeepValues, NoneIsLawful}

@@ -10,12 +10,10 @@ pub mod Accepted
 pub mod Agreeing
 pub mod Listed
 pub mod Dropped
-pub mod Evaluating
 pub mod Once
 pub mod Unchanged
 pub mod Summed
 pub mod Cuts
-pub mod Halves
 pub mod Heads
 pub mod Groups
 pub mod GroupNeeds

@@ -17,12 +17,11 @@ use Rattle.map_edits.specs.Refusals.{Which, sources, statements, zonals, procedu
 use Rattle.map_edits.specs.Limits.{most_sources, most_flats, most_zonals, is_source, is_flat, is_zonal}
 use Rattle.map_edits.specs.Painting.{is_within, painted}
 use Rattle.map_edits.specs.EditForms.{Edit, load, new_layer, paint, define, drop_name, Rectangle}
-use Rattle.map_edits.specs.EntriesAfter.{same_size, add_source, paint_source, put_statement}
+use Rattle.map_edits.specs.EntriesAfter.{same_size, add_source, paint_source, put_statement, define_with, entries_with}
 use Rattle.map_edits.specs.Edits.{with_entries}
 use Rattle.map_edits.specs.Marks.{Mark, put_mark}
 use Rattle.map_edits.specs.WholeStates.{WholeState}
 use Rattle.map_edits.specs.WholeEdits.{WholeEdit, of_names, define_procedure, label, symbol}
-use Rattle.map_edits.specs.NamesAfter.{define_with, entries_with}
 use Rattle.map_edits.specs.Attempts.{most_marks, most_procedures, unless_more, counted, marks_after, with_names, with_procedure, with_labels, with_symbols, attempted}
 use Rattle.map_edits.specs.LimitLaws.{AreFew, FewStay}
 use Rattle.map_edits.proofs.Accepted.{cond_err, cond_ok}

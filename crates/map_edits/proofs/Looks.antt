@@ -33,9 +33,6 @@ making_needs None = []
 making_needs (Some (given_grid grid)) = []
 making_needs (Some (by_op op)) = needs_of op
 
-abbrev node_needs : Option Node → Option (Option (List Name))
-node_needs o = option_map (λ (node : Node). node.needs) o
-
 needs_parts : (ls : List LayerDef) (n a : Name) (making : Making) → find_node (map node_of_layer ls) n ≡ Some (node_of_layer (record { name = a; making = making })) → needs_in (map node_of_layer ls) n ≡ making_needs (Some making)
 needs_parts ls n a (given_grid grid) e = rw e refl
 needs_parts ls n a (by_op op) e = rw e refl

@@ -1,16 +1,14 @@
 -- By depth each name is listed once.
-use Rattle.std.proofs.Common.{◌≡◌, ℕ, zero, suc, ◌+◌, ◌<◌, Bool, true, false, cond, ◌||◌, List, [], ◌∷◌, ◌++◌, filter, length, Some, None, bytes_eq, refl, sym, ap, subst, ◌∙◌, arith}
+use Rattle.std.proofs.Common.{◌≡◌, ℕ, zero, suc, ◌+◌, ◌<◌, Bool, true, false, cond, ◌||◌, List, [], ◌∷◌, ◌++◌, filter, length, Some, None, bytes_eq, refl, sym, ap, ◌∙◌, arith}
 use Rattle.std.specs.Bool.{⊤}
 use Rattle.std.proofs.lemmas.Bool.{or_parts, or_from, false_from_ne_true}
 use Rattle.std.proofs.lemmas.List.Folds.{list_any-append}
 use Rattle.map_defs.specs.Ops.{Name}
 use Rattle.map_defs.specs.Nodes.{Node, find_node}
 use Rattle.map_defs.specs.Depths.{depth_in, by_depth}
-use Rattle.map_edits.specs.Entries.{Def, source, statement, Entry}
-use Rattle.map_edits.specs.LayerDefs.{nodes_of}
-use Rattle.map_edits.specs.Laws.{is_named_in, IsOwnDef, IsOwn, IsApart}
+use Rattle.map_edits.specs.Laws.{is_named_in}
 use Rattle.map_edits.proofs.Among.{same_name, bytes_eq-turned}
-use Rattle.map_edits.proofs.Listed.{Each, not_there}
+use Rattle.map_edits.proofs.Listed.{Each}
 use Rattle.map_edits.proofs.Order.{AllFrom, AllAt, none_from, filter_at, ranked, ranked_from, depth_at, is_flat_at, flat_at}
 
 -- no name stands twice
@@ -27,14 +25,6 @@ not_found (x ∷ xs) n e = go (bytes_eq x.name n) refl e (not_found xs n)
     go : (b : Bool) → bytes_eq x.name n ≡ b → cond b (Some x) (find_node xs n) ≡ None → (find_node xs n ≡ None → is_named_in n xs ≡ false) → (bytes_eq x.name n || is_named_in n xs) ≡ false
     go true h e rest = absurd cc
     go false h e rest = or_from (bytes_eq x.name n) (is_named_in n xs) h (rest e)
-
-once_parts : (a : Name) (d : Def) (es : List Entry) → IsOwnDef a d → is_named_in a (nodes_of es) ≡ false → IsOnce (nodes_of es) → IsOnce (nodes_of (record { name = a; def = d } ∷ es))
-once_parts a (source grid) es own new rest = (new, rest)
-once_parts a (statement written flats) es own new rest = rw own.1 (new, rest)
-
-pub nodes_once : (es : List Entry) → IsOwn es → IsApart es → IsOnce (nodes_of es)
-nodes_once [] own apart = tt
-nodes_once (e ∷ es) own apart = once_parts e.name e.def es own.0 (not_found (nodes_of es) e.name (not_there es e.name own.1 apart.0)) (nodes_once es own.1 apart.1)
 
 -- ---- parts of a list, and two in a row
 
@@ -94,8 +84,3 @@ once_between node after (b ∷ before) once =
     let parts = or_parts (is_named_in b.name before) (is_named_in b.name (node ∷ after)) (sym (list_any-append (λ (y : Node). bytes_eq y.name b.name) before (node ∷ after)) ∙ once.0) in
     let differs = (or_parts (bytes_eq node.name b.name) (is_named_in b.name after) parts.1).0 in
     (or_from (bytes_eq b.name node.name) (is_named_in node.name before) (bytes_eq-turned node.name b.name differs) rest.0, rest.1)
-
--- a listed name stands neither before nor after
-pub listed_once : (es : List Entry) → IsOwn es → IsApart es → (before after : List Node) (node : Node) → by_depth (nodes_of es) ≡ before ++ node ∷ after
-    → (is_named_in node.name before ≡ false) × (is_named_in node.name after ≡ false)
-listed_once es own apart before after node split = once_between node after before (subst IsOnce split (by_depth_once (nodes_of es) (nodes_once es own apart)))

@@ -10,7 +10,7 @@ use Rattle.map_edits.specs.Edits.{with_entries}
 use Rattle.map_edits.specs.Marks.{Mark, put_mark, drop_marks}
 use Rattle.map_edits.specs.WholeStates.{WholeState}
 use Rattle.map_edits.specs.WholeEdits.{WholeEdit, of_names, define_procedure, label, symbol}
-use Rattle.map_edits.specs.NamesAfter.{entries_with}
+use Rattle.map_edits.specs.EntriesAfter.{entries_with}
 
 -- of labels, and of symbols
 abbrev pub most_marks : ℕ

@@ -1,8 +1,8 @@
 -- The names after an edit, or the first refusal of its row; faults apart.
-use Rattle.std.specs.Prelude.{ℤ, nat_lt, Bool, ◌&&◌, ◌==◌, List, [], count_by, Option, Some, None, is_some, Result, Ok, Err, if◌then◌else◌}
+use Rattle.std.specs.Prelude.{ℤ, nat_lt, Bool, ◌&&◌, ◌==◌, List, count_by, Option, Some, None, is_some, Result, Ok, Err, if◌then◌else◌}
 use Rattle.map_nums.specs.Grids.{Size, Grid, constant}
 use Rattle.map_defs.specs.Ops.{Name}
-use Rattle.map_defs.specs.Statements.{Flat, Written}
+use Rattle.map_defs.specs.Statements.{Flat, Written, Procedure}
 use Rattle.map_defs.specs.Expansion.{WrongCall, not_defined, wrong_count, expansion_of}
 use Rattle.map_defs.specs.Depths.{is_looped}
 use Rattle.map_edits.specs.Entries.{Def, source, statement, Entry, find_def, put_entry, drop_entry}
@@ -36,15 +36,16 @@ put_statement entries n written (Err (not_defined p)) = Err (no_procedure p)
 put_statement entries n written (Err (wrong_count given wanted)) = Err (wrong_terms given wanted)
 put_statement entries n written (Ok flats) = bounded n (put_entry entries n (statement written flats))
 
-abbrev pub define_entry : List Entry → Name → Written → Option Def → Result (List Entry) Refusal
-define_entry entries n written (Some (source grid)) = Err (exists_already n)
-define_entry entries n written (Some (statement w flats)) = put_statement entries n written (expansion_of [] n written)
-define_entry entries n written None = put_statement entries n written (expansion_of [] n written)
+abbrev pub define_with : List Procedure → List Entry → Name → Written → Option Def → Result (List Entry) Refusal
+define_with ps entries n written (Some (source grid)) = Err (exists_already n)
+define_with ps entries n written (Some (statement w flats)) = put_statement entries n written (expansion_of ps n written)
+define_with ps entries n written None = put_statement entries n written (expansion_of ps n written)
 
-abbrev pub entries_after : EngineState → Edit → Result (List Entry) Refusal
-entries_after s (load n grid) =
+-- a statement may call these procedures
+abbrev pub entries_with : List Procedure → EngineState → Edit → Result (List Entry) Refusal
+entries_with ps s (load n grid) =
     if is_some (find_def s.entries n) then Err (exists_already n) else (if same_size grid.size s.size then add_source s.entries n grid else Err (wrong_size s.size))
-entries_after s (new_layer n cell) = if is_some (find_def s.entries n) then Err (exists_already n) else add_source s.entries n (constant s.size cell)
-entries_after s (paint n r cell) = paint_source s n r cell (find_def s.entries n)
-entries_after s (define n written) = define_entry s.entries n written (find_def s.entries n)
-entries_after s (drop_name n) = if is_some (find_def s.entries n) then Ok (drop_entry s.entries n) else Err (unknown n)
+entries_with ps s (new_layer n cell) = if is_some (find_def s.entries n) then Err (exists_already n) else add_source s.entries n (constant s.size cell)
+entries_with ps s (paint n r cell) = paint_source s n r cell (find_def s.entries n)
+entries_with ps s (define n written) = define_with ps s.entries n written (find_def s.entries n)
+entries_with ps s (drop_name n) = if is_some (find_def s.entries n) then Ok (drop_entry s.entries n) else Err (unknown n)

@@ -10,11 +10,9 @@ pub mod EntriesAfter
 pub mod Edits
 pub mod LineEdits
 pub mod Laws
-pub mod Sound
 pub mod Marks
 pub mod WholeStates
 pub mod WholeEdits
-pub mod NamesAfter
 pub mod Attempts
 pub mod Touches
 pub mod LayerChanges
@@ -26,7 +24,6 @@ pub mod SessionWords
 pub mod Sessions
 pub mod SessionRows
 pub mod CountLaws
-pub mod HalfLaws
 pub mod GroupLaws
 pub mod ValueLaws
 pub mod ListingLaws

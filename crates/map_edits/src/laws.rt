@@ -1,7 +1,6 @@
 //! Laws of edits: what each keeps, what it counts, and what it may read.
 ghost use Rattle.map_edits.specs.CountLaws.{AcceptedReads, DepthIsPlace, FaultReads, NoneIsDeeper, OtherReads, UnchangedCountsNothing};
 ghost use Rattle.map_edits.specs.GroupLaws.{LawfulStays, NoFaultStays};
-ghost use Rattle.map_edits.specs.HalfLaws.{NamesAreAccepted};
 ghost use Rattle.map_edits.specs.LimitLaws.{FewStay};
 ghost use Rattle.map_edits.specs.ListingLaws.{AllAreListed, AreListed};
 ghost use Rattle.map_edits.specs.StampLaws.{StampsAreKept};
@@ -25,11 +24,6 @@ pub fn allowance_law()
     ensures fault { FaultReads }
     ensures other { OtherReads }
     ensures deepest { NoneIsDeeper }
-{}
-
-/// Where there are no procedures, an edit of the names does to them what the edit of the names alone does.
-pub fn names_law()
-    ensures { NamesAreAccepted }
 {}
 
 /// What every accepted edit keeps: procedures are made one after another, the flat statements of a statement are rightly

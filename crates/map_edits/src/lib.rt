@@ -11,8 +11,8 @@ mod laws;
 ghost use Rattle.map_edits.specs.SessionRows.{SessionRows};
 
 pub use laws::{
-    allowance_law, depth_law, lawful_law, limit_law, listing_law, names_law, stamp_law,
-    unchanged_law, value_law,
+    allowance_law, depth_law, lawful_law, limit_law, listing_law, stamp_law, unchanged_law,
+    value_law,
 };
 
 /// Worked sessions answer, count, stamp and read as the definitions say.

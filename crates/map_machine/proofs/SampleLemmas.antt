@@ -8,7 +8,7 @@ use Rattle.map_edits.specs.Entries.{Entry, source, put_entry}
 use Rattle.map_edits.specs.EngineStates.{EngineState, no_entries}
 use Rattle.map_edits.specs.Faults.{fault_of}
 use Rattle.map_edits.specs.EditForms.{load}
-use Rattle.map_edits.specs.EntriesAfter.{entries_after}
+use Rattle.map_edits.specs.EntriesAfter.{entries_with}
 use Rattle.map_edits.specs.Edits.{with_entries}
 use Rattle.map_edits.specs.Counted.{accept_counted}
 use Rattle.map_machine.specs.States.{MapState}
@@ -21,11 +21,11 @@ use Rattle.map_machine.specs.Samples.{sample_state}
 use Rattle.map_machine.specs.Play.{form_opening}
 
 -- a load that is not refused, and leaves no fault
-goes_past : (s : MapState) (names : EngineState) (n : Name) (grid : Grid) (es : List Entry) (next : MapState → Opening) → s.whole.names ≡ names → entries_after names (load n grid) ≡ Ok es
+goes_past : (s : MapState) (names : EngineState) (n : Name) (grid : Grid) (es : List Entry) (next : MapState → Opening) → s.whole.names ≡ names → entries_with s.whole.procedures names (load n grid) ≡ Ok es
     → fault_of (with_entries names es) ≡ None → ((t : MapState) → t.whole.names ≡ with_entries names es → next t ≡ goes_on) → opened_opening (grid_load s n grid) next ≡ goes_on
 unfolding accept_counted
 goes_past s names n grid es next same accepted none later =
-    rw (ap (λ m. entries_after m (load n grid)) same ∙ accepted, ap (λ m. fault_of (with_entries m es)) same ∙ none) (later _ (ap (λ m. with_entries m es) same))
+    rw (ap (λ m. entries_with s.whole.procedures m (load n grid)) same ∙ accepted, ap (λ m. fault_of (with_entries m es)) same ∙ none) (later _ (ap (λ m. with_entries m es) same))
 
 -- the names after the first loads
 abbrev with_source : EngineState → Name → Grid → EngineState

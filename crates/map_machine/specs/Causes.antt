@@ -3,7 +3,7 @@ use Rattle.std.specs.Prelude.{ℕ, List, ◌++◌, codes, decimal}
 use Rattle.statement_parser.specs.Texts.{Refusal as LineRefusal, long, syntax, operation, number}
 use Rattle.grid_text.specs.Faults as grids
 use Rattle.map_edits.specs.Faults.{Fault, too_many_viewers, overflow}
-use Rattle.map_edits.specs.Edits.{Which, sources, statements, zonals, labels, symbols, procedures, Refusal, unknown, is_derived, exists_already, wrong_size, beyond, cycle, fault, no_procedure, wrong_terms}
+use Rattle.map_edits.specs.Refusals.{Which, sources, statements, zonals, labels, symbols, procedures, Refusal, unknown, is_derived, exists_already, wrong_size, beyond, cycle, fault, no_procedure, wrong_terms}
 
 -- a word and a number
 abbrev pub counted : List ℕ → ℕ → List ℕ

@@ -23,4 +23,3 @@ pub mod Sought
 pub mod Gathering
 pub mod Turning
 pub mod Ticketing
-pub mod InTurn

@@ -1,7 +1,6 @@
 -- What is prepared of one statement, by the way that it is repaired.
-use Rattle.std.proofs.Common.{◌≡◌, ℕ, suc, ◌*◌, ◌≤◌, Bool, true, false, List, [], ◌∷◌, length, Option, Some, None, unwrap_or, is_some, slice_get, option_copied, if◌then◌else◌, refl, sym, ap, subst, ◌∙◌, arith}
+use Rattle.std.proofs.Common.{◌≡◌, ℕ, suc, ◌*◌, ◌≤◌, Bool, true, false, List, [], ◌∷◌, length, Option, Some, None, unwrap_or, is_some, slice_get, if◌then◌else◌, refl, sym, ap, subst, ◌∙◌, arith}
 use Rattle.std.specs.List.{All}
-use Rattle.std.specs.Borrow.{Bor}
 use Rattle.std.proofs.lemmas.Bool.{false≢true}
 use Rattle.std.proofs.lemmas.Option.{none-some, slice_get_within, get_or_from_slice_get}
 use Rattle.std.proofs.lemmas.List.{length-map}
@@ -19,7 +18,7 @@ use Rattle.layer_tiles.proofs.Found.{HoldsAll-from_numbers}
 use Rattle.layer_tiles.proofs.Patching.{length-patched}
 use Rattle.map_waves.specs.Statements.{made, cells_were, damage_by, work_by, fault_in}
 use Rattle.map_waves.specs.Operands.{IsOperand}
-use Rattle.map_waves.specs.Keeping.{kept_now, IsRightOver}
+use Rattle.map_waves.specs.Keeping.{IsRightOver}
 use Rattle.map_waves.specs.Gathered.{IsRepaired}
 use Rattle.map_waves.specs.Plans.{StepDef, change_by, reckoned}
 use Rattle.map_waves.specs.Bases.{IsBase, kept_by}
@@ -40,10 +39,6 @@ all_first P x xs all = all 0 x (omega arith)
 
 pub all_rest : {X : Type 0} (P : X → Type 0) (x : X) (xs : List X) → All P (x ∷ xs) → All P xs
 all_rest P x xs all k d h = all (suc k) d (omega arith)
-
-pub kept_copied : {B : Type 0} (o : Option (Bor (Kept B))) → kept_now o ≡ option_copied o
-kept_copied None = refl
-kept_copied (Some k) = refl
 
 pub kept_layer : {B : Type 0} (base : Base B) → IsBase base → (k : Option ℕ) (own : Kept B) → kept_by base k ≡ Some own → (own.layer.size ≡ base.extent) × IsLayer own.layer
 kept_layer base is None own e = absurd (none-some own e)

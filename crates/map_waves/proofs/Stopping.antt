@@ -113,23 +113,10 @@ module _ {O B W R : Type 0} (ts : List Task) (js js' : List (JobsState O B W)) (
 
 -- ---- depth after depth
 
-none_before : (p : Plan) (first end k : ℕ) (fault : Fault) → AreFaultless p 0 first → IsFirstFault p first end k fault → (j : ℕ) → 0 ≤ j → j < k → fault_at p j ≡ None
-none_before p first end k fault none is j from below = go (cases_lt j first)
-  where
-    go : (j < first) ⊎ (first ≤ j) → fault_at p j ≡ None
-    go (inl less) = none j from less
-    go (inr more) = is.none j more below
-
 alike_from : {O : Type 0} (steps : List (Step O)) (first end k : ℕ) → AreAlike steps first end → end ≤ length steps → first < end → first ≤ k → AreAlike steps k end
 alike_from steps first end k alike most some from j x y low high start here =
     let begin = some_at steps first (omega arith) in
     alike j x begin.0 (omega arith) high begin.1 here ∙ sym (alike k y begin.0 from (omega arith) begin.1 start)
-
--- a stop among the last statements stops all
-pub stops_all : (p : Plan) (first end n : ℕ) (stop : Stop) → AreFaultless p 0 first → end ≤ n → IsStop p first end stop → IsStop p 0 n stop
-stops_all p first end n (Viewers k count) none most is = record { from = omega arith; below = omega arith; is = is.is; none = none_before p first end k (too_many count) none is }
-stops_all p first end n (Overflow k at) none most is = record { from = omega arith; below = omega arith; is = is.is; none = none_before p first end k (wide_at at) none is }
-stops_all p first end n NoMemory none most is = tt
 
 -- the statement that stops is in the depth that was looked at
 pub reached : {O : Type 0} (p : Plan) (steps : List (Step O)) (first end : ℕ) (stop : Stop) → AreFaultless p 0 first → AreAlike steps first end → end ≤ length steps → first < end → IsStop p first end stop → IsReachedAt p steps stop end

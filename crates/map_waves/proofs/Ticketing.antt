@@ -1,24 +1,12 @@
--- The answers and the rises of a run of tickets.
-use Rattle.std.proofs.Common.{◌≡◌, ℕ, ◌<◌, List, length, get_or, Result, ap, subst, ◌∙◌, arith}
-use Rattle.std.specs.Prelude.{IfSome, sum_by}
+-- The rises of a run of tickets.
+use Rattle.std.proofs.Common.{◌≡◌, ℕ, List, ap, subst, ◌∙◌}
+use Rattle.std.specs.Prelude.{sum_by}
 use Rattle.std.specs.List.{range_with_len}
-use Rattle.std.proofs.lemmas.Option.{slice_get_within, get_or_from_slice_get}
 use Rattle.layer_tiles.specs.Tallies.{TallyState, RisesBy}
-use Rattle.layer_tiles.specs.declared.kernels.KernelRefusal.{KernelRefusal}
 use Rattle.map_waves.specs.Jobs.{JobsState}
 use Rattle.map_waves.specs.Answers.{total_of}
-use Rattle.map_waves.specs.Seating.{all_jobs, all_rises, seat_of, rise_of, AreAnswered}
+use Rattle.map_waves.specs.Seating.{all_jobs, all_rises, seat_of, rise_of}
 use Rattle.map_waves.proofs.Seats.{rises_in_turn}
-
-module _ {O B W R : Type 0} (js : List (JobsState O B W)) (n : ℕ) (all : n ≡ all_jobs js) where
-  pub answered_by : (pieces : JobsState O B W → ℕ → Result R KernelRefusal → Type 0) (rs : List (Result R KernelRefusal)) → length rs ≡ n
-      → ((t : ℕ) (d : Result R KernelRefusal) → t < n → IfSome (seat_of js t) (λ q. pieces q.0 q.1 (get_or rs t d))) → AreAnswered pieces js rs
-  answered_by pieces rs count each = record {
-    count = count ∙ all;
-    each = λ t d e.
-        let within = slice_get_within rs t d e in
-        subst (λ (r : Result R KernelRefusal). IfSome (seat_of js t) (λ q. pieces q.0 q.1 r)) (get_or_from_slice_get rs t d d e) (each t d (omega (arith, within, count)));
-  }
 
 module _ {O B W : Type 0} (js : List (JobsState O B W)) where
   in_turn : (n : ℕ) → n ≡ all_jobs js → (rise : JobsState O B W → ℕ → ℕ) → total_of (λ t. rise_of rise (seat_of js t)) n ≡ all_rises rise js

@@ -17,4 +17,3 @@ pub mod Seating
 pub mod Refusals
 pub mod Filled
 pub mod Stops
-pub mod Unmade

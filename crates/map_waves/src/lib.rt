@@ -5,7 +5,6 @@
 //! a [`Made`] for each statement that doesn't stay as it was. [`count_all`] counts what was done, and [`place_all`] puts it in place.
 #![tactic(auto)]
 
-mod alone;
 mod begin;
 mod counting;
 mod finish;
@@ -24,7 +23,6 @@ mod stops;
 mod tasks;
 mod tickets;
 
-pub use alone::{Unmade, repair_alone};
 pub use counting::{Counts, count_all};
 pub use halts::{Halt, Stop};
 pub use jobs::{Jobs, Maker};

@@ -18,7 +18,7 @@ fn lesser(least: Option<u32>, at: u32) -> u32
 }
 
 /// The refusal of a row of answers: want of memory, or else the least overflow.
-pub(crate) fn refusal_of<P>(row: &[Result<P, KernelRefusal>]) -> Option<KernelRefusal>
+fn refusal_of<P>(row: &[Result<P, KernelRefusal>]) -> Option<KernelRefusal>
     ensures { IsRefusalOf row.now result }
 {
     let mut least = None;

@@ -39,5 +39,4 @@ pub mod WholeSpread
 pub mod WholeRegions
 pub mod WholeOps
 pub mod Kept
-pub mod Standing
 pub mod Once

@@ -2,7 +2,7 @@
 use Rattle.std.proofs.Common.{◌≡◌, inl, inr, ℕ, zero, suc, ◌+◌, ◌<◌, ◌≤◌, Bool, true, false, cond, List, [], ◌∷◌, ◌++◌, length, get_or, refl, sym, ◌∙◌, ap, arith}
 use Rattle.std.specs.Prelude.{not}
 use Rattle.std.specs.List.{All, Contains, filter, range_with_len}
-use Rattle.std.proofs.lemmas.Bool.{both_ways, cases_eq, false_from_ne_true}
+use Rattle.std.proofs.lemmas.Bool.{both_ways, cases_eq}
 use Rattle.std.proofs.lemmas.List.Elements.{All-head, All-tail, filter_passes, filter-append}
 use Rattle.std.proofs.lemmas.List.{get_or_default}
 use Rattle.std.proofs.lemmas.List.Filters.{length-filter_both}
@@ -89,10 +89,6 @@ filter_has p (suc n) k t a b e = elim (cases_eq k t) as (λ _. Contains (filter 
     here : (v : Bool) → v ≡ true → k ≡ t → Contains (cond v (k ∷ filter p (range_with_len (k + 1) n)) (filter p (range_with_len (k + 1) n))) t
     here true q f = (0, omega arith, f)
     here false q f = absurd (both_ways false refl q)
-
--- what it has not does not pass
-pub not_passing : (p : ℕ → Bool) (n t : ℕ) → t < n → (Contains (filter p (range_with_len 0 n)) t → ⊥) → p t ≡ false
-not_passing p n t l out = false_from_ne_true (p t) (λ e. out (filter_has p n 0 t (omega arith) (omega (arith, l)) e))
 
 -- where a number that passes stands
 pub listed : (p : ℕ → Bool) (n t : ℕ) → t < n → p t ≡ true → (k : ℕ) × (k < length (filter p (range_with_len 0 n))) × (get_or (filter p (range_with_len 0 n)) k 0 ≡ t)

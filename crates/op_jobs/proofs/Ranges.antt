@@ -1,6 +1,5 @@
 -- The terms of an operation whose numbers are in range.
-use Rattle.std.proofs.Common.{◌≡◌, ℕ, zero, suc, ◌≤◌, List, [], ◌∷◌, length, Some, subst, arith, slice_get}
-use Rattle.std.proofs.lemmas.Option.{same_Some}
+use Rattle.std.proofs.Common.{◌≤◌, List, [], ◌∷◌, length, arith}
 use Rattle.map_defs.specs.Ops.{Term, layer_term, number_term, Op, terms_of, local_op, difference_op, ratio_op, rating_op, focal_op, zonal_op, form_op, direction_op, flow_op, spread_op, sight_op, region_op}
 use Rattle.statement_parser.specs.Formed.{Each, IsTerm, IsOp}
 use Rattle.op_jobs.specs.Ranges.{IsInRange, HasRanges}
@@ -11,7 +10,7 @@ term_of_line : (t : Term) → IsTerm t → IsInRange t
 term_of_line (layer_term n) is = tt
 term_of_line (number_term z) is = is
 
-each_of_line : (ts : List Term) → Each IsTerm ts → Each IsInRange ts
+pub each_of_line : (ts : List Term) → Each IsTerm ts → Each IsInRange ts
 each_of_line [] are = tt
 each_of_line (t ∷ ts) are = (term_of_line t are.0, each_of_line ts are.1)
 
@@ -58,28 +57,3 @@ terms_few (flow_op t u) is = omega arith
 terms_few (spread_op limit t u) is = omega arith
 terms_few (sight_op sight t u) is = omega arith
 terms_few (region_op t) is = omega arith
-
--- ---- each term
-
-terms_in : (op : Op) → HasRanges op → Each IsInRange (terms_of op)
-terms_in (local_op stat ts) is = is.2
-terms_in (difference_op t u) is = (is.0, (is.1, tt))
-terms_in (ratio_op t u) is = (is.0, (is.1, tt))
-terms_in (rating_op t rates) is = (is.0, tt)
-terms_in (focal_op stat r t) is = (is.2, tt)
-terms_in (zonal_op stat t u) is = (is.1, (is.2, tt))
-terms_in (form_op form t) is = (is, tt)
-terms_in (direction_op t) is = (is, tt)
-terms_in (flow_op t u) is = (is.0, (is.1, tt))
-terms_in (spread_op limit t u) is = (is.1, (is.2, tt))
-terms_in (sight_op sight t u) is = (is.1, (is.2, tt))
-terms_in (region_op t) is = (is, tt)
-
-each_at : {A : Type 0} (P : A → Type 0) (xs : List A) (k : ℕ) (x : A) → Each P xs → slice_get xs k ≡ Some x → P x
-each_at P [] k x are e = absurd cc
-each_at P (y ∷ xs) zero x are e = subst P (same_Some y x e) are.0
-each_at P (y ∷ xs) (suc k) x are e = each_at P xs k x are.1 e
-
--- one to eight terms, and each number that a cell may hold
-pub terms_of_ranges : (op : Op) → HasRanges op → (1 ≤ length (terms_of op)) × (length (terms_of op) ≤ 8) × ((k : ℕ) (u : Term) → slice_get (terms_of op) k ≡ Some u → IsInRange u)
-terms_of_ranges op is = (terms_some op is, terms_few op is, λ k u e. each_at IsInRange (terms_of op) k u (terms_in op is) e)

@@ -3,7 +3,6 @@ use Rattle.std.proofs.Common.{◌≡◌, ℕ, ◌<◌, true, List, [], ◌∷◌
 use Rattle.std.specs.Prelude.{filter, nat_lt, IfSome}
 use Rattle.std.specs.List.{All}
 use Rattle.std.specs.Borrow.{Bor}
-use Rattle.std.specs.Option.{IsSome}
 use Rattle.map_nums.specs.Grids.{Size, Cells}
 use Rattle.map_nums.specs.Tiles.{tiles, tiles_in}
 use Rattle.map_defs.specs.Ops.{Op, local_op, difference_op, ratio_op, rating_op, focal_op, zonal_op, form_op, direction_op, flow_op, spread_op, sight_op, region_op}
@@ -36,14 +35,7 @@ pub size_is : (s : Size) (operands : List ChangeState) → 0 < length operands �
 size_is s [] some are = absurd (omega arith)
 size_is s (c ∷ rest) some are = (are 0 c (omega arith)).size
 
-pub one_size : (s : Size) (operands : List ChangeState) → All (IsOperand s) operands → All (λ c. c.size ≡ s) operands
-one_size s operands are k d l = (are k d l).size
-
 -- ---- what is kept
-
-pub there_of : (s : Size) (op : Op) (operands : List ChangeState) (kept : Option (Kept Beside)) → IsRightKept suits s op operands kept → IfSome kept (λ k. All (λ c. IsSome c.before) operands)
-there_of s op operands None is = tt
-there_of s op operands (Some k) is = is.there
 
 pub kept_size : (s : Size) (op : Op) (operands : List ChangeState) (kept : Option (Kept Beside)) (t : ℕ) → IsRightKept suits s op operands kept → t < tiles_in s → IfSome kept (λ k. t < tiles_in k.layer.size)
 kept_size s op operands None t is l = tt

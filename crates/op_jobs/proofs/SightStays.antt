@@ -1,34 +1,20 @@
 -- A tile outside the damage of a sight statement stays as it is.
-use Rattle.std.proofs.Common.{◌≡◌, ℕ, zero, suc, ◌+◌, ◌-◌, ◌*◌, ◌/◌, ◌%◌, ◌<◌, ◌≤◌, Bool, true, false, ◌&&◌, nat_le, cond, List, [], ◌∷◌, length, get_or, map, Option, Some, None, ℤ, pos, ◌+ℤ◌, refl, sym, ◌∙◌, ap, arith}
+use Rattle.std.proofs.Common.{◌≡◌, ℕ, zero, suc, ◌+◌, ◌-◌, ◌*◌, ◌/◌, ◌%◌, ◌<◌, ◌≤◌, Bool, true, false, ◌&&◌, nat_le, cond, ◌∷◌, get_or, map, Option, Some, None, ℤ, pos, ◌+ℤ◌, refl, sym, ◌∙◌, ap, arith}
 use Rattle.std.specs.Prelude.{filter, nat_abs}
-use Rattle.std.specs.List.{Contains, range_with_len}
-use Rattle.std.proofs.lemmas.Bool.{or_parts, and_parts, leb-true}
-use Rattle.std.proofs.lemmas.List.FromFn.{get_or-map-range_with_len}
+use Rattle.std.specs.List.{range_with_len}
+use Rattle.std.proofs.lemmas.Bool.{and_parts, leb-true}
 use Rattle.std.proofs.lemmas.Nat.{div_below, mod_below, div-mul-add, mod-mul-add, mul-add-lt}
 use Rattle.map_nums.specs.declared.Stat.TheVariants.{Sum}
 use Rattle.map_nums.specs.Stats.{statistic_of}
 use Rattle.map_nums.specs.Grids.{Size, IsSize, Cells, cell_at, cells_in, row_of, column_of, gap, numbers_in}
-use Rattle.map_defs.specs.Sight.{Sighting, apart, steps, between, is_under, is_free, sees, sees_from, sight_at, sight_grid}
+use Rattle.map_defs.specs.Sight.{Sighting, apart, steps, between, is_under, is_free, sees, sees_from, sight_at}
 use Rattle.map_defs.specs.Tiles.{is_in_square}
-use Rattle.map_defs.specs.Operate.{operate}
-use Rattle.map_defs.specs.Differences.{has_changed, square_has}
-use Rattle.map_defs.specs.Damage.{op_damage, is_damaged}
-use Rattle.map_defs.specs.DamageLaws.{IsNearTile}
-use Rattle.map_defs.specs.Ops.{Term, sight_op}
-use Rattle.map_defs.proofs.Squares.{square_from_near}
-use Rattle.layer_tiles.specs.Tiles.{tiles_in, tile_of, tile_start, tile_cells}
-use Rattle.layer_tiles.specs.Changes.{ChangeState, cells_before}
-use Rattle.layer_tiles.specs.Operands.{cells_after}
-use Rattle.layer_tiles.proofs.Rounds.{here}
-use Rattle.layer_tiles.proofs.Strides.{same_tile}
-use Rattle.changed_cells.proofs.Joining.{differs_not}
+use Rattle.map_defs.specs.Differences.{square_has}
 use Rattle.sight_lines.specs.Lines.{line_cell, is_line_free}
 use Rattle.sight_lines.proofs.Steps.{on_line, abs_is}
 use Rattle.sight_lines.proofs.Free.{same_between, steps_are}
 use Rattle.sight_lines.proofs.OnMap.{free_on}
-use Rattle.map_waves.specs.Statements.{cells_were, made, damage_by}
 use Rattle.damage_sets.proofs.Whole.{any_so}
-use Rattle.op_jobs.proofs.Listing.{not_passing}
 
 -- ---- lists
 
@@ -128,43 +114,3 @@ sight_same sight s viewers surface viewers' surface' t size l first second =
     tests : (v : ℕ) → v < cells_in s → (b : Bool) → nat_le (steps (apart s v t)) sight.reach ≡ b → seen surface v ≡ seen surface' v
     tests v vl true e = ap (λ b. nat_le (steps (apart s v t)) sight.reach && b) (sees_same s size sight.reach t v l vl (leb-true (steps (apart s v t)) sight.reach e) surface surface' second sight)
     tests v vl false e = ap (λ b. b && sees sight s surface v t) e ∙ sym (ap (λ b. b && sees sight s surface' v t) e)
-
--- ---- a tile
-
-module _ (sight : Sighting) (s : Size) (viewers surface viewers' surface' : Cells) (tile : ℕ) (size : IsSize s) (l : tile < tiles_in s) (off : square_has sight.reach s (has_changed (viewers ∷ surface ∷ []) (viewers' ∷ surface' ∷ [])) tile ≡ false) where
-  stayed : (t : ℕ) → t < cells_in s → tile_of s t ≡ tile → (i : ℕ) → i < cells_in s → gap (row_of s t) (row_of s i) ≤ sight.reach → gap (column_of s t) (column_of s i) ≤ sight.reach → has_changed (viewers ∷ surface ∷ []) (viewers' ∷ surface' ∷ []) i ≡ false
-  stayed t tl e i m p q = at (has_changed (viewers ∷ surface ∷ []) (viewers' ∷ surface' ∷ []) i) refl
-    where
-      at : (v : Bool) → has_changed (viewers ∷ surface ∷ []) (viewers' ∷ surface' ∷ []) i ≡ v → has_changed (viewers ∷ surface ∷ []) (viewers' ∷ surface' ∷ []) i ≡ false
-      at true f =
-          let near : IsNearTile sight.reach s tile i = record { place = t; within = tl; of_tile = e; rows = p; columns = q } in
-          let g = square_so sight.reach s (has_changed (viewers ∷ surface ∷ []) (viewers' ∷ surface' ∷ [])) tile i m f (square_from_near sight.reach s tile i l m near) in
-          absurd (cc (off, g))
-      at false f = f
-
-  shown : (these heights : Cells) (i : ℕ) → i < cells_in s → cell_at (sight_grid sight s these heights).cells i ≡ sight_at sight s these heights i
-  unfolding sight_grid
-  shown these heights i m = get_or-map-range_with_len (sight_at sight s these heights) 0 (cells_in s) i i None m (omega arith)
-
-  pub grid_stays : tile_cells s (sight_grid sight s viewers surface).cells tile ≡ tile_cells s (sight_grid sight s viewers' surface').cells tile
-  grid_stays =
-      same_tile s (sight_grid sight s viewers surface).cells (sight_grid sight s viewers' surface').cells tile
-      (λ r c p q.
-      let h = here s tile r c size l p q in
-      let t = tile_start s tile + r * s.columns + c in
-      shown viewers surface t h.within
-      ∙ sight_same sight s viewers surface viewers' surface' t size h.within
-      (λ i m x y. differs_not viewers viewers' i (or_parts _ _ (stayed t h.within h.tile i m x y)).0)
-      (λ i m x y. differs_not surface surface' i (or_parts _ _ (or_parts _ _ (stayed t h.within h.tile i m x y)).1).0)
-      ∙ sym (shown viewers' surface' t h.within))
-
-pub sight_stays : (sight : Sighting) (t u : Term) (s : Size) (operands : List ChangeState) (was : Cells) (tile : ℕ) → IsSize s → tile < tiles_in s → length operands ≡ 2 → was ≡ made s (sight_op sight t u) (cells_were operands) → (Contains (damage_by s (sight_op sight t u) (Some was) operands) tile → ⊥) → tile_cells s was tile ≡ tile_cells s (made s (sight_op sight t u) (cells_after operands)) tile
-unfolding op_damage operate
-sight_stays sight t u s [] was tile size l n e out = absurd (omega (arith, n))
-sight_stays sight t u s (v ∷ []) was tile size l n e out = absurd (omega (arith, n))
-sight_stays sight t u s (v ∷ z ∷ x ∷ rest) was tile size l n e out = absurd (omega (arith, n))
-sight_stays sight t u s (v ∷ z ∷ []) was tile size l n e out =
-    let new = (sight_grid sight s v.cells z.cells).cells in
-    let off = not_passing (is_damaged (sight_op sight t u) s (cells_before v ∷ cells_before z ∷ []) (v.cells ∷ z.cells ∷ []) was new) (tiles_in s) tile l out in
-    let parts = or_parts _ _ off in
-    ap (λ (cells : Cells). tile_cells s cells tile) e ∙ grid_stays sight s (cells_before v) (cells_before z) v.cells z.cells tile size l parts.0

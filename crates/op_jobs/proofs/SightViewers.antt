@@ -1,5 +1,5 @@
 -- The viewers of a sight statement after an edit.
-use Rattle.std.proofs.Common.{◌≡◌, ℕ, zero, suc, ◌+◌, ◌<◌, ◌≤◌, Bool, true, false, cond, nat_lt, List, [], ◌∷◌, length, Option, Some, None, IsSome, ℤ, Result, refl, sym, ◌∙◌, ap, subst, arith, IfSome, MatchOption, Bor}
+use Rattle.std.proofs.Common.{◌≡◌, ℕ, zero, suc, ◌+◌, ◌<◌, ◌≤◌, Bool, true, false, cond, nat_lt, List, [], ◌∷◌, length, Option, Some, None, ℤ, Result, refl, sym, ◌∙◌, ap, subst, arith, IfSome, MatchOption, Bor}
 use Rattle.std.specs.Prelude.{is_some}
 use Rattle.std.specs.List.{All, range_with_len}
 use Rattle.std.proofs.lemmas.Bool.{lt-ltb}
@@ -49,10 +49,6 @@ module _ (operands : List ChangeState) (v z : ChangeState) (two : operands ≡ v
       let c = viewer_count (operand (cells_after operands) 0) in
       let same : c ≡ n = ap viewer_count (values_are operands v z two) ∙ sym e in
       taken (nat_lt most_viewers c) _ _ (lt-ltb most_viewers c (omega (arith, l, same))) ∙ ap (λ k. Some (too_many k)) same
-
-pub kept_there : (s : Size) (operands : List ChangeState) (kept : Option (Bor (List (ℕ × ℤ)))) → IfSome kept (λ k. AreRightViewers s operands k.now) → is_some kept ≡ true → All (λ c. IsSome c.before) operands
-kept_there s operands None h e = cc
-kept_there s operands (Some k) h e = h.there
 
 -- ---- they stand on the map
 

@@ -1,20 +1,18 @@
 -- What the job of a tile answers.
-use Rattle.std.proofs.Common.{◌≡◌, ℕ, ◌<◌, Bool, true, false, cond, length, get_or, Option, Some, None, Ok, Err, refl, sym, ◌∙◌, ap, subst}
+use Rattle.std.proofs.Common.{◌≡◌, ℕ, ◌<◌, Bool, true, false, cond, length, get_or, Option, Some, None, Ok, refl, sym, ◌∙◌, ap, subst}
 use Rattle.std.specs.List.{All}
 use Rattle.map_nums.specs.Grids.{Size, IsSize, Cells}
 use Rattle.map_nums.specs.Tiles.{tiles_in}
 use Rattle.map_defs.specs.Differences.{differs, tile_has}
 use Rattle.layer_tiles.specs.Answers.{IsTileAnswer}
 use Rattle.layer_tiles.specs.Tiles.{Block, tile_block}
-use Rattle.layer_tiles.specs.declared.kernels.KernelRefusal.{KernelRefusal}
-use Rattle.layer_tiles.specs.declared.kernels.KernelRefusal.TheVariants.{Overflow, NoMemory}
 use Rattle.statement_parser.specs.Views.{op_view}
 use Rattle.map_waves.specs.Jobs.{was_in}
 use Rattle.map_waves.specs.Keeping.{was_of}
 use Rattle.map_waves.specs.declared.keeping.Kept.{Kept}
 use Rattle.op_jobs.specs.Changed.{is_changed}
 use Rattle.op_jobs.specs.Others.{IsOther}
-use Rattle.op_jobs.specs.Pieces.{IsTilePiece, IsTileMade}
+use Rattle.op_jobs.specs.Pieces.{IsTileMade}
 use Rattle.op_jobs.specs.Sound.{StatementJobs, IsSound}
 use Rattle.op_jobs.specs.declared.beside.Beside.{Beside}
 use Rattle.op_jobs.specs.declared.own.Own.TheVariants as an_own
@@ -29,11 +27,6 @@ job_tile j jobs k t is own l e =
     let are = tile_own j jobs is own in
     let within = subst (All (λ u. u < tiles_in j.size)) (sym are.tiles) (damage_within j.size (op_view j.op) (was_in j) j.operands) in
     subst (λ u. u < tiles_in j.size) (sym e) (within k t l)
-
--- a refusal of the kernel is the job's
-pub refusal_told : (s : Size) (was : Option Cells) (now : Cells) (t : ℕ) (e : KernelRefusal) → IsTileAnswer s now t (Err e) → IsTilePiece s was now t (Err e)
-refusal_told s was now t (Overflow at) is = is
-refusal_told s was now t NoMemory is = is
 
 -- the tile is told where it changed
 other_is : (s : Size) (now : Cells) (t : ℕ) (kept : Option (Kept Beside)) (b : Block) (r : Option Block) → IsSize s → t < tiles_in s → ((k : Kept Beside) → kept ≡ Some k → k.layer.size ≡ s) → b ≡ tile_block s now t → IsOther kept t b r → r ≡ cond (is_changed s (was_of kept) now t) (Some (tile_block s now t)) None

@@ -1,11 +1,6 @@
 -- The operands of a statement that is repaired whole.
-use Rattle.std.proofs.Common.{◌≡◌, ◌≢◌, ℕ, zero, suc, ◌<◌, List, [], ◌∷◌, length, Some, None, refl, ◌∙◌, ap, arith, slice_get, ℤ, nat_abs, unsigned_abs, pos, negsuc}
+use Rattle.std.proofs.Common.{◌≡◌, List, [], ◌∷◌, length, Some, refl, ◌∙◌, ap, arith, slice_get, ℤ, nat_abs, unsigned_abs, pos, negsuc}
 use Rattle.layer_tiles.specs.Changes.{ChangeState}
-
-pub some_at : (xs : List ChangeState) (k : ℕ) → k < length xs → slice_get xs k ≢ None
-some_at [] k l e = omega (arith, l)
-some_at (x ∷ xs) zero l e = (let f : Some x ≡ None = e in absurd (cc))
-some_at (x ∷ xs) (suc k) l e = some_at xs k (omega (arith, l)) e
 
 pub both_are : (xs : List ChangeState) (a b : ChangeState) → length xs ≡ 2 → slice_get xs 0 ≡ Some a → slice_get xs 1 ≡ Some b → xs ≡ a ∷ b ∷ []
 both_are [] a b n e f = absurd (omega (arith, n))

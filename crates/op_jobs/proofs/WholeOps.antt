@@ -1,7 +1,6 @@
 -- From an operation's own operands to its kernel's, and back.
 use Rattle.std.proofs.Common.{◌≡◌, ℕ, ◌*◌, ◌≤◌, ℤ, nat_abs, unsigned_abs, w32, List, [], ◌∷◌, length, Option, Result, sym, ◌∙◌, ap, subst, arith}
 use mir.Val.{to_z, of_z}
-use Rattle.std.specs.List.{All}
 use Rattle.std.proofs.lemmas.Int.{to_z-of_z, fits_signed_from_abs}
 use Rattle.map_nums.specs.Numbers.{greatest_value}
 use Rattle.map_nums.specs.Grids.{Cells}
@@ -15,7 +14,6 @@ use Rattle.layer_tiles.specs.declared.kernels.KernelRefusal.{KernelRefusal}
 use Rattle.drainage_flow.specs.Repairs.{IsFlowBefore}
 use Rattle.friction_spread.specs.Repairs as spreads
 use Rattle.region_labels.specs.Repairs as regions
-use Rattle.map_waves.specs.Operands.{IsOperand}
 use Rattle.map_waves.specs.Statements.{damage_by, work_by}
 use Rattle.op_jobs.specs.Ranges.{HasRanges}
 use Rattle.op_jobs.specs.Whole.{IsRightBefore, IsWholeAnswer}
@@ -36,16 +34,7 @@ module _ (xs ys : List ChangeState) (op o : Op) (e : xs ≡ ys) (f : op ≡ o) w
       subst (λ (p : Op). RisesBy (32 * length (damage_by (size_of xs) p was xs)) (1000 * work_by (size_of xs) p was xs) a b) (sym f)
       (subst (λ (zs : List ChangeState). RisesBy (32 * length (damage_by (size_of zs) o was zs)) (1000 * work_by (size_of zs) o was zs) a b) (sym e) r)
 
-operands_to : (xs ys : List ChangeState) → xs ≡ ys → All (IsOperand (size_of xs)) xs → All (IsOperand (size_of ys)) ys
-operands_to xs ys e all = subst (λ (zs : List ChangeState). All (IsOperand (size_of zs)) zs) e all
-
 module _ (xs : List ChangeState) (a b : ChangeState) (e : xs ≡ a ∷ b ∷ []) where
-  pub first_is : All (IsOperand (size_of xs)) xs → IsOperand a.size a
-  first_is all = operands_to xs (a ∷ b ∷ []) e all 0 a (omega arith)
-
-  pub second_is : All (IsOperand (size_of xs)) xs → IsOperand a.size b
-  second_is all = operands_to xs (a ∷ b ∷ []) e all 1 b (omega arith)
-
   pub flow_right : (op : Op) (t u : Term) (old : Option LayerState) → op ≡ flow_op t u → IsRightBefore (size_of xs) op xs old → IsFlowBefore a b old
   flow_right op t u old f r = flow_before a b t u old (right_to xs (a ∷ b ∷ []) op (flow_op t u) e f old r)
 
@@ -53,9 +42,6 @@ module _ (xs : List ChangeState) (a b : ChangeState) (e : xs ≡ a ∷ b ∷ [])
   spread_right op limit t u old f r = spread_before a b limit t u old (right_to xs (a ∷ b ∷ []) op (spread_op limit t u) e f old r)
 
 module _ (xs : List ChangeState) (a : ChangeState) (e : xs ≡ a ∷ []) where
-  pub only_right : All (IsOperand (size_of xs)) xs → IsOperand a.size a
-  only_right all = operands_to xs (a ∷ []) e all 0 a (omega arith)
-
   pub regions_right : (op : Op) (t : Term) (old : Option LayerState) → op ≡ region_op t → IsRightBefore (size_of xs) op xs old → regions.IsBaseFor a old
   regions_right op t old f r = regions_before a t old (right_to xs (a ∷ []) op (region_op t) e f old r)
 

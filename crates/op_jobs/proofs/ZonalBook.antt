@@ -62,9 +62,6 @@ module _ (operands : List ChangeState) (v z : ChangeState) (two : operands ≡ v
   pub one_size : (s : Size) → All (IsOperand s) operands → size_of operands ≡ s
   one_size s all = ap size_of two ∙ (first_in (IsOperand s) all).size
 
-  pub each_size : (s : Size) → All (IsOperand s) operands → All (λ (c : ChangeState). c.size ≡ size_of operands) operands
-  each_size s all k d l = (all k d l).size ∙ sym (one_size s all)
-
   pub after_book : (b : BookState) → IsBookOf b v.cells z.cells → IsBookOf b (operand (cells_after operands) 0) (operand (cells_after operands) 1)
   after_book b h = book_as b v.cells z.cells _ _ (sym values_are) (sym zones_are) h
 

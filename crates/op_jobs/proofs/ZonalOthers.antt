@@ -1,36 +1,19 @@
 -- The tiles of one zone after another.
-use Rattle.std.proofs.Common.{◌≡◌, inl, inr, ℕ, ◌+◌, ◌<◌, ◌≤◌, Bool, true, false, not, List, Some, ℤ, sym, ◌∙◌, ap, subst, arith, ⊎_elim, slice_get}
+use Rattle.std.proofs.Common.{◌≡◌, inl, inr, ℕ, ◌+◌, ◌<◌, ◌≤◌, Bool, List, Some, ℤ, sym, ◌∙◌, ap, subst, arith, ⊎_elim, slice_get}
 use Rattle.std.proofs.lemmas.Bool.{cases_lt}
 use Rattle.std.proofs.lemmas.Option.{same_Some}
 use Rattle.map_nums.specs.declared.Stat.{Stat}
 use Rattle.map_nums.specs.Grids.{Size, Cells}
-use Rattle.map_defs.specs.Cells.{same_cell}
-use Rattle.map_defs.specs.Zonal.{zone_statistic}
-use Rattle.zonal_totals.specs.Tilings.{HasZone}
 use Rattle.op_jobs.specs.Zonal.{AreMarked}
 use Rattle.op_jobs.specs.ZonalZones.{IsOfOther, HasOtherZone}
-use Rattle.op_jobs.proofs.ZonalMarks.{marked_none, marked_as, marked_then}
+use Rattle.op_jobs.proofs.ZonalMarks.{marked_then}
 
 module _ (stat : Stat) (s : Size) (values zones values' zones' : Cells) where
-  abbrev is_other : ℤ → Bool
-  is_other z = not (same_cell (zone_statistic stat s values zones z) (zone_statistic stat s values' zones' z))
-
   abbrev IsOf : ℤ → ℕ → Type 0
   IsOf z t = IsOfOther stat s values zones values' zones' z t
 
   abbrev Has : List ℤ → ℕ → ℕ → Type 0
   Has zs n t = HasOtherZone stat s values zones values' zones' zs n t
-
-  -- a zone with another statistic
-  pub other_marked : (z : ℤ) (r : Bool) (old new : List Bool) → r ≡ is_other z → r ≡ true → AreMarked s (HasZone s zones' z) old new → AreMarked s (IsOf z) old new
-  other_marked z r old new e f m = marked_as s (HasZone s zones' z) (IsOf z) old new m (λ t h. record { other = sym e ∙ f; has = h }) (λ t h. h.has)
-
-  -- one with the same
-  pub same_marked : (z : ℤ) (r : Bool) (old : List Bool) → r ≡ is_other z → r ≡ false → AreMarked s (IsOf z) old old
-  same_marked z r old e f = marked_none s (IsOf z) old (λ t h. let g = h.other in absurd (cc (e, f, g)))
-
-  pub others_none : (zs : List ℤ) (old : List Bool) → AreMarked s (Has zs 0) old old
-  others_none zs old = marked_none s (Has zs 0) old (λ t h. omega (arith, h.below))
 
   -- one more zone
   pub others_more : (zs : List ℤ) (k : ℕ) (z : ℤ) (old mid new : List Bool) → slice_get zs k ≡ Some z → AreMarked s (Has zs k) old mid → AreMarked s (IsOf z) mid new → AreMarked s (Has zs (k + 1)) old new

@@ -1,14 +1,8 @@
 -- What a book tells of zones, and the tile that shows it.
-use Rattle.std.proofs.Common.{◌≡◌, ℕ, ◌+◌, ◌*◌, ◌<◌, Bool, true, false, cond, [], get_or, drop, Option, Some, None, ℤ, Result, Ok, IsTrue, IsFalse, refl, sym, ◌∙◌, ap, subst}
+use Rattle.std.proofs.Common.{◌≡◌, ℕ, ◌+◌, ◌*◌, ◌<◌, get_or, drop, Option, Some, None, ℤ, Result, Ok, IsTrue, IsFalse, refl, sym, ◌∙◌, ap, subst}
 use Rattle.std.specs.Prelude.{option_and_then}
-use Rattle.std.specs.Ordering.{int_cmp, is_eq}
-use Rattle.std.specs.declared.cmp.Ordering.{Ordering}
-use Rattle.std.specs.declared.cmp.Ordering.TheVariants.{Less, Equal, Greater}
-use Rattle.std.specs.BTreeMap as tree
 use Rattle.std.proofs.lemmas.List.{get_or-take, get_or-drop}
-use Rattle.std.proofs.lemmas.Map.Lookups.{exact_signed}
 use Rattle.map_nums.specs.declared.Stat.{Stat}
-use Rattle.map_nums.specs.declared.Wide.{Wide}
 use Rattle.map_nums.specs.Answers.{is_wide}
 use Rattle.map_nums.specs.Exact.{IsExact}
 use Rattle.map_nums.specs.Grids.{Size, IsSize, Cells}
@@ -22,7 +16,7 @@ use Rattle.tile_frame.specs.Frames.{by_row}
 use Rattle.tile_frame.proofs.Answering.{grid_answer}
 use Rattle.zonal_totals.specs.Books.{BookState, IsBookOf}
 use Rattle.zonal_totals.proofs.Zones.{book_statistic}
-use Rattle.op_jobs.specs.Zonal.{told, AreStats}
+use Rattle.op_jobs.specs.Zonal.{told}
 
 -- ---- a zone
 
@@ -32,32 +26,6 @@ told_value stat b values zones z v is a = subst (λ (o : Option ℤ). (v ≡ o) 
 
 pub told_wide : (stat : Stat) (b : BookState) (values zones : Cells) (z : ℤ) → IsBookOf b values zones → IsTrue (is_wide (zone_statistic stat b.size values zones z)) → IsTrue (is_wide (told stat b z))
 told_wide stat b values zones z is a = subst (λ (o : Option ℤ). IsTrue (is_wide o)) (sym (book_statistic stat b values zones z is)) a
-
--- ---- statistics of zones
-
-is_equal : (o : Ordering) → is_eq o ≡ true → o ≡ Equal
-is_equal Less e = cc
-is_equal Equal e = refl
-is_equal Greater e = cc
-
--- none yet
-pub stats_none : (stat : Stat) (b : BookState) (m : tree.BTreeMap ℤ (Result (Option ℤ) Wide)) → m.entries ≡ [] → AreStats stat b m
-stats_none stat b m e = record {
-  each = λ z r f.
-      let none : tree.get int_cmp m z ≡ None = rw (e) refl in
-      absurd (cc (none, f));
-}
-
--- one more
-pub stats_put : (stat : Stat) (b : BookState) (m n : tree.BTreeMap ℤ (Result (Option ℤ) Wide)) (z : ℤ) (v : Result (Option ℤ) Wide) → AreStats stat b m → tree.Updates int_cmp m n z (Some v) → IsExact (told stat b z) v → AreStats stat b n
-stats_put stat b m n z v i u x = record { each = λ q r e. at q r (is_eq (int_cmp z q)) refl (sym (u.0 q) ∙ e) }
-  where
-    at : (q : ℤ) (r : Result (Option ℤ) Wide) (w : Bool) → is_eq (int_cmp z q) ≡ w → cond w (Some v) (tree.get int_cmp m q) ≡ Some r → IsExact (told stat b q) r
-    at q r true e f =
-        let same : z ≡ q = exact_signed z q (is_equal (int_cmp z q) e) in
-        let put : v ≡ r = cc in
-        subst (λ (y : ℤ). IsExact (told stat b y) r) same (subst (IsExact (told stat b z)) put x)
-    at q r false e f = i.each q r f
 
 -- ---- a tile
 

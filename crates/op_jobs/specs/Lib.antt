@@ -1,7 +1,6 @@
 pub mod Beside
 pub mod Changed
 pub mod Classes
-pub mod Evaluated
 pub mod Kernels
 pub mod Others
 pub mod Owning

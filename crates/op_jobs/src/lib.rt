@@ -1,11 +1,10 @@
 //! Statements on whole layers.
 //!
-//! [`Statements`] cuts a written statement into jobs, over its operands after an edit and what is kept of it; [`evaluate`] makes its layer anew.
+//! [`Statements`] cuts a written statement into jobs, over its operands after an edit and what is kept of it.
 #![tactic(auto)]
 
 mod beside;
 mod damage;
-mod evaluation;
 mod kernels;
 mod own;
 mod pieces;
@@ -25,7 +24,6 @@ mod zonal_kernel;
 mod zonal_zones;
 
 pub use beside::Beside;
-pub use evaluation::evaluate;
 pub use own::{Own, TileJobs};
 pub use pieces::Piece;
 pub use statements::Statements;

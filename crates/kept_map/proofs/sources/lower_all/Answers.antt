@@ -1,4 +1,4 @@
-use Rattle.std.proofs.Common.{◌≡◌, ◌<◌, ◌+◌, suc, length, set, get_or, refl, sym, ap, ◌∙◌, add-one, arith}
+use Rattle.std.proofs.Common.{◌≡◌, set, get_or, sym, ap, ◌∙◌, add-one}
 use Rattle.kept_map.specs.Lowering.{lowered}
 use Rattle.kept_map.proofs.Lowered.{mapped_to, none_mapped, all_mapped, get_mapped, set_mapped}
 use Rattle.kept_map.proofs.sources.lower_all.Goals as goal

@@ -1,4 +1,4 @@
-use Rattle.std.proofs.Common.{◌≡◌, ◌<◌, ◌≤◌, is_some, refl, sym, ap, subst, ◌∙◌, arith}
+use Rattle.std.proofs.Common.{◌<◌, ◌≤◌, is_some, refl, sym, ap, subst, arith}
 use Rattle.map_edits.specs.EditForms.{load}
 use Rattle.map_edits.specs.Refusals.{beyond, sources}
 use Rattle.map_edits.specs.WholeEdits.{of_names}

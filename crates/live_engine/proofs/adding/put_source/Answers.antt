@@ -1,4 +1,4 @@
-use Rattle.std.proofs.Common.{◌≡◌, ℕ, refl, ap, ◌∙◌, bytes_eq, position, None}
+use Rattle.std.proofs.Common.{ℕ, refl, ap, ◌∙◌, bytes_eq, position}
 use Rattle.map_edits.specs.WholeEdits.{of_names}
 use Rattle.edit_plans.specs.SourceCounts.{joined}
 use Rattle.layer_tiles.specs.Layers.{LayerState}

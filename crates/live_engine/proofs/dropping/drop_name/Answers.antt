@@ -1,4 +1,4 @@
-use Rattle.std.proofs.Common.{◌≡◌, ◌≤◌, refl, sym, subst, ◌∙◌, arith}
+use Rattle.std.proofs.Common.{refl, sym, subst, ◌∙◌, arith}
 use Rattle.layer_tiles.proofs.Rising.{rises_none}
 use Rattle.map_edits.specs.Refusals.{unknown}
 use Rattle.map_waves.specs.declared.plans.Shift.TheVariants.{Nothing}

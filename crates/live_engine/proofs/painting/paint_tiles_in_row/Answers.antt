@@ -1,12 +1,11 @@
-use Rattle.std.proofs.Common.{◌≡◌, ℕ, ◌+◌, ◌-◌, ◌*◌, ◌/◌, ◌<◌, ◌≤◌, ◌++◌, ◌∷◌, [], refl, ap, sym, subst, ◌∙◌, arith}
-use Rattle.map_nums.specs.Grids.{Size, IsSize}
-use Rattle.layer_tiles.specs.Patches.{PatchState}
+use Rattle.std.proofs.Common.{◌≡◌, ◌+◌, ◌-◌, ◌*◌, ◌<◌, ◌≤◌, refl, ap, sym, subst, ◌∙◌, arith}
+use Rattle.map_nums.specs.Grids.{Size}
 use Rattle.layer_tiles.specs.Tiles.{tiles_across, tiles_in, tile_height, tile_width}
 use Rattle.layer_tiles.proofs.Places.{across_some}
 use Rattle.layer_tiles.proofs.Rising.{rises_none, rises_within, rises_looked}
 use Rattle.layer_tiles.proofs.Whole.{tile_block_is}
 use Rattle.kept_map.specs.Maps.{grid_of}
-use Rattle.live_engine.specs.Painting.{rectangle_of, met_count, last_row, first_column, last_column, MeetsRectangle, IsPainted, ArePainted}
+use Rattle.live_engine.specs.Painting.{rectangle_of, met_count, first_column, last_column, MeetsRectangle, IsPainted, ArePainted}
 use Rattle.live_engine.proofs.MetTiles.{met_less, met_more, few_tiles, column_within, columns_rise, tile_within, met_here, unmet_before, unmet_behind}
 use Rattle.live_engine.proofs.Painted.{painted_whole}
 use Rattle.live_engine.proofs.Patching.{are_painted_skip, are_painted_push, are_painted_above}

@@ -1,4 +1,4 @@
-use Rattle.std.proofs.Common.{◌≡◌, ◌+◌, ◌<◌, List, length, None, Some, refl, sym, ap, subst, ◌∙◌, arith}
+use Rattle.std.proofs.Common.{◌≡◌, List, length, Some, refl, ap, ◌∙◌, arith}
 use Rattle.map_defs.specs.Statements.{Procedure}
 use Rattle.map_defs.specs.Expansion.{not_defined, wrong_count, find_procedure}
 use Rattle.map_defs.specs.Calls.{wrong_call}

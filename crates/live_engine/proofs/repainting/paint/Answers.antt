@@ -1,9 +1,8 @@
-use Rattle.std.proofs.Common.{◌≡◌, ◌*◌, ◌+◌, ◌≤◌, ℕ, List, length, true, false, position, Result, Ok, Err, Some, bytes_eq, get_or, slice_get, refl, sym, ap, subst, ◌∙◌, arith}
-use Rattle.std.proofs.lemmas.Option.{slice_get_read, slice_get_within, same_Some}
+use Rattle.std.proofs.Common.{◌≡◌, ◌*◌, ℕ, length, true, false, position, Result, Ok, Err, Some, bytes_eq, get_or, slice_get, refl, sym, ap, subst, ◌∙◌, arith}
+use Rattle.std.proofs.lemmas.Option.{slice_get_read, slice_get_within}
 use Rattle.map_nums.specs.Grids.{Size}
 use Rattle.map_defs.specs.Ops.{Name}
 use Rattle.layer_tiles.specs.Layers.{LayerState}
-use Rattle.layer_tiles.specs.Tallies.{TallyState, RisesBy}
 use Rattle.map_edits.specs.EditCounts.{Counts}
 use Rattle.map_edits.specs.Refusals.{Refusal, wrong_size}
 use Rattle.map_edits.specs.Counted.{Accepted}
@@ -14,13 +13,12 @@ use Rattle.edit_plans.specs.SourceCounts.{joined}
 use Rattle.procedure_expand.proofs.Plain.{plain_undotted}
 use Rattle.kept_map.specs.Maps.{seen}
 use Rattle.kept_map.specs.Keeps.{IsKept}
-use Rattle.kept_map.specs.Repairs.{counts_view, own_damage}
+use Rattle.kept_map.specs.Repairs.{counts_view}
 use Rattle.kept_map.specs.declared.maps.KeptMap.{KeptMap}
 use Rattle.kept_map.proofs.Committed.{committed_prepared}
 use Rattle.kept_map.proofs.SourceLayers.{layer_at, source_at}
 use Rattle.live_engine.specs.Accepts.{Refuses}
 use Rattle.live_engine.specs.Painting.{rectangle_of, met_tiles}
-use Rattle.live_engine.specs.Settles.{CanSettle}
 use Rattle.live_engine.proofs.Accepting.{accepted_is, reads_tried, reads_more}
 use Rattle.live_engine.proofs.FewCounts.{few_changed, few_evaluated}
 use Rattle.live_engine.proofs.PaintedMaps.{edit, after, layer_size, paint_attempt, paint_same_plan, paint_sources_few, paint_flats_few, paint_damage, paint_set_up, paint_own, paint_leaves}

@@ -1,4 +1,4 @@
-use Rattle.std.proofs.Common.{◌≡◌, ◌+◌, true, false, ◌∷◌, [], ◌++◌, map, length, take, Option, Some, None, option_map, bytes_eq, slice_get, refl, sym, ap, subst, ◌∙◌, arith, Bor}
+use Rattle.std.proofs.Common.{◌≡◌, ◌+◌, true, false, ◌∷◌, [], ◌++◌, map, length, take, Option, None, option_map, bytes_eq, refl, sym, ap, ◌∙◌, Bor}
 use Rattle.std.specs.Map.{lookup}
 use Rattle.std.specs.Map.Iter.{deref_pair}
 use Rattle.std.proofs.lemmas.Iterator.Consumers.{YieldsList-from_rest, YieldsList-turn, YieldsList-end}
