@@ -1,10 +1,10 @@
 -- Entries cut at the ends of zones.
-use Rattle.std.proofs.Common.{◌≡◌, ◌≢◌, ℕ, suc, ◌+◌, ◌-◌, ◌<◌, ◌≤◌, List, [], ◌∷◌, ◌++◌, length, get_or, take, drop, refl, sym, ◌∙◌, ap, subst, append_assoc, arith, ℤ, ◌<ℤ◌, ◌≤ℤ◌}
+use Rattle.std.proofs.Common.{◌≡◌, ◌≢◌, ℕ, ◌+◌, ◌-◌, ◌<◌, ◌≤◌, List, [], ◌∷◌, ◌++◌, length, get_or, take, drop, sym, ◌∙◌, ap, subst, append_assoc, arith, ℤ, ◌<ℤ◌, ◌≤ℤ◌}
 use Rattle.std.proofs.Math.Seq.{take-add}
 use Rattle.std.proofs.lemmas.Int.{ints, by_lt_z}
 use Rattle.std.proofs.lemmas.List.{take-append-drop, drop-drop, get_or-take, get_or-drop, length-take-le, length-drop}
 use Rattle.zonal_totals.specs.declared.entries.Entry.{Entry}
-use Rattle.zonal_totals.specs.Pairs.{rank, IsShort}
+use Rattle.zonal_totals.specs.Pairs.{rank}
 use Rattle.zonal_totals.specs.Entries.{Climbs}
 use Rattle.zonal_totals.specs.Sections.{joined, end_of, lowest, last_zone, AreSections}
 use Rattle.zonal_totals.proofs.Climbing.{climbs_front}

@@ -1,9 +1,6 @@
 -- The changes of an edit, tile by tile.
-use Rattle.std.proofs.Common.{◌≡◌, ℕ, zero, suc, ◌+◌, ◌*◌, ◌/◌, ◌<◌, ◌≤◌, Bool, true, false, ◌||◌, ◌==◌, List, [], ◌∷◌, replicate, inl, inr, Result, Ok, Err, OnOk, Option, Some, None, Contains, refl, sym, ap, subst, arith, ℤ, pos}
-use Rattle.std.specs.List.{list_any}
+use Rattle.std.proofs.Common.{◌≡◌, ℕ, zero, suc, ◌+◌, ◌*◌, ◌/◌, ◌<◌, ◌≤◌, replicate, Result, Ok, Err, OnOk, Option, Some, None, Contains, refl, sym, ap, subst, arith, ℤ, pos}
 use Rattle.std.proofs.lemmas.Int.{ints}
-use Rattle.std.proofs.lemmas.Bool.{cases_lt}
-use Rattle.std.proofs.lemmas.Bool.Decides.{nat_tests}
 use Rattle.map_nums.specs.declared.NoMemory.{NoMemory}
 use Rattle.std.proofs.lemmas.Nat.{mul-le}
 use Rattle.map_nums.specs.Grids.{Size, IsSize, Cells, cells_in, cell_at}

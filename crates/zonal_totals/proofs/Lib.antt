@@ -2,6 +2,7 @@ pub mod Climbing
 pub mod Settling
 pub mod Merging
 pub mod Numbers
+pub mod Rises
 pub mod Worths
 pub mod Bags
 pub mod Zones

@@ -1,6 +1,5 @@
 -- Sections of whole zones, and the one that has a zone.
-use Rattle.std.proofs.Common.{◌≡◌, inl, inr, ℕ, zero, suc, ◌+◌, ◌-◌, ◌<◌, ◌≤◌, Bool, true, false, cond, List, [], ◌∷◌, ◌++◌, length, get_or, take, drop, refl, sym, ◌∙◌, ap, subst, append_assoc, arith, ℤ, pos, negsuc, ◌<ℤ◌, ◌≤ℤ◌, ◌+ℤ◌, ◌*ℤ◌}
-use Rattle.std.specs.Prelude.{filter}
+use Rattle.std.proofs.Common.{◌≡◌, inl, inr, ℕ, zero, suc, ◌+◌, ◌-◌, ◌<◌, ◌≤◌, List, [], ◌∷◌, ◌++◌, length, get_or, refl, sym, ◌∙◌, ap, subst, append_assoc, arith, ℤ, pos, ◌<ℤ◌, ◌≤ℤ◌}
 use Rattle.std.specs.Ordering.{int_eq}
 use Rattle.std.proofs.lemmas.Int.{ints, by_lt_z}
 use Rattle.std.proofs.lemmas.Bool.{cases_lt}
@@ -12,7 +11,7 @@ use Rattle.zonal_totals.specs.Pairs.{rank, floor, IsShort}
 use Rattle.zonal_totals.specs.Entries.{top_of, Climbs}
 use Rattle.zonal_totals.specs.Numbers.{part_of}
 use Rattle.zonal_totals.specs.Sections.{joined, end_of, lowest, last_zone, AreSections}
-use Rattle.zonal_totals.proofs.Climbing.{climbs_from, climbs_join, top_is_above}
+use Rattle.zonal_totals.proofs.Climbing.{climbs_from, climbs_join}
 
 -- ---- bounds
 

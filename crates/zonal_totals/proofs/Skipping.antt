@@ -1,5 +1,5 @@
 -- Tiles that no patch holds add nothing to the changes.
-use Rattle.std.proofs.Common.{◌≡◌, ℕ, ◌<◌, ◌≤◌, arith}
+use Rattle.std.proofs.Common.{◌≡◌, ℕ, ◌≤◌, arith}
 use Rattle.map_nums.specs.Grids.{IsSize}
 use Rattle.layer_tiles.specs.Tiles.{tiles_in, tile_size}
 use Rattle.layer_tiles.specs.Changes.{ChangeState}

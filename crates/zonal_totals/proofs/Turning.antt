@@ -11,7 +11,6 @@ use Rattle.zonal_totals.specs.Entries.{Climbs}
 use Rattle.zonal_totals.specs.Steps.{StepsClimb}
 use Rattle.zonal_totals.specs.Merges.{Fits, IsMerged}
 use Rattle.zonal_totals.specs.Sections.{joined, end_of, lowest, last_zone, IsRenewed}
-use Rattle.zonal_totals.proofs.Climbing.{climbs_from}
 use Rattle.zonal_totals.proofs.Merging.{short_at}
 use Rattle.zonal_totals.proofs.Sectioning.{last_at}
 use Rattle.zonal_totals.proofs.Renewing.{IsRenewing, section_at, section_fits, out_climbs, renewed_more, steps_take, steps_drop, steps_floor}

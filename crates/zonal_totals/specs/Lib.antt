@@ -6,6 +6,7 @@ pub mod Tilings
 pub mod Looks
 pub mod Laws
 pub mod Steps
+pub mod Rises
 pub mod Settled
 pub mod Merges
 pub mod Sections

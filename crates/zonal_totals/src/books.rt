@@ -155,7 +155,8 @@ impl Book {
         ensures statistic { (values zones : Cells) → IsBookOf self.now values zones → IsAnswer (zone_statistic stat self.now.size values zones zone) result }
         ensures memory { result ≢ Err no_memory }
     {
-        match statistic_of_part(stat, self.values.part(zone)) {
+        let part = self.values.part(zone);
+        match statistic_of_part(stat, part.entries, part.known) {
             Ok(value) => Ok(value),
             Err(Wide) => Err(StatRefusal::Wide),
         }
@@ -192,7 +193,7 @@ impl Book {
     fn zone_tile(&self, zone: Value, k: u32) -> Option<u32>
         ensures { (values zones : Cells) → IsBookOf self.now values zones → IsZoneTile self.now.size zones zone k result }
     {
-        nth_tile(self.tiles.part(zone), k)
+        nth_tile(self.tiles.part(zone).entries, k)
     }
 
     /// The same book once more.

@@ -1,12 +1,12 @@
 //! The counts of one list of a book.
-ghost use Rattle.std.specs.Prelude.{◌≡◌, [], IfOk};
+ghost use Rattle.std.specs.Prelude.{◌≡◌, [], IfSome, IfOk};
+ghost use Rattle.map_nums.specs.Stats.{total_of};
 ghost use Rattle.zonal_totals.specs.Pairs.{floor};
-ghost use Rattle.zonal_totals.specs.Numbers.{part_of, KeysClimb};
+ghost use Rattle.zonal_totals.specs.Numbers.{numbers, part_of, KeysClimb};
 ghost use Rattle.zonal_totals.specs.Steps.{StepsClimb};
 ghost use Rattle.zonal_totals.specs.Merges.{Fits, IsMerged};
 
-use crate::entries::Entry;
-use crate::sections::{Section, renewed, shared, zone_of};
+use crate::sections::{Part, Section, renewed, shared, zone_of};
 use crate::steps::Step;
 use map_nums::{NoMemory, Value};
 use std::alloc::Global;
@@ -52,9 +52,10 @@ impl Register {
     }
 
     /// The counts of a zone.
-    pub(crate) fn part(&self, zone: Value) -> &[Entry]
-        ensures part { result.now ≡ part_of zone self.now }
-        ensures order { KeysClimb floor result.now }
+    pub(crate) fn part(&self, zone: Value) -> Part<'_>
+        ensures part { result.entries.now ≡ part_of zone self.now }
+        ensures order { KeysClimb floor result.entries.now }
+        ensures known { IfSome result.known (λ sum. sum ≡ total_of (numbers result.entries.now)) }
     {
         zone_of(&self.sections, zone)
     }

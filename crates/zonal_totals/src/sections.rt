@@ -1,17 +1,20 @@
 //! Counts in sections of whole zones, which registers share.
-ghost use Rattle.std.specs.Prelude.{◌≡◌, ◌≢◌, ℕ, ◌-◌, ◌<◌, ◌≤◌, ◌++◌, ◌≤ℤ◌, ◌<ℤ◌, List, [], length, slice_index_or, IfOk, OnOk, IsTrue};
+ghost use Rattle.std.specs.Prelude.{◌≡◌, ◌≢◌, ℕ, ◌-◌, ◌<◌, ◌≤◌, ◌++◌, ◌≤ℤ◌, ◌<ℤ◌, ◌+ℤ◌, List, [], length, slice_index_or, IfSome, IfOk, OnOk, IsTrue};
+ghost use Rattle.map_nums.specs.Stats.{total_of};
 ghost use Rattle.zonal_totals.specs.declared.entries.Entry.{Entry};
 ghost use Rattle.zonal_totals.specs.declared.steps.Step.{Step};
 ghost use Rattle.zonal_totals.specs.Pairs.{floor};
 ghost use Rattle.zonal_totals.specs.Entries.{Climbs};
-ghost use Rattle.zonal_totals.specs.Numbers.{part_of};
+ghost use Rattle.zonal_totals.specs.Numbers.{numbers, part_of};
 ghost use Rattle.zonal_totals.specs.Steps.{StepsClimb};
+ghost use Rattle.zonal_totals.specs.Rises.{rise_of};
 ghost use Rattle.zonal_totals.specs.Merges.{Fits, IsMerged};
 ghost use Rattle.zonal_totals.specs.Sections.{joined, end_of, lowest, last_zone, AreSections, IsRenewed};
 
 use crate::entries::{Entry, zone_part};
 use crate::merges::merged;
 use crate::pairs::Pair;
+use crate::stats::{sum_of, total};
 use crate::steps::Step;
 use map_nums::{NoMemory, Value};
 use std::alloc::Global;
@@ -21,28 +24,49 @@ use std::sync::Arc;
 /// How many entries a section has at least, where another one was cut off behind it.
 const FULL: usize = 1024;
 
-/// Entries of whole zones.
+/// Entries of whole zones, with the sum of their numbers.
 #[derive(Drop)]
 pub(crate) struct Section {
     entries: Arc<Vec<Entry>, Global>,
+    total: i128,
 }
 
 impl Model for Section {
-    ghost use Rattle.std.specs.Prelude.{List};
+    ghost use Rattle.std.specs.Prelude.{◌≡◌, List};
     ghost use Rattle.std.specs.Arc.{arc_value};
+    ghost use Rattle.map_nums.specs.Stats.{total_of};
     ghost use Rattle.zonal_totals.specs.declared.entries.Entry.{Entry};
+    ghost use Rattle.zonal_totals.specs.Numbers.{numbers};
 
     ghost Value = { List Entry };
 
     ghost view = { λ s. (arc_value s.entries).items };
+
+    ghost invariant = { λ s. s.total ≡ total_of (numbers (arc_value s.entries).items) };
+}
+
+/// The entries of a zone, with the sum of its numbers where that is known.
+#[derive(Clone, Copy)]
+pub(crate) struct Part<'a> {
+    pub entries: &'a [Entry],
+    pub known: Option<i128>,
 }
 
 impl Section {
     fn of(alloc: Global, entries: Vec<Entry>) -> Result<Section, NoMemory>
         ensures { IfOk result (λ section. section ≡ entries.items) }
     {
+        let sum = total(&entries);
+        Section::with_total(alloc, entries, sum)
+    }
+
+    fn with_total(alloc: Global, entries: Vec<Entry>, total: i128) -> Result<Section, NoMemory>
+        requires { total ≡ total_of (numbers entries.items) }
+        ensures { IfOk result (λ section. section ≡ entries.items) }
+    {
         Ok(Section {
             entries: Arc::new(alloc, entries)?,
+            total,
         })
     }
 
@@ -52,6 +76,7 @@ impl Section {
     {
         Ok(Section {
             entries: Arc::try_clone(&self.entries)?,
+            total: self.total,
         })
     }
 
@@ -59,6 +84,12 @@ impl Section {
         ensures { result.now ≡ self.now }
     {
         self.entries.as_slice()
+    }
+
+    fn total(&self) -> i128
+        ensures { result ≡ total_of (numbers self.now) }
+    {
+        self.total
     }
 
     fn first(&self) -> Entry
@@ -75,6 +106,29 @@ impl Section {
         let entries = self.entries();
         entries[entries.len() - 1]
     }
+}
+
+/// The sum of a section's numbers, where a part of it is the whole.
+fn total_of_whole(section: &Section, part: &[Entry]) -> Option<i128>
+    ensures whole { IfSome result (λ sum. length section.now ≤ length part.now) }
+    ensures total { IfSome result (λ sum. sum ≡ total_of (numbers section.now)) }
+{
+    if part.len() < section.entries().len() {
+        return None;
+    }
+    Some(section.total())
+}
+
+/// The sum of a section's numbers after steps, none where that is out of range.
+fn total_after(section: &Section, steps: &[Step]) -> Option<i128>
+    ensures { IfSome result (λ sum. sum ≡ total_of (numbers section.now) +ℤ rise_of steps.now) }
+{
+    let mut sum = section.total();
+    for step in steps {
+        let rise = (step.pair.key as i128).checked_mul(step.by as i128)?;
+        sum = sum.checked_add(rise)?;
+    }
+    Some(sum)
 }
 
 /// How many sections begin with the zone of a pair or one before it.
@@ -159,7 +213,8 @@ fn is_one_zone(entries: &[Entry]) -> bool
     }
 }
 
-/// Puts a section after steps behind the others. Without steps it is shared, and a section of one zone is not copied again.
+/// Puts a section after steps behind the others. Without steps it is shared, and a section of one zone is neither copied nor
+/// added up again.
 fn renew(
     alloc: Global,
     sections: &mut Vec<Section>,
@@ -180,8 +235,9 @@ fn renew(
     }
     let mut entries = merged(alloc, section.entries(), steps)?;
     if is_one_zone(&entries) {
+        let sum = sum_of(&entries, total_after(section, steps));
         entries.shrink_to_fit();
-        sections.push(Section::of(alloc, entries)?)?;
+        sections.push(Section::with_total(alloc, entries, sum)?)?;
         return Ok(());
     }
     cut(alloc, sections, &entries)
@@ -224,14 +280,23 @@ pub(crate) fn shared(alloc: Global, base: &[Section]) -> Result<Vec<Section>, No
 }
 
 /// The entries of a zone.
-pub(crate) fn zone_of(sections: &[Section], zone: Value) -> &[Entry]
+pub(crate) fn zone_of(sections: &[Section], zone: Value) -> Part<'_>
     requires { AreSections lowest sections.now }
-    ensures { result.now ≡ part_of zone (joined sections.now) }
+    ensures entries { result.entries.now ≡ part_of zone (joined sections.now) }
+    ensures known { IfSome result.known (λ sum. sum ≡ total_of (numbers result.entries.now)) }
 {
     let pair = Pair { zone, key: 0 };
     let count = begun(sections, &pair);
     if count == 0 {
-        return &[];
+        return Part {
+            entries: &[],
+            known: None,
+        };
     }
-    zone_part(sections[count - 1].entries(), zone)
+    let section = &sections[count - 1];
+    let entries = zone_part(section.entries(), zone);
+    Part {
+        entries,
+        known: total_of_whole(section, entries),
+    }
 }

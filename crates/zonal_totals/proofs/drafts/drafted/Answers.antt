@@ -1,11 +1,11 @@
-use Rattle.std.proofs.Common.{◌≡◌, ℕ, ◌+◌, ◌<◌, ◌≤◌, ◌+ℤ◌, ◌∙◌, ap, arith, sym, ℤ}
+use Rattle.std.proofs.Common.{ℕ, ◌+◌, ◌≤◌, ◌+ℤ◌, ◌∙◌, ap, arith, sym, ℤ}
 use Rattle.layer_tiles.specs.Tiles.{tiles_in, tile_size}
 use Rattle.layer_tiles.proofs.Rising.{rises_then, rises_within}
 use Rattle.zonal_totals.specs.Sums.{sum_to, place_of}
 use Rattle.zonal_totals.specs.Drafts.{value_shift, tile_shift}
 use Rattle.zonal_totals.proofs.Sums.{sum_more, sum_tiles}
 use Rattle.zonal_totals.proofs.Drafting.{few_tiles, small_tile}
-use Rattle.zonal_totals.proofs.Looking.{looks_below, looks_held, looks_rise, looks_more}
+use Rattle.zonal_totals.proofs.Looking.{looks_held, looks_rise, looks_more}
 use Rattle.zonal_totals.proofs.Steady.{steady}
 use Rattle.zonal_totals.proofs.Skipping.{skip_values, skip_zones}
 use Rattle.zonal_totals.proofs.drafts.drafted.Goals as goal

@@ -1,4 +1,4 @@
-use Rattle.std.proofs.Common.{◌≡◌, ◌+◌, ◌-◌, ◌/◌, ◌<◌, [], List, subst, ap, ◌∙◌, length, arith, ◌<ℤ◌, ◌≤ℤ◌}
+use Rattle.std.proofs.Common.{◌+◌, ◌-◌, ◌/◌, ◌<◌, [], List, subst, ap, ◌∙◌, length, arith, ◌<ℤ◌, ◌≤ℤ◌}
 use Rattle.std.proofs.lemmas.List.{get_or_default}
 use Rattle.zonal_totals.specs.declared.entries.Entry.{Entry}
 use Rattle.zonal_totals.specs.Sections.{lowest}

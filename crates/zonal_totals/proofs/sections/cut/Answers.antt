@@ -1,4 +1,4 @@
-use Rattle.std.proofs.Common.{◌≡◌, ◌-◌, ◌++◌, ◌∷◌, [], List, take, drop, sym, ap, subst, ◌∙◌, arith}
+use Rattle.std.proofs.Common.{◌≡◌, ◌-◌, ◌++◌, ◌∷◌, [], List, take, drop, sym, ap, subst, ◌∙◌}
 use Rattle.zonal_totals.specs.declared.entries.Entry.{Entry}
 use Rattle.zonal_totals.specs.Entries.{Climbs}
 use Rattle.zonal_totals.specs.Sections.{joined, end_of, lowest, last_zone, AreSections}

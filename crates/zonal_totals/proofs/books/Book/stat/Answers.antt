@@ -8,9 +8,9 @@ use Rattle.zonal_totals.proofs.books.Book.stat.Goals as goal
 pub returns-in-Ok-clause-statistic : goal.returns-in-Ok-clause-statistic
 returns-in-Ok-clause-statistic c = λ values zones h.
     let P : Option ℤ → Type 0 = λ o. (c.in-Ok.value ≡ o) × IsFalse (is_wide o) in
-    subst P (part_statistic c.args.stat _ _ values zones c.args.zone _ c.part.result.now c.self.view_is (to_z-of_z w32 c.args.zone c.ranges.zone) c.part.ensures.part h) c.in-Ok.ensures
+    subst P (part_statistic c.args.stat _ _ values zones c.args.zone _ c.part-part.result.entries.now c.self.view_is (to_z-of_z w32 c.args.zone c.ranges.zone) c.part-part.ensures.part h) c.in-Ok.ensures
 
 pub returns-in-Err-clause-statistic : goal.returns-in-Err-clause-statistic
 returns-in-Err-clause-statistic c = λ values zones h.
     let P : Option ℤ → Type 0 = λ o. IsTrue (is_wide o) in
-    subst P (part_statistic c.args.stat _ _ values zones c.args.zone _ c.part.result.now c.self.view_is (to_z-of_z w32 c.args.zone c.ranges.zone) c.part.ensures.part h) c.in-Err.ensures
+    subst P (part_statistic c.args.stat _ _ values zones c.args.zone _ c.part-part.result.entries.now c.self.view_is (to_z-of_z w32 c.args.zone c.ranges.zone) c.part-part.ensures.part h) c.in-Err.ensures
