@@ -1,6 +1,7 @@
 pub mod Grounds
 pub mod Least
 pub mod Rounds
+pub mod Flats
 pub mod Seen
 pub mod Taking
 pub mod Settling

@@ -9,7 +9,9 @@ use Rattle.friction_spread.specs.Spots.{IsSpot}
 use Rattle.friction_spread.proofs.Grounds.{leads}
 use Rattle.friction_spread.proofs.Least.{only_spot}
 use Rattle.least_costs.specs.Queue.{IsQueued, IsKept, IsOfferedBy, OfferedFrom, IsRisen}
-use Rattle.friction_spread.specs.Rows.{RowQueued, RowQueuedTo, RoundQueuedTo, RowOffered, RowOfferedTo, RoundOffered, RoundOfferedTo, RowRisen, RowRisenTo, RoundRisen, RoundRisenTo}
+use Rattle.least_costs.specs.Filling.{IsRelaxed}
+use Rattle.least_costs.proofs.Fills.{relaxed_still}
+use Rattle.friction_spread.specs.Rows.{RowQueued, RowQueuedTo, RoundQueuedTo, RowOffered, RowOfferedTo, RoundOffered, RoundOfferedTo, RowRisen, RowRisenTo, RoundRisen, RoundRisenTo, RowRelaxed, RowRelaxedTo, RoundRelaxedTo}
 
 pub kept_then : (a b c : List (ℕ × ℕ)) → IsKept a b → IsKept b c → IsKept a c
 kept_then a b c p q x h = q x (p x h)
@@ -55,6 +57,21 @@ module _ (g : Net) (s : Size) (d : ℕ → ℕ) (entries entries' : List (ℕ ×
   pub round_risen_next : (v r : ℕ) → RowRisen g s v d entries' c r → RoundRisenTo g s v d entries c r → RoundRisenTo g s v d entries' c (r + 1)
   round_risen_next v r row near j l q n m = elim (cases_lt (row_of s j) r) as (λ _. IsRisen g v d entries' c j) [
     | inl u ↦ (λ x y z. kept _ (near j l q n u x y z))
+    | inr u ↦ row j l (omega (arith, m, u)) n
+  ]
+
+-- ---- costs through a place that are no longer below others
+
+module _ (g : Net) (s : Size) (d d' : ℕ → ℕ) (c : ℕ) (falls : (k : ℕ) → d' k ≤ d k) (here : d' c ≡ d c) where
+  pub row_relaxed_next : (row k : ℕ) (p : Spot) → IsSpot s p → p.row ≡ row → p.column ≡ k → IsRelaxed g d' c p.at → RowRelaxedTo g s d c row k → RowRelaxedTo g s d' c row (k + 1)
+  row_relaxed_next row k p h r e now near j l q n m = elim (cases_lt (column_of s j) k) as (λ _. IsRelaxed g d' c j) [
+    | inl u ↦ relaxed_still g d d' c j falls here (near j l q n u)
+    | inr u ↦ (let same : j ≡ p.at = only_spot s p j h (q ∙ sym r) (omega (arith, m, u, e)) in let P : ℕ → Type 0 = IsRelaxed g d' c in subst P (sym same) now)
+  ]
+
+  pub round_relaxed_next : (r : ℕ) → RowRelaxed g s d' c r → RoundRelaxedTo g s d c r → RoundRelaxedTo g s d' c (r + 1)
+  round_relaxed_next r row near j l q n m = elim (cases_lt (row_of s j) r) as (λ _. IsRelaxed g d' c j) [
+    | inl u ↦ relaxed_still g d d' c j falls here (near j l q n u)
     | inr u ↦ row j l (omega (arith, m, u)) n
   ]
 

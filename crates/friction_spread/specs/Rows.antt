@@ -3,6 +3,7 @@ use Rattle.std.specs.Prelude.{◌≡◌, ◌⊎◌, ℕ, ◌+◌, ◌<◌, ◌�
 use Rattle.map_nums.specs.Grids.{Size, cells_in, row_of, column_of, gap}
 use Rattle.map_defs.specs.Nets.{Net}
 use Rattle.least_costs.specs.Queue.{IsQueued, IsOfferedBy, IsRisen}
+use Rattle.least_costs.specs.Filling.{IsRelaxed}
 
 -- the places of a row that are at most one column from c's
 abbrev pub RowQueued : Net → Size → (ℕ → ℕ) → List (ℕ × ℕ) → ℕ → ℕ → Type 0
@@ -57,3 +58,14 @@ RowLoweredTo g s d i row k e = (j : ℕ) → j < cells_in s → row_of s j ≡ r
 
 abbrev pub RoundLoweredTo : Net → Size → (ℕ → ℕ) → ℕ → ℕ → ℕ → Type 0
 RoundLoweredTo g s d i r e = (j : ℕ) → j < cells_in s → gap (row_of s i) (row_of s j) ≤ 1 → gap (column_of s i) (column_of s j) ≤ 1 → row_of s j < r → e ≤ d j + g.step j i
+
+-- ---- costs through place c that are no longer below others
+
+abbrev pub RowRelaxed : Net → Size → (ℕ → ℕ) → ℕ → ℕ → Type 0
+RowRelaxed g s d c row = (j : ℕ) → j < cells_in s → row_of s j ≡ row → gap (column_of s c) (column_of s j) ≤ 1 → IsRelaxed g d c j
+
+abbrev pub RowRelaxedTo : Net → Size → (ℕ → ℕ) → ℕ → ℕ → ℕ → Type 0
+RowRelaxedTo g s d c row k = (j : ℕ) → j < cells_in s → row_of s j ≡ row → gap (column_of s c) (column_of s j) ≤ 1 → column_of s j < k → IsRelaxed g d c j
+
+abbrev pub RoundRelaxedTo : Net → Size → (ℕ → ℕ) → ℕ → ℕ → Type 0
+RoundRelaxedTo g s d c r = (j : ℕ) → j < cells_in s → gap (row_of s c) (row_of s j) ≤ 1 → gap (column_of s c) (column_of s j) ≤ 1 → row_of s j < r → IsRelaxed g d c j

@@ -1,89 +1,166 @@
-//! Costs where there were none: values only fall.
-ghost use Rattle.std.specs.Prelude.{◌≡◌, ◌<◌, ◌≤◌, ◌+◌, ◌-◌, ◌*◌, ℕ, suc, IfOk, OnOk, OnErr, length};
-ghost use Rattle.std.specs.Int.{from_bool};
-ghost use Rattle.map_nums.specs.Grids.{cells_in};
+//! All costs where there were none: they fall to what their neighbours offer, until the queue is empty. Costs and frictions stand in lists, by place.
+ghost use Rattle.std.specs.Prelude.{◌≡◌, ◌<◌, ◌≤◌, ◌^◌, ◌∷◌, ℕ, length, OnOk};
+ghost use Rattle.map_nums.specs.Grids.{cells_in, gap};
 ghost use Rattle.map_defs.specs.Nets.{IsLeastIn};
-ghost use Rattle.layer_tiles.specs.Tallies.{RisesBy};
-ghost use Rattle.tile_work.specs.Working.{IsSameWork, base_of, copies};
-ghost use Rattle.least_costs.specs.Ranks.{changed};
-ghost use Rattle.least_costs.specs.Best.{IsRepairing};
-ghost use Rattle.least_costs.specs.Queue.{IsFill, AreOver, is_first};
-ghost use Rattle.friction_spread.specs.Costs.{values, AreCosts, net_of};
-ghost use Rattle.friction_spread.specs.Copied.{IsCopiedWhere, IsCaused, HasMoved};
+ghost use Rattle.map_defs.specs.Spread.{friction_at};
+ghost use Rattle.least_costs.specs.Filling.{IsRelaxed, IsFilling, IsOffering, left_to_do};
+ghost use Rattle.friction_spread.specs.Costs.{base_of, net_of};
+ghost use Rattle.friction_spread.specs.Flat.{costs_of, AreAllFrictions};
+ghost use Rattle.friction_spread.specs.Rows.{RowRelaxed};
+ghost use Rattle.friction_spread.specs.Spots.{IsSpot, AreNear};
 
-use crate::costs::{cost_at, old_cost_at, write};
-use crate::deals::Dealt;
-use crate::ground::Ground;
-use crate::offers::offer_round;
-use layer_tiles::{NoMemory, Tally};
+use crate::equations::weigh;
+use crate::ground::{Ground, Spot};
+use layer_tiles::NoMemory;
 use least_costs::Queue;
-use tile_work::Working;
 
-/// Deals with an entry where values only fall: a value above the key becomes it.
-fn reach<M: Tally>(
+/// The cost of a place near falls to the cost through this one, and the place comes into the queue, where that is below it.
+fn offer(
     ground: &Ground<'_>,
-    labels: &mut Working<'_>,
+    friction: &[u32],
+    costs: &mut [u32],
+    queue: &mut Queue,
+    from: Spot,
+    value: u64,
+    own: u64,
+    to: Spot,
+) -> Result<(), NoMemory>
+    requires spots { IsSpot ground.now.size from × IsSpot ground.now.size to }
+    requires near { AreNear to from }
+    requires friction { AreAllFrictions ground.now friction.now }
+    requires count { length costs.old ≡ cells_in ground.now.size }
+    requires value { value ≡ costs_of ground.now costs.old from.at }
+    requires low { value < 2 ^ 32 }
+    requires own { (own ≡ friction_at ground.now.friction from.at) × (0 < own) × (own < 2147483648) }
+    ensures offered { OnOk result (IsOffering (net_of ground.now) value from.at (costs_of ground.now costs.old) queue.old (costs_of ground.now costs.new) queue.new) }
+    ensures relaxed { OnOk result (IsRelaxed (net_of ground.now) (costs_of ground.now costs.new) from.at to.at) }
+{
+    if from.at == to.at {
+        return Ok(());
+    }
+    let there = costs[to.at as usize] as u64;
+    if there <= value {
+        return Ok(());
+    }
+    let beyond = friction[to.at as usize] as u64;
+    if beyond == 0 {
+        return Ok(());
+    }
+    let cost = value + weigh(from, to, own, beyond);
+    if cost >= there {
+        return Ok(());
+    }
+    queue.push(cost, to.at)?;
+    costs[to.at as usize] = cost as u32;
+    Ok(())
+}
+
+/// The same for a row next to the place.
+fn offer_row(
+    ground: &Ground<'_>,
+    friction: &[u32],
+    costs: &mut [u32],
+    queue: &mut Queue,
+    from: Spot,
+    value: u64,
+    own: u64,
+    row: u32,
+) -> Result<(), NoMemory>
+    requires spot { IsSpot ground.now.size from }
+    requires row { row < ground.now.size.rows }
+    requires close { gap row from.row ≤ 1 }
+    requires friction { AreAllFrictions ground.now friction.now }
+    requires count { length costs.old ≡ cells_in ground.now.size }
+    requires value { value ≡ costs_of ground.now costs.old from.at }
+    requires low { value < 2 ^ 32 }
+    requires own { (own ≡ friction_at ground.now.friction from.at) × (0 < own) × (own < 2147483648) }
+    ensures offered { OnOk result (IsOffering (net_of ground.now) value from.at (costs_of ground.now costs.old) queue.old (costs_of ground.now costs.new) queue.new) }
+    ensures relaxed { OnOk result (RowRelaxed (net_of ground.now) ground.now.size (costs_of ground.now costs.new) from.at row) }
+{
+    let columns = ground.extent().columns();
+    let low = from.column.saturating_sub(1);
+    let high = (from.column + 2).min(columns);
+    for c in low..high {
+        let to = ground.spot_at(row, c);
+        offer(ground, friction, costs, queue, from, value, own, to)?;
+    }
+    Ok(())
+}
+
+/// The same for all places near.
+fn offer_round(
+    ground: &Ground<'_>,
+    friction: &[u32],
+    costs: &mut [u32],
+    queue: &mut Queue,
+    from: Spot,
+    value: u64,
+) -> Result<(), NoMemory>
+    requires spot { IsSpot ground.now.size from }
+    requires friction { AreAllFrictions ground.now friction.now }
+    requires count { length costs.old ≡ cells_in ground.now.size }
+    requires value { value ≡ costs_of ground.now costs.old from.at }
+    requires low { value < 2 ^ 32 }
+    ensures offered { OnOk result (IsOffering (net_of ground.now) value from.at (costs_of ground.now costs.old) queue.old (costs_of ground.now costs.new) queue.new) }
+    ensures relaxed { OnOk result ((i : ℕ) → IsRelaxed (net_of ground.now) (costs_of ground.now costs.new) from.at i) }
+{
+    let own = friction[from.at as usize] as u64;
+    if own == 0 {
+        return Ok(());
+    }
+    let rows = ground.extent().rows();
+    let low = from.row.saturating_sub(1);
+    let high = (from.row + 2).min(rows);
+    for r in low..high {
+        offer_row(ground, friction, costs, queue, from, value, own, r)?;
+    }
+    Ok(())
+}
+
+/// Deals with an entry that was taken out of the queue: where it is the cost of its place, that is offered to the places near.
+fn reach(
+    ground: &Ground<'_>,
+    friction: &[u32],
+    costs: &mut [u32],
     queue: &mut Queue,
     key: u64,
     at: u32,
-    tally: &mut M,
-) -> Result<Dealt, NoMemory>
-    requires size { labels.old.size ≡ ground.now.size }
-    requires costs { AreCosts ground.now.limit labels.old.cells }
-    ensures same { IsSameWork labels.old labels.new }
-    ensures did { IfOk result (λ dealt. IsFill (net_of ground.now) (values ground.now.limit labels.old.cells) queue.old key at (values ground.now.limit labels.new.cells) queue.new dealt.taken) }
-    ensures first { IfOk result (λ dealt. dealt.first ≡ is_first (values ground.now.limit (base_of labels.old.before)) (values ground.now.limit labels.old.cells) at dealt.taken) }
-    ensures costs { IfOk result (λ dealt. AreCosts ground.now.limit labels.new.cells) }
-    ensures copied { IsCopiedWhere labels.old at (key < values ground.now.limit labels.old.cells at) labels.new }
-    ensures more { copies labels.old.copied ≤ copies labels.new.copied }
-    ensures tally { IfOk result (λ dealt. RisesBy (copies labels.new.copied - copies labels.old.copied) (21 + 210 * from_bool dealt.taken) (M.counts tally.old) (M.counts tally.new)) }
-    ensures due { OnErr result (key < values ground.now.limit labels.old.cells at) }
-    ensures wanted { OnErr result (RisesBy (copies labels.new.copied - copies labels.old.copied + 1) 231 (M.counts tally.old) (M.counts tally.new)) }
+) -> Result<(), NoMemory>
+    requires friction { AreAllFrictions ground.now friction.now }
+    requires count { length costs.old ≡ cells_in ground.now.size }
+    requires filling { IsFilling (net_of ground.now) (costs_of ground.now costs.old) ((key, at) ∷ queue.old) }
+    ensures filling { OnOk result (IsFilling (net_of ground.now) (costs_of ground.now costs.new) queue.new) }
+    ensures falls { OnOk result ((k : ℕ) → costs_of ground.now costs.new k ≤ costs_of ground.now costs.old k) }
+    ensures less { OnOk result (left_to_do (net_of ground.now) (costs_of ground.now costs.new) queue.new ≤ left_to_do (net_of ground.now) (costs_of ground.now costs.old) queue.old) }
 {
-    let passed = Dealt {
-        taken: false,
-        first: false,
-    };
-    if at >= ground.extent().cells() {
-        return Ok(passed);
+    let cells = ground.extent().cells();
+    if at >= cells {
+        return Ok(());
     }
-    let value = cost_at(ground, labels, at, tally);
-    if value <= key {
-        return Ok(passed);
+    let cost = costs[at as usize] as u64;
+    if cost != key {
+        return Ok(());
     }
-    let first = old_cost_at(ground, labels, at, tally) == value;
-    write(ground, labels, at, key, tally)?;
-    offer_round(ground, labels, queue, ground.spot(at), key, tally)?;
-    Ok(Dealt { taken: true, first })
+    offer_round(ground, friction, costs, queue, ground.spot(at), key)?;
+    Ok(())
 }
 
-/// Gives each place its least cost, where the queue holds the sources and nothing has a cost yet, and counts the places that have one then.
-pub fn fill<M: Tally>(
+/// Gives each place its least cost, where the sources have theirs and stand in the queue.
+pub fn fill(
     ground: &Ground<'_>,
-    labels: &mut Working<'_>,
+    friction: &[u32],
+    costs: &mut [u32],
     queue: &mut Queue,
-    tally: &mut M,
-) -> Result<u64, NoMemory>
-    requires size { labels.old.size ≡ ground.now.size }
-    requires costs { AreCosts ground.now.limit labels.old.cells }
-    requires caused { IsCaused ground.now labels.old }
-    requires begun { IsRepairing (net_of ground.now) (values ground.now.limit (base_of labels.old.before)) (values ground.now.limit labels.old.cells) queue.old 0 }
-    requires over { AreOver (net_of ground.now) (values ground.now.limit labels.old.cells) queue.old }
-    ensures same { IsSameWork labels.old labels.new }
-    ensures costs { IfOk result (λ moved. AreCosts ground.now.limit labels.new.cells) }
-    ensures least { IfOk result (λ moved. (i : ℕ) → IsLeastIn (net_of ground.now) i (values ground.now.limit labels.new.cells i)) }
-    ensures moved { IfOk result (λ moved. moved ≡ changed (values ground.now.limit (base_of labels.old.before)) (values ground.now.limit labels.new.cells) (cells_in ground.now.size)) }
-    ensures caused { IsCaused ground.now labels.new }
-    ensures more { copies labels.old.copied ≤ copies labels.new.copied }
-    ensures tally { OnOk result ((c : ℕ → ℕ) → ((i : ℕ) → IsLeastIn (net_of ground.now) i (c i)) → RisesBy (copies labels.new.copied - copies labels.old.copied) (21 * length queue.old + 840 * changed (values ground.now.limit (base_of labels.old.before)) c (cells_in ground.now.size)) (M.counts tally.old) (M.counts tally.new)) }
-    ensures wanted { OnErr result ((c : ℕ → ℕ) → ((i : ℕ) → IsLeastIn (net_of ground.now) i (c i)) → RisesBy (copies labels.new.copied - copies labels.old.copied + 1) (21 * length queue.old + 840 * changed (values ground.now.limit (base_of labels.old.before)) c (cells_in ground.now.size)) (M.counts tally.old) (M.counts tally.new)) }
-    ensures due { OnErr result (HasMoved ground.now labels.old) }
+) -> Result<(), NoMemory>
+    requires friction { AreAllFrictions ground.now friction.now }
+    requires count { length costs.old ≡ cells_in ground.now.size }
+    requires filling { IsFilling (net_of ground.now) (costs_of ground.now costs.old) queue.old }
+    requires begun { (i : ℕ) → costs_of ground.now costs.old i ≤ base_of ground.now i }
+    ensures { OnOk result ((i : ℕ) → IsLeastIn (net_of ground.now) i (costs_of ground.now costs.new i)) }
 {
     let _extent = ground.extent();
-    let mut moved = 0;
     while let Some((key, at)) = queue.pop() {
-        let dealt = reach(ground, labels, queue, key, at, tally)?;
-        moved += u64::from(dealt.first);
+        reach(ground, friction, costs, queue, key, at)?;
     }
-    Ok(moved)
+    Ok(())
 }

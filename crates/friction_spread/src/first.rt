@@ -1,18 +1,20 @@
 //! The least costs of a map that had none.
-ghost use Rattle.std.specs.Prelude.{◌≡◌, ◌<◌, ◌≤◌, ◌+◌, ◌*◌, ℕ, [], length, OnOk, IfOk, is_some, true, filter};
-ghost use Rattle.std.specs.List.{Contains};
-ghost use Rattle.map_nums.specs.Grids.{Cells, cells_in, cell_at};
+ghost use Rattle.std.specs.Prelude.{◌≡◌, ◌<◌, ◌≤◌, ◌+◌, ◌*◌, ℕ, suc, [], length, OnOk, IfOk, filter};
+ghost use Rattle.map_nums.specs.Grids.{Cells, cells_in};
 ghost use Rattle.map_nums.specs.Tiles.{tiles};
 ghost use Rattle.map_defs.specs.Damage.{differs, tile_has};
-ghost use Rattle.map_defs.specs.Spread.{IsSpread, friction_at};
+ghost use Rattle.map_defs.specs.Nets.{IsLeastIn};
+ghost use Rattle.map_defs.specs.Spread.{IsSpread};
 ghost use Rattle.map_defs.specs.Work.{first_work};
 ghost use Rattle.layer_tiles.specs.Tallies.{RisesBy};
 ghost use Rattle.layer_tiles.specs.Patches.{patched, HoldsAll};
-ghost use Rattle.least_costs.specs.Queue.{IsKept, AreOver};
-ghost use Rattle.friction_spread.specs.Costs.{net_of};
+ghost use Rattle.least_costs.specs.Filling.{IsFilling};
+ghost use Rattle.friction_spread.specs.Costs.{base_of, net_of};
+ghost use Rattle.friction_spread.specs.Flat.{costs_of, AreAllFrictions};
 
 use crate::fills::fill;
 use crate::ground::Ground;
+use crate::shows::show_all;
 use layer_tiles::{NoMemory, Patch, Tally};
 use least_costs::Queue;
 use std::alloc::Global;
@@ -25,42 +27,90 @@ pub struct Repair {
     pub worked: u64,
 }
 
-/// A source that is no barrier comes into the queue. At most two picks.
+/// The frictions of all places. A pick each.
+fn frictions_of<M: Tally>(
+    alloc: Global,
+    ground: &Ground<'_>,
+    tally: &mut M,
+) -> Result<Vec<u32>, NoMemory>
+    ensures frictions { IfOk result (λ list. AreAllFrictions ground.now list.items) }
+    ensures picks { RisesBy 0 (cells_in ground.now.size) (M.counts tally.old) (M.counts tally.new) }
+{
+    let cells = ground.extent().cells();
+    let mut list = Vec::with_capacity(alloc, cells as usize)?;
+    for at in 0..cells {
+        list.push(ground.friction(at, tally) as u32)?;
+    }
+    Ok(list)
+}
+
+/// A source that is no barrier costs nothing, and comes into the queue. One pick.
 fn begin_at<M: Tally>(
     ground: &Ground<'_>,
+    friction: &[u32],
+    costs: &mut [u32],
     queue: &mut Queue,
     at: u32,
     tally: &mut M,
 ) -> Result<(), NoMemory>
-    requires { at < cells_in ground.now.size }
-    ensures kept { OnOk result (IsKept queue.old queue.new) }
-    ensures there { OnOk result (is_some (cell_at ground.now.sources at) ≡ true → 0 < friction_at ground.now.friction at → Contains queue.new (0, at)) }
-    ensures over { OnOk result ((d : ℕ → ℕ) → AreOver (net_of ground.now) d queue.old → AreOver (net_of ground.now) d queue.new) }
-    ensures len { OnOk result (length queue.new ≤ length queue.old + 1) }
-    ensures picks { RisesBy 0 2 (M.counts tally.old) (M.counts tally.new) }
+    requires within { at < cells_in ground.now.size }
+    requires friction { AreAllFrictions ground.now friction.now }
+    requires count { length costs.old ≡ cells_in ground.now.size }
+    requires filling { IsFilling (net_of ground.now) (costs_of ground.now costs.old) queue.old }
+    ensures filling { OnOk result (IsFilling (net_of ground.now) (costs_of ground.now costs.new) queue.new) }
+    ensures falls { OnOk result ((k : ℕ) → costs_of ground.now costs.new k ≤ costs_of ground.now costs.old k) }
+    ensures begun { OnOk result (costs_of ground.now costs.new at ≤ base_of ground.now at) }
+    ensures pick { RisesBy 0 1 (M.counts tally.old) (M.counts tally.new) }
 {
     if !ground.is_source(at, tally) {
         return Ok(());
     }
-    if ground.friction(at, tally) == 0 {
+    if friction[at as usize] == 0 {
         return Ok(());
     }
     queue.push(0, at)?;
+    costs[at as usize] = 0;
     Ok(())
 }
 
-/// The sources come into the queue. At most two picks a place.
-fn begin<M: Tally>(ground: &Ground<'_>, queue: &mut Queue, tally: &mut M) -> Result<(), NoMemory>
-    requires { queue.old ≡ [] }
-    ensures there { OnOk result ((i : ℕ) → i < cells_in ground.now.size → is_some (cell_at ground.now.sources i) ≡ true → 0 < friction_at ground.now.friction i → Contains queue.new (0, i)) }
-    ensures over { OnOk result ((d : ℕ → ℕ) → AreOver (net_of ground.now) d queue.new) }
-    ensures len { OnOk result (length queue.new ≤ cells_in ground.now.size) }
-    ensures picks { RisesBy 0 (2 * cells_in ground.now.size) (M.counts tally.old) (M.counts tally.new) }
+/// The sources cost nothing, and come into the queue. A pick for each place.
+fn begin<M: Tally>(
+    ground: &Ground<'_>,
+    friction: &[u32],
+    costs: &mut [u32],
+    queue: &mut Queue,
+    tally: &mut M,
+) -> Result<(), NoMemory>
+    requires friction { AreAllFrictions ground.now friction.now }
+    requires count { length costs.old ≡ cells_in ground.now.size }
+    requires none { (i : ℕ) → costs_of ground.now costs.old i ≡ suc ground.now.limit }
+    ensures filling { OnOk result (IsFilling (net_of ground.now) (costs_of ground.now costs.new) queue.new) }
+    ensures begun { OnOk result ((i : ℕ) → costs_of ground.now costs.new i ≤ base_of ground.now i) }
+    ensures picks { RisesBy 0 (cells_in ground.now.size) (M.counts tally.old) (M.counts tally.new) }
 {
     for at in 0..ground.extent().cells() {
-        begin_at(ground, queue, at, tally)?;
+        begin_at(ground, friction, costs, queue, at, tally)?;
     }
     Ok(())
+}
+
+/// The least costs of all places, `top` where there is none. Two picks a place.
+fn costs_in<M: Tally>(
+    alloc: Global,
+    ground: &Ground<'_>,
+    tally: &mut M,
+) -> Result<Vec<u32>, NoMemory>
+    ensures count { IfOk result (λ costs. length costs.items ≡ cells_in ground.now.size) }
+    ensures least { IfOk result (λ costs. (i : ℕ) → IsLeastIn (net_of ground.now) i (costs_of ground.now costs.items i)) }
+    ensures picks { RisesBy 0 (2 * cells_in ground.now.size) (M.counts tally.old) (M.counts tally.new) }
+{
+    let friction = frictions_of(alloc, ground, tally)?;
+    let top = ground.top() as u32;
+    let mut costs = vec![in alloc; top; ground.extent().cells() as usize]?;
+    let mut queue = Queue::new(alloc);
+    begin(ground, &friction, &mut costs, &mut queue, tally)?;
+    fill(ground, &friction, &mut costs, &mut queue)?;
+    Ok(costs)
 }
 
 /// The least costs of a map that had none.
@@ -76,10 +126,9 @@ pub fn first_costs<M: Tally>(
     ensures reads { (cells : Cells) → IsSpread ground.now.size ground.now.sources ground.now.friction ground.now.limit cells → RisesBy (3 * length (filter (tile_has ground.now.size (differs [] cells)) (tiles ground.now.size))) (1000 * first_work ground.now.size cells) (M.counts tally.old) (M.counts tally.new) }
 {
     let extent = ground.extent();
-    let mut queue = Queue::new(alloc);
-    begin(ground, &mut queue, tally)?;
+    let costs = costs_in(alloc, ground, tally)?;
     let mut labels = Working::new(alloc, extent, None)?;
-    let moved = fill(ground, &mut labels, &mut queue, tally)?;
+    let moved = show_all(ground, &mut labels, &costs, tally)?;
     let worked = extent.cells() as u64 + moved;
     let patch = labels.into_patch(tally)?;
     Ok(Repair { patch, worked })

@@ -3,7 +3,7 @@ ghost use Rattle.std.specs.Prelude.{◌≡◌, ◌<◌, ◌≤◌, ◌+◌, ◌*
 ghost use Rattle.map_nums.specs.Grids.{cells_in, gap};
 ghost use Rattle.map_defs.specs.Spread.{friction_at};
 ghost use Rattle.layer_tiles.specs.Tallies.{RisesBy};
-ghost use Rattle.least_costs.specs.Queue.{IsKept, IsOfferedBy, AreOver};
+ghost use Rattle.least_costs.specs.Queue.{IsKept, IsOfferedBy};
 ghost use Rattle.friction_spread.specs.Costs.{values, net_of};
 ghost use Rattle.friction_spread.specs.Spots.{IsSpot, AreNear};
 ghost use Rattle.friction_spread.specs.Rows.{RowOffered, RoundOffered};
@@ -34,7 +34,6 @@ fn offer<M: Tally>(
     requires own { (own ≡ friction_at ground.now.friction from.at) × (0 < own) × (own < 2147483648) }
     ensures kept { OnOk result (IsKept queue.old queue.new) }
     ensures offered { OnOk result (IsOfferedBy (net_of ground.now) (values ground.now.limit labels.now.cells) queue.new from.at to.at) }
-    ensures over { OnOk result (AreOver (net_of ground.now) (values ground.now.limit labels.now.cells) queue.old → AreOver (net_of ground.now) (values ground.now.limit labels.now.cells) queue.new) }
     ensures len { OnOk result (length queue.new ≤ length queue.old + 1) }
     ensures picks { RisesBy 0 2 (M.counts tally.old) (M.counts tally.new) }
 {
@@ -77,7 +76,6 @@ fn offer_row<M: Tally>(
     requires own { (own ≡ friction_at ground.now.friction from.at) × (0 < own) × (own < 2147483648) }
     ensures kept { OnOk result (IsKept queue.old queue.new) }
     ensures offered { OnOk result (RowOffered (net_of ground.now) ground.now.size (values ground.now.limit labels.now.cells) queue.new from.at row) }
-    ensures over { OnOk result (AreOver (net_of ground.now) (values ground.now.limit labels.now.cells) queue.old → AreOver (net_of ground.now) (values ground.now.limit labels.now.cells) queue.new) }
     ensures len { OnOk result (length queue.new ≤ length queue.old + 3) }
     ensures picks { RisesBy 0 6 (M.counts tally.old) (M.counts tally.new) }
 {
@@ -114,7 +112,6 @@ pub fn offer_round<M: Tally>(
     requires low { value ≤ suc ground.now.limit }
     ensures kept { OnOk result (IsKept queue.old queue.new) }
     ensures offered { OnOk result (RoundOffered (net_of ground.now) ground.now.size (values ground.now.limit labels.now.cells) queue.new from.at) }
-    ensures over { OnOk result (AreOver (net_of ground.now) (values ground.now.limit labels.now.cells) queue.old → AreOver (net_of ground.now) (values ground.now.limit labels.now.cells) queue.new) }
     ensures len { OnOk result (length queue.new ≤ length queue.old + 9) }
     ensures picks { RisesBy 0 19 (M.counts tally.old) (M.counts tally.new) }
 {

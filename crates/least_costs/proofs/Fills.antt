@@ -1,90 +1,143 @@
--- One entry taken out of the queue where values only fall.
+-- Values that only fall.
 --
--- No key is below its place's equation, so the entry with the least key has what the equation gives, and the equation need not be looked at.
-use Rattle.std.proofs.Common.{◌≡◌, ◌≢◌, ℕ, ◌+◌, ◌<◌, ◌≤◌, min, Bool, true, false, List, ◌∷◌, refl, sym, ◌∙◌, arith, inl, inr, subst}
-use Rattle.std.specs.List.{All}
+-- A value is what a path costs, and falls where a step gives less. Once the steps from each place were tried since its value fell, no
+-- step gives less, so by induction along a path no path does. The order of the queue does not matter to that.
+use Rattle.std.proofs.Common.{◌≡◌, ◌≢◌, ℕ, zero, suc, ◌+◌, ◌<◌, ◌≤◌, List, [], ◌∷◌, length, refl, sym, ◌∙◌, ap, arith, inl, inr, subst}
+use Rattle.std.specs.Prelude.{◌⊎◌}
+use Rattle.std.specs.List.{Contains}
 use Rattle.std.specs.List.Sorted.{IsPermutation}
 use Rattle.std.proofs.lemmas.Bool.{cases_lt}
-use Rattle.std.proofs.lemmas.List.Sorted.{IsPermutation-sym, Contains-permutation}
-use Rattle.map_defs.specs.Nets.{Net, IsClosed, IsWithin, equation}
-use Rattle.map_defs.proofs.Nets.{equation_is}
-use Rattle.least_costs.specs.Queue.{IsDue, IsSetTo, IsStep, IsOver, AreOver, IsFill}
-use Rattle.least_costs.specs.Best.{IsRepairing}
-use Rattle.least_costs.proofs.Equations.{same_or, outside, next_above}
-use Rattle.least_costs.proofs.Queues.{contains_front, key_least, popped_all}
+use Rattle.std.proofs.lemmas.List.Sorted.{Contains-permutation}
+use Rattle.map_defs.specs.Nets.{Net, IsClosed, HasCosts, cost_in, IsLeastIn, IsEquation}
+use Rattle.map_defs.proofs.Nets.{agreeing_least}
+use Rattle.least_costs.specs.Ranks.{sum_to}
+use Rattle.least_costs.specs.Queue.{IsSetTo, IsKept}
+use Rattle.least_costs.specs.Filling.{IsRelaxed, IsFilling, IsOffering}
+use Rattle.least_costs.proofs.Equations.{same_or}
+use Rattle.least_costs.proofs.Queues.{contains_front, pushed_kept, pushed_there, pushed_length}
+use Rattle.least_costs.proofs.Takes.{sum_rises}
 
-over_equation : (g : Net) (d : ℕ → ℕ) (i k : ℕ) → IsWithin g d → IsOver g d i k → equation g d i ≤ k
-over_equation g d i k w (inl h) = omega (arith, (equation_is g d w i).begun, h)
-over_equation g d i k w (inr h) = omega (arith, (equation_is g d w i).stepped h.0, h.1)
+-- ---- entries
 
-over_falls : (g : Net) (d d' : ℕ → ℕ) (i k : ℕ) → ((j : ℕ) → d' j ≤ d j) → IsOver g d i k → IsOver g d' i k
-over_falls g d d' i k l (inl h) = inl h
-over_falls g d d' i k l (inr h) = inr (h.0, omega (arith, l h.0, h.1))
+contains_behind : (x y : ℕ × ℕ) (xs : List (ℕ × ℕ)) → Contains xs x → Contains (y ∷ xs) x
+contains_behind x y xs h = (suc h.0, omega (arith, h.1), h.2)
 
--- an entry of the cost through a place
-pub pushed_over : (g : Net) (d : ℕ → ℕ) (old new : List (ℕ × ℕ)) (c i k : ℕ) → d c + g.step c i ≤ k → IsPermutation ((k, i) ∷ old) new → AreOver g d old → AreOver g d new
-pushed_over g d old new c i k l p over x h = elim (contains_front x (k, i) old (Contains-permutation new ((k, i) ∷ old) x (IsPermutation-sym ((k, i) ∷ old) new p) h)) as (λ _. IsOver g d x.1 x.0) [
-  | inl e ↦ (let P : ℕ × ℕ → Type 0 = λ y. IsOver g d y.1 y.0 in subst P (sym e) (inr (c, l)))
-  | inr m ↦ over x m
+kept_behind : (x : ℕ × ℕ) (a b : List (ℕ × ℕ)) → IsKept a b → IsKept (x ∷ a) (x ∷ b)
+kept_behind x a b kept y h = elim (contains_front y x a h) as (λ _. Contains (x ∷ b) y) [ inl e ↦ (0, omega arith, sym e) | inr m ↦ contains_behind y x b (kept y m) ]
+
+-- ---- a value falls
+
+fallen : (d d' : ℕ → ℕ) (i v : ℕ) → v ≤ d i → IsSetTo d i v d' → (k : ℕ) → d' k ≤ d k
+fallen d d' i v l set k = elim (same_or k i) as (λ _. d' k ≤ d k) [
+  | inl e ↦ (let P : ℕ → Type 0 = λ j. d' j ≤ d j in subst P (sym e) (omega (arith, set.here, l)))
+  | inr n ↦ omega (arith, set.other k n)
 ]
 
--- an entry of a base
-pub begun_over : (g : Net) (d : ℕ → ℕ) (old new : List (ℕ × ℕ)) (i k : ℕ) → g.base i ≤ k → IsPermutation ((k, i) ∷ old) new → AreOver g d old → AreOver g d new
-begun_over g d old new i k l p over x h = elim (contains_front x (k, i) old (Contains-permutation new ((k, i) ∷ old) x (IsPermutation-sym ((k, i) ∷ old) new p) h)) as (λ _. IsOver g d x.1 x.0) [
-  | inl e ↦ (let P : ℕ × ℕ → Type 0 = λ y. IsOver g d y.1 y.0 in subst P (sym e) (inl l))
-  | inr m ↦ over x m
-]
+pub relaxed_still : (g : Net) (d d' : ℕ → ℕ) (c i : ℕ) → ((k : ℕ) → d' k ≤ d k) → d' c ≡ d c → IsRelaxed g d c i → IsRelaxed g d' c i
+relaxed_still g d d' c i falls e h s = omega (arith, falls i, e, h s)
 
-module _ (g : Net) (closed : IsClosed g) (old d : ℕ → ℕ) (entries left : List (ℕ × ℕ)) (moved key at : ℕ) (now : IsRepairing g old d entries moved) (popped : IsPermutation entries ((key, at) ∷ left)) (all : All (λ (y : ℕ × ℕ). key ≤ y.0) entries) (over : AreOver g d entries) where
-  over_here : equation g d at ≤ key
-  over_here = over_equation g d at key now.within (over (key, at) (popped_all (key, at) (key, at) entries left popped (inl refl)))
+module _ (g : Net) (d d' : ℕ → ℕ) (entries entries' : List (ℕ × ℕ)) (i v : ℕ) (js : List ℕ) (costs : cost_in g i js ≡ v) (low : v ≤ d i) (set : IsSetTo d i v d') (kept : IsKept entries entries') (there : Contains entries' (v, i)) (now : IsFilling g d entries) where
+  still_tried : (k : ℕ) → k ≢ i → d' k < g.top → Contains entries' (d' k, k) ⊎ ((j : ℕ) → IsRelaxed g d' k j)
+  still_tried k n m =
+      let e = set.other k n in
+      elim (now.tried k (omega (arith, e, m))) as (λ _. Contains entries' (d' k, k) ⊎ ((j : ℕ) → IsRelaxed g d' k j)) [
+        | inl h ↦ inl (let P : ℕ → Type 0 = λ x. Contains entries' (x, k) in subst P (sym e) (kept (d k, k) h))
+        | inr r ↦ inr (λ j. relaxed_still g d d' k j (fallen d d' i v low set) e (r j))
+      ]
 
-  over_left : AreOver g d left
-  over_left x h = over x (popped_all x (key, at) entries left popped (inr h))
+  tried_here : Contains entries' (d' i, i)
+  tried_here = let P : ℕ → Type 0 = λ x. Contains entries' (x, i) in subst P (sym set.here) there
 
-  -- the key is what the equation gives
-  is_equation : key < d at → equation g d at ≡ key
-  is_equation l =
-      let o = over_here in
-      let n : d at ≢ equation g d at = λ x. absurd (omega (arith, x, o, l)) in
-      let k = key_least key (min (d at) (equation g d at), at) entries all (now.queued at n) in
-      omega (arith, o, k)
+  -- to what a path costs, and its place comes into the queue
+  pub lowered : IsFilling g d' entries'
+  lowered = record {
+    most = λ k. omega (arith, fallen d d' i v low set k, now.most k);
+    reached = λ k m. elim (same_or k i) as (λ _. (js : List ℕ) × (cost_in g k js ≡ d' k)) [
+      | inl e ↦ (let P : ℕ → Type 0 = λ j. (js : List ℕ) × (cost_in g j js ≡ d' j) in subst P (sym e) (js, costs ∙ sym set.here))
+      | inr n ↦ (let r = now.reached k (omega (arith, set.other k n, m)) in (r.0, r.1 ∙ sym (set.other k n)))
+    ];
+    tried = λ k m. elim (same_or k i) as (λ _. Contains entries' (d' k, k) ⊎ ((j : ℕ) → IsRelaxed g d' k j)) [
+      | inl e ↦ inl (let P : ℕ → Type 0 = λ j. Contains entries' (d' j, j) in subst P (sym e) tried_here)
+      | inr n ↦ still_tried k n m
+    ];
+  }
 
-  pub due : key < d at → IsDue g d key at
-  due l =
-      let e = is_equation l in
-      record {
-        within = elim (cases_lt at g.size) as (λ _. at < g.size) [ inl m ↦ m | inr m ↦ absurd (omega (arith, e, l, now.most at, outside g d at closed now.within m)) ];
-        disagrees = λ x. absurd (omega (arith, x, e, l));
-        is_key = omega (arith, e, l);
-      }
+-- ---- costs through a place
 
-  undue : (at < g.size → d at ≤ key) → IsDue g d key at → ⊥
-  undue low due =
-      let o = over_here in
-      let l = low due.within in
-      due.disagrees (omega (arith, l, o, due.is_key))
+pub offered_none : (g : Net) (v c : ℕ) (d : ℕ → ℕ) (entries : List (ℕ × ℕ)) → IsOffering g v c d entries d entries
+offered_none g v c d entries = record { falls = λ k. omega arith; here = refl; filling = λ h. h; less = omega arith }
 
-  falls : (d' : ℕ → ℕ) → key < d at → IsSetTo d at key d' → (j : ℕ) → d' j ≤ d j
-  falls d' l set j = elim (same_or j at) as (λ _. d' j ≤ d j) [
-    | inl e ↦ (let P : ℕ → Type 0 = λ j. d' j ≤ d j in subst P (sym e) (omega (arith, set.here, l)))
-    | inr n ↦ omega (arith, set.other j n)
+pub offered_then : (g : Net) (v c : ℕ) (d : ℕ → ℕ) (entries : List (ℕ × ℕ)) (d' : ℕ → ℕ) (entries' : List (ℕ × ℕ)) (d'' : ℕ → ℕ) (entries'' : List (ℕ × ℕ)) → IsOffering g v c d entries d' entries' → IsOffering g v c d' entries' d'' entries'' → IsOffering g v c d entries d'' entries''
+offered_then g v c d entries d' entries' d'' entries'' p q = record { falls = λ k. omega (arith, p.falls k, q.falls k); here = q.here ∙ p.here; filling = λ h. q.filling (p.filling h); less = omega (arith, p.less, q.less) }
+
+-- one that is below its place's value
+pub offered : (g : Net) (v c i w : ℕ) (d d' : ℕ → ℕ) (old new : List (ℕ × ℕ)) → i < g.size → c ≢ i → d c ≡ v → w ≡ v + g.step c i → w < d i → IsSetTo d i w d' → IsPermutation ((w, i) ∷ old) new → IsOffering g v c d old d' new
+offered g v c i w d d' old new within other value cost below set pushed = record {
+  falls = fallen d d' i w (omega (arith, below)) set;
+  here = set.other c other;
+  filling = λ h.
+      let r = h.reached c (omega (arith, value, cost, below, h.most i)) in
+      lowered g d d' ((v, c) ∷ old) ((v, c) ∷ new) i w (c ∷ r.0) (omega (arith, r.1, value, cost)) (omega (arith, below)) set (kept_behind (v, c) old new (pushed_kept (w, i) old new pushed)) (contains_behind (w, i) (v, c) new (pushed_there (w, i) old new pushed)) h;
+  less = omega (arith, sum_rises d' d g.size i within (λ j n. sym (set.other j n)) (omega (arith, set.here, below)), pushed_length (w, i) old new pushed);
+}
+
+-- ---- an entry is taken out
+
+pub taken_out : (g : Net) (d : ℕ → ℕ) (old : List (ℕ × ℕ)) (x : ℕ × ℕ) (left : List (ℕ × ℕ)) → IsPermutation old (x ∷ left) → IsFilling g d old → IsFilling g d (x ∷ left)
+taken_out g d old x left p h = record {
+  most = h.most;
+  reached = h.reached;
+  tried = λ k m. elim (h.tried k m) as (λ _. Contains (x ∷ left) (d k, k) ⊎ ((i : ℕ) → IsRelaxed g d k i)) [ inl c ↦ inl (Contains-permutation old (x ∷ left) (d k, k) p c) | inr r ↦ inr r ];
+}
+
+-- and done with: it is not its place's value, or the steps from there were tried
+pub done_with : (g : Net) (d : ℕ → ℕ) (key at : ℕ) (left : List (ℕ × ℕ)) → (d at ≡ key → (i : ℕ) → IsRelaxed g d at i) → IsFilling g d ((key, at) ∷ left) → IsFilling g d left
+done_with g d key at left relaxed h =
+    let P : ℕ → Type 0 = λ j. d j ≡ key → (i : ℕ) → IsRelaxed g d j i in
+    record {
+      most = h.most;
+      reached = h.reached;
+      tried = λ k m. elim (h.tried k m) as (λ _. Contains left (d k, k) ⊎ ((i : ℕ) → IsRelaxed g d k i)) [
+        | inl c ↦ elim (contains_front (d k, k) (key, at) left c) as (λ _. Contains left (d k, k) ⊎ ((i : ℕ) → IsRelaxed g d k i)) [
+          | inl e ↦ inr (subst P (sym (ap (λ (x : ℕ × ℕ). x.1) e)) relaxed (ap (λ (x : ℕ × ℕ). x.0) e))
+          | inr r ↦ inl r
+        ]
+        | inr r ↦ inr r
+      ];
+    }
+
+-- ---- the queue is empty
+
+module _ (g : Net) (closed : IsClosed g) (costs : HasCosts g) (d : ℕ → ℕ) (entries : List (ℕ × ℕ)) (now : IsFilling g d entries) (begun : (i : ℕ) → d i ≤ g.base i) (empty : entries ≡ []) where
+  relaxed : (c : ℕ) → d c < g.top → (i : ℕ) → IsRelaxed g d c i
+  relaxed c m = elim (now.tried c m) as (λ _. (i : ℕ) → IsRelaxed g d c i) [
+    | inl h ↦ (let P : List (ℕ × ℕ) → Type 0 = λ xs. Contains xs (d c, c) in let n = subst P empty h in absurd (omega (arith, n.1)))
+    | inr r ↦ r
   ]
 
-  pub filled : (d' : ℕ → ℕ) (entries' : List (ℕ × ℕ)) (is_taken : Bool) → IsFill g d left key at d' entries' is_taken → IsStep g d left key at d' entries' is_taken × AreOver g d' entries'
-  filled d' entries' true s =
-      let e = is_equation s.above in
-      let P : ℕ → Type 0 = λ v. IsSetTo d at v d' in (
-        record {
-          due = due s.above;
-          value = subst P (sym e ∙ sym (next_above (equation g d at) (d at) g.top (omega (arith, e, s.above)))) s.value;
-          kept = s.kept;
-          queued = inr (record { above = omega (arith, e, s.above); fallen = s.fallen });
-          few = s.few;
-        },
-        s.over (λ x h. over_falls g d d' x.1 x.0 (falls d' s.above s.value) (over_left x h)),
-      )
-  filled d' entries' false s =
-      let P : (ℕ → ℕ) → Type 0 = λ f. AreOver g f entries' in
-      let Q : List (ℕ × ℕ) → Type 0 = λ xs. AreOver g d xs in
-      (record { due = undue s.low; same = s.same; entries_same = s.entries_same }, subst P (sym s.same) (subst Q (sym s.entries_same) over_left))
+  stepped : (i j : ℕ) → d i ≤ d j + g.step j i
+  stepped i j = elim (cases_lt (d j) g.top) as (λ _. d i ≤ d j + g.step j i) [
+    | inr l ↦ omega (arith, now.most i, l)
+    | inl l ↦ elim (cases_lt (g.step j i) g.top) as (λ _. d i ≤ d j + g.step j i) [ inl s ↦ relaxed j l i s | inr s ↦ omega (arith, now.most i, s) ]
+  ]
+
+  covered : (i : ℕ) (js : List ℕ) → d i ≤ cost_in g i js
+  covered i [] = begun i
+  covered i (j ∷ js) = omega (arith, stepped i j, covered j js)
+
+  attained : (i : ℕ) (js : List ℕ) → cost_in g i js ≡ d i → (d i ≡ g.base i) ⊎ ((j : ℕ) × (d i ≡ d j + g.step j i))
+  attained i [] e = inl (sym e)
+  attained i (j ∷ js) e = inr (j, omega (arith, e, covered j js, stepped i j))
+
+  agrees : (i : ℕ) → IsEquation g d i (d i)
+  agrees i = record {
+    capped = now.most i;
+    begun = begun i;
+    stepped = stepped i;
+    attained = elim (cases_lt (d i) g.top) as (λ _. (d i ≡ g.top) ⊎ ((d i ≡ g.base i) ⊎ ((j : ℕ) × (d i ≡ d j + g.step j i))))
+        [ inl l ↦ (let r = now.reached i l in inr (attained i r.0 r.1)) | inr l ↦ inl (omega (arith, now.most i, l)) ];
+  }
+
+  -- all values are least costs
+  pub filled_least : (i : ℕ) → IsLeastIn g i (d i)
+  filled_least = agreeing_least g d closed costs agrees

@@ -6,7 +6,8 @@
 //! becomes none, since each path costs more than that value; and what this changes comes into the queue. A place is so dealt
 //! with at most twice, and only where its least cost is another one than before.
 //!
-//! The theory is in `proofs/`: `Steps` for any start, `Fills` for a start with no costs, where values only fall.
+//! The theory is in `proofs/`: `Steps` for any start; `Fills` for a start with no costs, where values only fall, each to what a step
+//! from a place that was taken out gives.
 #![tactic(auto)]
 
 mod queue;

@@ -1,23 +1,38 @@
-use Rattle.std.proofs.Common.{◌≡◌, ℕ, ◌+◌, ◌*◌, ◌<◌, true, inl, inr, arith, subst}
-use Rattle.std.specs.Prelude.{is_some}
-use Rattle.std.specs.List.{Contains}
+use Rattle.std.proofs.Common.{◌≡◌, inl, inr, ℕ, ◌+◌, ◌<◌, ◌≤◌, ap, subst, arith}
 use Rattle.std.proofs.lemmas.Bool.{cases_lt}
-use Rattle.map_nums.specs.Grids.{cell_at}
-use Rattle.map_defs.specs.Spread.{friction_at}
-use Rattle.layer_tiles.proofs.Rising.{rises_then, rises_within}
+use Rattle.map_nums.specs.Grids.{cells_in}
+use Rattle.layer_tiles.proofs.Rising.{rises_none, rises_then, rises_within}
+use Rattle.friction_spread.specs.Costs.{base_of}
+use Rattle.friction_spread.specs.Flat.{costs_of}
+use Rattle.friction_spread.proofs.Grounds.{base_outside}
+use Rattle.friction_spread.proofs.Flats.{none_tried}
 use Rattle.friction_spread.proofs.first.begin.Goals as goal
+
+pub loop-at-init : goal.loop-at-init
+loop-at-init g c = record {
+  filling = none_tried c.args.ground.now (costs_of c.args.ground.now c.args.costs.now) c.args.queue.now c.requires.none;
+  begun = λ i l. absurd (omega (arith, l));
+  picks = rises_none (g.M.Tally.counts c.args.tally.now);
+}
 
 pub loop-at-preserved : goal.loop-at-preserved
 loop-at-preserved g c =
     let gr = c.args.ground.now in
     let ok = c.in_ok-begin_at.ensures in
-    let Q : ℕ → Type 0 = λ i. is_some (cell_at gr.sources i) ≡ true → 0 < friction_at gr.friction i → Contains c.begin_at.new.queue (0, i) in
+    let P : ℕ → Type 0 = λ i. costs_of gr c.begin_at.new.costs i ≤ base_of gr i in
     record {
-      there = λ i l. elim (cases_lt i c.loop-at.at) as (λ _. Q i) [
-        | inl m ↦ (λ e f. ok.kept _ (c.loop-at.invariant.there i m e f))
-        | inr m ↦ (let e : c.loop-at.at ≡ i = omega (arith, l, m) in subst Q e ok.there)
+      filling = ok.filling;
+      begun = λ i l. elim (cases_lt i c.loop-at.at) as (λ _. P i) [
+        | inl m ↦ omega (arith, ok.falls i, c.loop-at.invariant.begun i m)
+        | inr m ↦ (let q : c.loop-at.at ≡ i = omega (arith, l, m) in subst P q ok.begun)
       ];
-      over = λ d. ok.over d (c.loop-at.invariant.over d);
-      len = omega (arith, ok.len, c.loop-at.invariant.len);
-      picks = rises_within (0 + 0) (2 * c.loop-at.at + 2) 0 (2 * (c.loop-at.at + 1)) _ _ (omega arith) (omega arith) (rises_then 0 (2 * c.loop-at.at) 0 2 _ _ _ c.loop-at.invariant.picks c.begin_at.ensures.picks);
+      picks = rises_within (0 + 0) (c.loop-at.at + 1) 0 (c.loop-at.at + 1) _ _ (omega arith) (omega arith) (rises_then 0 c.loop-at.at 0 1 _ _ _ c.loop-at.invariant.picks c.begin_at.ensures.pick);
     }
+
+pub returns-clause-begun : goal.returns-clause-begun
+returns-clause-begun g c = λ i.
+    let gr = c.args.ground.now in
+    elim (cases_lt i c.loop-at.at) as (λ _. costs_of gr c.loop-at.costs i ≤ base_of gr i) [
+      | inl l ↦ c.loop-at.invariant.begun i l
+      | inr l ↦ omega (arith, c.loop-at.invariant.filling.most i, base_outside gr i (omega (arith, l, c.loop-at-test.false, c.cells-at-end.ensures.cells, ap cells_in c.extent.ensures.extent)))
+    ]

@@ -1,26 +1,24 @@
-use Rattle.std.proofs.Common.{◌≡◌, ◌<◌, true, arith, sym, ◌∙◌}
+use Rattle.std.proofs.Common.{◌≡◌, ℕ, ◌<◌, ◌≤◌, [], true, refl, arith, sym, ◌∙◌}
 use Rattle.std.specs.Prelude.{is_some}
 use Rattle.map_nums.specs.Grids.{cell_at}
 use Rattle.map_defs.specs.Spread.{friction_at}
-use Rattle.least_costs.proofs.Queues.{pushed_kept, pushed_there, pushed_length}
-use Rattle.least_costs.proofs.Fills.{begun_over}
+use Rattle.least_costs.proofs.Queues.{pushed_kept, pushed_there}
+use Rattle.least_costs.proofs.Fills.{lowered}
 use Rattle.friction_spread.specs.Costs.{base_of, net_of}
-use Rattle.friction_spread.proofs.Grounds.{base_source}
+use Rattle.friction_spread.specs.Flat.{costs_of}
+use Rattle.friction_spread.proofs.Flats.{cost_set}
+use Rattle.friction_spread.proofs.Grounds.{base_source, base_barrier, base_other}
 use Rattle.friction_spread.proofs.first.begin_at.Goals as goal
 
-pub returns-clause-kept : goal.returns-clause-kept
-returns-clause-kept g c = pushed_kept _ _ _ c.in_ok-push.ensures
-
-pub returns-clause-there : goal.returns-clause-there
-returns-clause-there g c = λ _ _. pushed_there _ _ _ c.in_ok-push.ensures
-
-pub returns-clause-over : goal.returns-clause-over
-returns-clause-over g c = λ d.
+pub returns-clause-filling : goal.returns-clause-filling
+returns-clause-filling g c =
     let gr = c.args.ground.now in
     let s : is_some (cell_at gr.sources c.args.at) ≡ true = sym c.is_source.ensures.value ∙ c.if-not-is_source.false in
-    let f : 0 < friction_at gr.friction c.args.at = omega (arith, c.friction.ensures.value, c.if-friction-eq0.false) in
-    let b : base_of gr c.args.at ≡ 0 = base_source gr c.args.at c.requires f s in
-    begun_over (net_of gr) d c.args.queue.now c.push.new.self c.args.at 0 (omega (arith, b)) c.in_ok-push.ensures
+    let f : 0 < friction_at gr.friction c.args.at = omega (arith, c.requires.friction.each c.args.at c.requires.within, c.if-friction-at-eq0.false) in
+    lowered (net_of gr) (costs_of gr c.args.costs.now) _ c.args.queue.now c.push.new.self c.args.at 0 [] (base_source gr c.args.at c.requires.within f s) (omega arith) (cost_set gr c.args.costs.now _ c.args.at 0 (omega arith) refl) (pushed_kept _ _ _ c.in_ok-push.ensures) (pushed_there _ _ _ c.in_ok-push.ensures) c.requires.filling
 
-pub returns-clause-len : goal.returns-clause-len
-returns-clause-len g c = pushed_length _ _ _ c.in_ok-push.ensures
+pub returns-then-not-is_source-clause-begun : goal.returns-then-not-is_source-clause-begun
+returns-then-not-is_source-clause-begun g c = omega (arith, base_other c.args.ground.now c.args.at (sym c.is_source.ensures.value ∙ c.if-not-is_source.true), c.requires.filling.most c.args.at)
+
+pub returns-then-friction-at-eq0-clause-begun : goal.returns-then-friction-at-eq0-clause-begun
+returns-then-friction-at-eq0-clause-begun g c = omega (arith, base_barrier c.args.ground.now c.args.at (sym (c.requires.friction.each c.args.at c.requires.within) ∙ c.if-friction-at-eq0.true), c.requires.filling.most c.args.at)

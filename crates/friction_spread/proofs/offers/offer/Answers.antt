@@ -4,7 +4,6 @@ use Rattle.map_defs.specs.Spread.{friction_at}
 use Rattle.friction_spread.specs.Costs.{values, net_of, step_of}
 use Rattle.friction_spread.specs.Spots.{weighed}
 use Rattle.friction_spread.proofs.Least.{step_to_barrier, step_weighed}
-use Rattle.least_costs.proofs.Fills.{pushed_over}
 use Rattle.friction_spread.proofs.offers.offer.Given.{Over}
 use Rattle.friction_spread.proofs.offers.offer.Goals as goal
 use Rattle.friction_spread.proofs.offers.offer.Goals.{After-weigh}
@@ -40,9 +39,3 @@ returns-clause-offered g c = λ l m.
 
 pub returns-clause-len : goal.returns-clause-len
 returns-clause-len g c = pushed_length _ _ _ c.in_ok-push.ensures
-
-pub returns-clause-over : goal.returns-clause-over
-returns-clause-over g c =
-    let d = (goal.at.returns-clause-over g c).After-weigh in
-    let gr = c.args.ground.now in
-    pushed_over (net_of gr) (values gr.limit c.args.labels.now.cells) c.args.queue.now c.push.new.self c.args.from.at c.args.to.at (c.args.value + c.weigh.result) (omega (arith, costs g d)) c.in_ok-push.ensures

@@ -22,7 +22,6 @@ loop-r-preserved g c =
     record {
       kept = kept_then c.args.queue.now c.loop-r.queue c.offer_row.new.queue c.loop-r.invariant.kept ok.kept;
       offered = round_offered_next (net_of gr) gr.size (values gr.limit c.args.labels.now.cells) c.loop-r.queue c.offer_row.new.queue c.args.from.at ok.kept c.loop-r.r ok.offered c.loop-r.invariant.offered;
-      over = λ h. ok.over (c.loop-r.invariant.over h);
       len = omega (arith, ok.len, c.loop-r.invariant.len, c.loop-r.auto.r);
       picks = rises_within (0 + 0) (6 * (c.loop-r.r - c.saturating_sub-low.result) + 6) 0 (6 * (c.loop-r.r + 1 - c.saturating_sub-low.result)) _ _ (omega arith) (omega (arith, c.loop-r.auto.r)) (rises_then 0 (6 * (c.loop-r.r - c.saturating_sub-low.result)) 0 6 _ _ _ c.loop-r.invariant.picks c.offer_row.ensures.picks);
     }

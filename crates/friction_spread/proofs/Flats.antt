@@ -1,0 +1,87 @@
+-- Costs and frictions in lists.
+use Rattle.std.proofs.Common.{◌≡◌, inl, inr, ℕ, zero, suc, ◌+◌, ◌<◌, ◌≤◌, List, [], ◌∷◌, ◌++◌, length, length-append, get_or, replicate, Option, refl, sym, ◌∙◌, ap, subst, arith, ℤ}
+use Rattle.std.specs.Prelude.{slice_set, ◌==◌, if◌then◌else◌}
+use Rattle.std.proofs.lemmas.Bool.{cases_lt}
+use Rattle.std.proofs.lemmas.List.{get_or_default, get_or_past, get_or-set_same, get_or-set_other, get_or_append_left, get_or_push, get_or-replicate, length-replicate}
+use Rattle.map_nums.specs.Grids.{cells_in}
+use Rattle.map_defs.specs.Nets.{IsLeastIn}
+use Rattle.map_defs.specs.Spread.{friction_at}
+use Rattle.map_defs.proofs.Nets.{one_least}
+use Rattle.tile_work.specs.Working.{base_of}
+use Rattle.least_costs.specs.Queue.{IsSetTo}
+use Rattle.least_costs.specs.Filling.{IsFilling}
+use Rattle.least_costs.specs.Ranks.{sum_to, changed}
+use Rattle.friction_spread.specs.Costs.{GroundState, values, net_of}
+use Rattle.friction_spread.specs.Copied.{IsMoved}
+use Rattle.friction_spread.specs.Flat.{costs_of, AreFrictions}
+
+-- ---- frictions
+
+pub no_frictions : (g : GroundState) → AreFrictions g [] 0
+no_frictions g = record { count = omega arith; each = λ i l. absurd (omega (arith, l)); low = λ i l. absurd (omega (arith, l)) }
+
+pub one_friction_more : (g : GroundState) (list new : List ℕ) (n v : ℕ) → new ≡ list ++ v ∷ [] → v ≡ friction_at g.friction n → v < 2147483648 → AreFrictions g list n → AreFrictions g new (n + 1)
+one_friction_more g list new n v e f m h =
+    let P : List ℕ → Type 0 = λ xs. AreFrictions g xs (n + 1) in
+    subst P (sym e)
+    record {
+      count = omega (arith, length-append list (v ∷ []), h.count);
+      each = λ i l. elim (cases_lt i n) as (λ _. get_or (list ++ v ∷ []) i 0 ≡ friction_at g.friction i) [
+        | inl a ↦ get_or_append_left list (v ∷ []) 0 i (omega (arith, a, h.count)) ∙ h.each i a
+        | inr a ↦ (let q : n ≡ i = omega (arith, l, a) in let Q : ℕ → Type 0 = λ j. get_or (list ++ v ∷ []) j 0 ≡ friction_at g.friction j in subst Q q (get_or_push list v 0 n h.count ∙ f))
+      ];
+      low = λ i l. elim (cases_lt i n) as (λ _. get_or (list ++ v ∷ []) i 0 < 2147483648) [
+        | inl a ↦ omega (arith, get_or_append_left list (v ∷ []) 0 i (omega (arith, a, h.count)), h.low i a)
+        | inr a ↦ (let q : n ≡ i = omega (arith, l, a) in let Q : ℕ → Type 0 = λ j. get_or (list ++ v ∷ []) j 0 < 2147483648 in subst Q q (omega (arith, get_or_push list v 0 n h.count, m)))
+      ];
+    }
+
+-- ---- costs
+
+pub cost_read : (g : GroundState) (costs : List ℕ) (i : ℕ) → i < length costs → get_or costs i 0 ≡ costs_of g costs i
+cost_read g costs i l = get_or_default costs i 0 (suc g.limit) l
+
+pub cost_past : (g : GroundState) (costs : List ℕ) (i : ℕ) → length costs ≤ i → costs_of g costs i ≡ suc g.limit
+cost_past g costs i l = get_or_past costs i (suc g.limit) l
+
+pub cost_set : (g : GroundState) (costs new : List ℕ) (at v : ℕ) → at < length costs → new ≡ slice_set costs at v → IsSetTo (costs_of g costs) at v (costs_of g new)
+cost_set g costs new at v l e = record {
+  here = ap (λ xs. costs_of g xs at) e ∙ get_or-set_same costs at v (suc g.limit) l;
+  other = λ j n. ap (λ xs. costs_of g xs j) e ∙ get_or-set_other costs at j v (suc g.limit) n;
+}
+
+pub no_cost : (g : GroundState) (n t i : ℕ) → t ≡ suc g.limit → costs_of g (replicate n t) i ≡ suc g.limit
+no_cost g n t i e = elim (cases_lt i n) as (λ _. costs_of g (replicate n t) i ≡ suc g.limit) [
+  | inl l ↦ get_or-replicate n i t (suc g.limit) l ∙ e
+  | inr l ↦ get_or_past (replicate n t) i (suc g.limit) (omega (arith, l, length-replicate n t))
+]
+
+-- nothing has a cost yet
+pub none_tried : (g : GroundState) (d : ℕ → ℕ) (entries : List (ℕ × ℕ)) → ((i : ℕ) → d i ≡ suc g.limit) → IsFilling (net_of g) d entries
+none_tried g d entries none = record { most = λ i. omega (arith, none i); reached = λ i l. absurd (omega (arith, l, none i)); tried = λ i l. absurd (omega (arith, l, none i)) }
+
+-- ---- costs that are written
+
+pub moved_where : (g : GroundState) (before : Option (List (Option ℤ))) (i v : ℕ) → base_of before ≡ [] → IsLeastIn (net_of g) i v → v < suc g.limit → IsMoved g before i
+moved_where g before i v b least l = λ c h q.
+    let e : values g.limit (base_of before) i ≡ suc g.limit = ap (λ xs. values g.limit xs i) b in
+    absurd (omega (arith, one_least (net_of g) i v (c i) least (h i), e, q, l))
+
+pub changed_begun : (o d : ℕ → ℕ) → 0 ≡ changed o d 0
+unfolding changed
+changed_begun o d = refl
+
+pub changed_more : (o d : ℕ → ℕ) (n m k : ℕ) → m ≡ changed o d n → k ≡ (if o n == d n then 0 else 1) → m + k ≡ changed o d (n + 1)
+unfolding changed
+changed_more o d n m k e f =
+    let P : ℕ → Type 0 = λ x. m + k ≡ sum_to (λ j. if o j == d j then 0 else 1) x in
+    let q : suc n ≡ n + 1 = omega arith in
+    subst P q (omega (arith, e, f))
+
+sum_alike : (f f' : ℕ → ℕ) (n : ℕ) → ((j : ℕ) → j < n → f j ≡ f' j) → sum_to f n ≡ sum_to f' n
+sum_alike f f' zero h = refl
+sum_alike f f' (suc n) h = omega (arith, h n (omega arith), sum_alike f f' n (λ j l. h j (omega (arith, l))))
+
+pub changed_alike : (o d d' : ℕ → ℕ) (n : ℕ) → ((j : ℕ) → j < n → d j ≡ d' j) → changed o d n ≡ changed o d' n
+unfolding changed
+changed_alike o d d' n h = sum_alike (λ j. if o j == d j then 0 else 1) (λ j. if o j == d' j then 0 else 1) n (λ j l. ap (λ x. if o j == x then 0 else 1) (h j l))
