@@ -1,0 +1,285 @@
+"""The map machine: sources, procedures, statements, labels, symbols and stamps; every edit evaluates all anew."""
+
+from collections import Counter
+
+from grids import GREATEST, Refused, print_grid
+from lines import Call, Op, ZONAL, print_body, print_procedure
+from operations import MOST_VIEWERS, damage, differing, layer_of, work
+
+MOST = {'sources': 32, 'statements': 64, 'zonals': 24, 'labels': 4096, 'symbols': 4096, 'procedures': 32}
+LAST_NUMBER = 2 ** 64 - 1
+
+
+class Machine:
+    def __init__(self, extent, header):
+        self.extent, self.header, self.number = extent, header, 0
+        self.procedures = {}  # in order of definition
+        self.names = {}       # what is written under a name, None for a source; in order of first definition
+        self.sources = {}
+        self.labels, self.symbols = {}, {}  # by name and value
+        self.layers, self.stamps = {}, {}   # of what is defined
+
+    def copy(self):
+        other = Machine(self.extent, self.header)
+        other.number = self.number
+        for part in ('procedures', 'names', 'sources', 'labels', 'symbols', 'layers', 'stamps'):
+            setattr(other, part, dict(getattr(self, part)))
+        return other
+
+    # Statements
+
+    def check_call(self, written, procedures):
+        if isinstance(written, Call):
+            if written.procedure not in procedures:
+                raise Refused(f'procedure {written.procedure}')
+            wanted = len(procedures[written.procedure].takes)
+            if len(written.given) != wanted:
+                raise Refused(f'count {len(written.given)} {wanted}')
+
+    def flat_count(self, written):
+        """How many flat statements a written one has; found before they are made, since they may be very many."""
+        sizes = {}
+        for name, procedure in self.procedures.items():
+            sizes[name] = sum(sizes[inner.procedure] if isinstance(inner, Call) else 1 for _, inner in procedure.body)
+        return sizes[written.procedure] if isinstance(written, Call) else 1
+
+    def expand(self, name, prefix, written):
+        """-> the flat statements (name, operation) in order, the one of the name last."""
+        if isinstance(written, Op):
+            return [(name, written)]
+        procedure = self.procedures[written.procedure]
+        stands_for, flat = dict(zip(procedure.takes, written.given)), []
+        for inner, body in procedure.body:
+            new = name if inner == 'result' else f'{prefix}.{inner}'
+            terms = tuple(stands_for.get(term, term) for term in (body.given if isinstance(body, Call) else body.terms))
+            body = body._replace(given=terms) if isinstance(body, Call) else body._replace(terms=terms)
+            flat += self.expand(new, f'{prefix}.result' if inner == 'result' else new, body)
+            stands_for[inner] = new
+        return flat
+
+    def flats(self):
+        """All flat statements by place."""
+        return [flat for name, written in self.names.items() if written is not None for flat in self.expand(name, name, written)]
+
+    def depths(self, operators):
+        depths = {}
+
+        def depth(name):
+            if name not in depths:
+                needs = [term for term in operators[name].terms if isinstance(term, str)] if name in operators else []
+                depths[name] = 1 + max(map(depth, needs), default=0) if name in operators else 0
+            return depths[name]
+        return {name: depth(name) for name in operators}
+
+    def missing(self, name):
+        """The first missing name of a name that isn't defined."""
+        operators = dict(self.flats())
+        while name in operators:
+            name = next(term for term in operators[name].terms if isinstance(term, str) and term not in self.layers)
+        return name
+
+    def is_cycle(self, name):
+        operators, reached, left = dict(self.flats()), set(), [name]
+        while left:
+            op = operators.get(left.pop())
+            new = {term for term in op.terms if isinstance(term, str)} - reached if op else set()
+            reached |= new
+            left += new
+        return name in reached
+
+    def operands(self, op):
+        """The grids of an operation's terms; None where one is undefined."""
+        grids = tuple(self.layers.get(term) if isinstance(term, str) else (term,) * self.extent.count for term in op.terms)
+        return None if None in grids else grids
+
+    def evaluate(self):
+        """Makes all layers anew, from the sources alone. Refused at the first fault by depth, then place."""
+        self.layers = dict(self.sources)
+        flats = self.flats()
+        depths = self.depths(dict(flats))
+        for name, op in sorted(flats, key=lambda flat: depths[flat[0]]):
+            operands = self.operands(op)
+            if operands is None:
+                continue
+            if op.kind == 'Sight':
+                count = sum(cell is not None for cell in operands[0])
+                if count > MOST_VIEWERS:
+                    raise Refused(f'viewers {name} {count}')
+            layer = layer_of(self.extent, op, operands)
+            for at, cell in enumerate(layer):
+                if cell is not None and abs(cell) > GREATEST:
+                    row, column = divmod(at, self.extent.columns)
+                    raise Refused(f'overflow {name} {row + 1} {column + 1}')
+            self.layers[name] = layer
+
+    # Edits. Each changes a copy of the machine, or is refused.
+
+    def limit(self, what, count):
+        if count > MOST[what]:
+            raise Refused(f'limit {what}')
+
+    def put_source(self, name, cells):
+        if name in self.names:
+            raise Refused(f'exists {name}')
+        self.names[name], self.sources[name] = None, cells
+        self.limit('sources', len(self.sources))
+
+    def paint(self, name, top, left, bottom, right, cell):
+        if name not in self.names:
+            raise Refused(f'unknown {name}')
+        if name not in self.sources:
+            raise Refused(f'derived {name}')
+        rows, columns = self.extent.rows, self.extent.columns
+        if top > bottom or left > right or bottom > rows or right > columns:
+            raise Refused(f'size {rows} {columns}')
+        cells = list(self.sources[name])
+        painted = [self.extent.place(r, c) for r in range(top - 1, bottom) for c in range(left - 1, right)]
+        for at in painted:
+            cells[at] = cell
+        self.sources[name] = tuple(cells)
+        return painted
+
+    def drop(self, name):
+        if name not in self.names:
+            raise Refused(f'unknown {name}')
+        del self.names[name]
+        self.sources.pop(name, None)
+        for marks in (self.labels, self.symbols):
+            for key in [key for key in marks if key[0] == name]:
+                del marks[key]
+
+    def mark(self, kind, name, value, text):
+        if name not in self.names:
+            raise Refused(f'unknown {name}')
+        marks = self.labels if kind == 'label' else self.symbols
+        marks[name, value] = text
+        self.limit(kind + 's', len(marks))
+
+    def put_procedure(self, procedure):
+        if procedure.name in self.procedures:
+            raise Refused(f'exists {procedure.name}')
+        for _, written in procedure.body:
+            self.check_call(written, self.procedures)
+        self.procedures[procedure.name] = procedure
+        self.limit('procedures', len(self.procedures))
+
+    def define(self, name, written):
+        if name in self.sources:
+            raise Refused(f'exists {name}')
+        self.check_call(written, self.procedures)
+        others = {other: kept for other, kept in self.names.items() if other != name and kept is not None}
+        self.limit('statements', self.flat_count(written) + sum(map(self.flat_count, others.values())))
+        self.names[name] = written
+        flats = self.flats()
+        self.limit('zonals', sum(op.kind in ZONAL for _, op in flats))
+        if self.is_cycle(name):
+            raise Refused(f'cycle {name}')
+
+    def count(self, before, written, painted):
+        """The changed tiles, the damage and the work, over all that is defined now; sets the stamps."""
+        extent, operators, total = self.extent, dict(self.flats()), Counter()
+        everywhere = range(extent.count)
+        stamps, self.stamps = self.stamps, {}
+        for name, layer in self.layers.items():
+            old = before.layers.get(name)
+            changed = set(everywhere) if old is None else differing(old, layer)
+            tiles = extent.tiles_near(changed, 0)
+            kept = stamps.get(name, [0] * extent.tile_rows * extent.tile_columns)
+            self.stamps[name] = [self.number if tile in tiles else stamp for tile, stamp in enumerate(kept)]
+            total['changed'] += len(tiles)
+            if name in self.sources:
+                total['evaluated'] += len(extent.tiles_near(painted.get(name, ()), 0))
+                continue
+            op = operators[name]
+            now = self.operands(op)
+            if name in written or old is None:
+                touched, tiles = set(everywhere), extent.tiles_near(everywhere, 0)
+                changed = {at for at in everywhere if layer[at] is not None}
+            else:
+                was = before.operands(op)
+                touched = set().union(*map(differing, was, now))
+                tiles = damage(extent, op, touched, changed, was, now)
+            total['evaluated'] += len(tiles)
+            total['worked'] += work(extent, op, touched, changed, layer)
+        return total['changed'], total['evaluated'], total['worked']
+
+    def edited(self, kind, *parts):
+        """-> the machine after an edit, and the reply. Refused where the edit is."""
+        after, written, painted = self.copy(), (), {}
+        if kind in ('load', 'new'):
+            name, cells = parts if kind == 'load' else (parts[0], parts[1:] * self.extent.count)
+            after.put_source(name, cells)
+            painted = {name: range(self.extent.count)}
+        elif kind == 'paint':
+            painted = {parts[0]: after.paint(*parts)}
+        elif kind == 'drop':
+            after.drop(*parts)
+        elif kind == 'procedure':
+            after.put_procedure(*parts)
+        elif kind == 'define':
+            after.define(*parts)
+            written = {name for name, _ in after.expand(parts[0], *parts)}
+        else:
+            after.mark(kind, *parts)
+        after.evaluate()
+        after.number = min(self.number + 1, LAST_NUMBER)
+        changed, evaluated, worked = after.count(self, written, painted)
+        return after, [f'ok {after.number} changed {changed} evaluated {evaluated} worked {worked}']
+
+    # Requests
+
+    def sign(self, name, value):
+        if value is None:
+            return '.'
+        plain = '*' if value > 9 else '-' if value < 0 else str(value)
+        return self.symbols.get((name, value), plain)
+
+    def legend(self, name):
+        counts = Counter(self.layers[name])
+        lines = [f'legend {name} {len(counts)}']
+        for value in sorted(counts, key=ascending):
+            label = self.labels.get((name, value))
+            lines.append(f'{shown(value)} {counts[value]} {self.sign(name, value)}' + (f' {label}' if label else ''))
+        return lines
+
+    def table(self, zones, values):
+        counts = Counter(zip(self.layers[zones], self.layers[values]))
+        pairs = sorted(counts, key=lambda pair: (ascending(pair[0]), ascending(pair[1])))
+        return [f'table {zones} {values} {len(pairs)}'] + [f'{shown(z)} {shown(v)} {counts[z, v]}' for z, v in pairs]
+
+    def list(self):
+        lines = [print_procedure(procedure) for procedure in self.procedures.values()]
+        for name, written in self.names.items():
+            lines.append(f'source {name}' if written is None else f'{name} = {print_body(written)}')
+        return [f'list {len(lines)}'] + lines
+
+    def asked(self, kind, *parts):
+        """The lines of the reply to a request."""
+        if kind == 'list':
+            return self.list()
+        for name in parts if kind == 'table' else parts[:1]:
+            if name not in self.layers:
+                return [f'undefined {name}: {self.missing(name)}']
+        if kind in ('legend', 'table'):
+            return getattr(self, kind)(*parts)
+        name, extent = parts[0], self.extent
+        layer = self.layers[name]
+        if kind == 'grid':
+            return print_grid(extent, self.header, layer)
+        if kind == 'value':
+            at = extent.place(parts[1] - 1, parts[2] - 1)
+            return [f"value {name} {parts[1]} {parts[2]} {'outside' if at is None else shown(layer[at])}"]
+        if kind == 'show':
+            signs, width = ''.join(self.sign(name, cell) for cell in layer), extent.columns
+            return [f'show {name} {extent.rows} {width}'] + [signs[k:k + width] for k in range(0, extent.count, width)]
+        texts, width = [str(stamp) for stamp in self.stamps[name]], extent.tile_columns
+        return [f'stamps {name} {extent.tile_rows} {width}'] + [' '.join(texts[k:k + width]) for k in range(0, len(texts), width)]
+
+
+def shown(cell):
+    return 'null' if cell is None else str(cell)
+
+
+def ascending(cell):
+    """The order of cells in displays: null first."""
+    return (cell is not None, cell or 0)
