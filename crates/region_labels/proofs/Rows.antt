@@ -1,13 +1,13 @@
 -- Places by row and column, and what is reached round one of them.
 use Rattle.std.proofs.Common.{◌≡◌, ◌⊎◌, inl, inr, ℕ, suc, ◌+◌, ◌-◌, ◌*◌, ◌/◌, ◌%◌, ◌<◌, ◌≤◌, Bool, true, false, List, [], ◌∷◌, ◌++◌, length, get_or, min, Option, Some, None, IsSome, refl, sym, ◌∙◌, ap, subst, arith, ℤ}
 use Rattle.std.specs.Prelude.{slice_set}
-use Rattle.std.proofs.lemmas.Bool.{cases_lt, both_ways}
+use Rattle.std.proofs.lemmas.Bool.{cases_lt, cases_eq, both_ways}
 use Rattle.std.proofs.lemmas.List.Sums.{sum_by-cons}
 use Rattle.std.proofs.lemmas.Nat.{div-mul-add, mod-mul-add, mul-add-lt, div-add-mod', div_below, mod_below}
 use Rattle.map_nums.specs.Grids.{Size, IsSize, Cells, cell_at, cells_in, row_of, column_of, gap, is_neighbour}
 use Rattle.map_defs.specs.Regions.{Has}
-use Rattle.region_labels.specs.Flood.{is_marked, one_if, marks_in, Holds, FloodState, reached, IsFlooding, IsFlooded, IsRound, IsRoundTo, IsGrown, IsRowMarked, IsRowPart, IsAllMarked, IsAllPart}
-use Rattle.region_labels.proofs.Walks.{near_is}
+use Rattle.region_labels.specs.Flood.{is_marked, one_if, marks_in, Holds, FloodState, reached, IsFlooding, IsFlooded, IsRound, IsRoundTo, IsGrown, IsRowMarked, IsRowPart, IsAllMarked, IsAllPart, IsAfter}
+use Rattle.region_labels.proofs.Walks.{IsNear, near_is, near_so}
 use Rattle.region_labels.proofs.Flooding.{grown_then, grown_reached, reached_marked, flood_root}
 
 -- the place of a row and a column
@@ -43,9 +43,9 @@ module _ (s : Size) (cells : Cells) (value : Option ℤ) (from row c j : ℕ) (o
   pub row_grown : IsGrown s cells value from old f → IsGrown s cells value from old new
   row_grown g = grown_then s cells value from old f new g step_grown
 
-  pub row_near : IsRowPart s cells value from row c f.marks → IsRowPart s cells value from row (c + 1) new.marks
-  row_near near i l r q e k = elim (cases_lt (column_of s i) c) as (λ _. is_marked new.marks i ≡ true) [
-    | inl m ↦ step_grown.marked i (near i l r q e m)
+  pub row_near : (low : ℕ) → IsRowPart s cells value from row low c f.marks → IsRowPart s cells value from row low (c + 1) new.marks
+  row_near low near i l r q w e k = elim (cases_lt (column_of s i) c) as (λ _. is_marked new.marks i ≡ true) [
+    | inl m ↦ step_grown.marked i (near i l r q w e m)
     | inr m ↦ (let same : i ≡ j = only_place s row c i j p r (omega (arith, k, m)) in
         let here : is_marked new.marks j ≡ true = rw (is) (reached_marked cells value j f (omega (arith, p.within, size)) (ap (cell_at cells) (sym same) ∙ e)) in
         ap (is_marked new.marks) same ∙ here)
@@ -66,14 +66,58 @@ pub some_value : (v : Option ℤ) → IsSome v → (z : ℤ) × (v ≡ Some z)
 some_value None h = absurd (both_ways false refl h)
 some_value (Some z) h = (z, refl)
 
+-- the place on the left
+left_of : (s : Size) (i from : ℕ) → IsSize s → from ≡ i + 1 → 0 < column_of s from → (row_of s i ≡ row_of s from) × (column_of s i + 1 ≡ column_of s from)
+left_of s i from h e k =
+    let n = s.columns in
+    let q = from / n in
+    let r = from % n in
+    let t : q * n + r ≡ from = div-add-mod' from n in
+    let is : i ≡ q * n + (r - 1) = omega (arith, e, t, k) in
+    let b : r - 1 < n = omega (arith, mod_below from n h.some_column) in
+    (ap (λ x. x / n) is ∙ div-mul-add q n (r - 1) b, omega (arith, ap (λ x. x % n) is ∙ mod-mul-add q n (r - 1) b, k))
+
+not_both : (b : Bool) → b ≡ true → b ≡ false → ⊥
+not_both b p q = cc
+
+-- ---- the neighbours of one more place
+
+module _ (s : Size) (cells : Cells) (z : ℤ) (value : Option ℤ) (root head from j : ℕ) (before : List Bool) (after : Bool) (f new : FloodState) (size : IsSize s) (e : value ≡ Some z) (l : head < length f.found) (at : from ≡ get_or f.found head 0) (floods : IsFlooding s cells z root before f) (follows : after ≡ true → IsAfter f.found head) (g : IsGrown s cells value from f new) (near : IsAllMarked s cells value from after new.marks) (round : IsRoundTo s cells z head f) (d : IsNear s from j) (has : Has s cells z j) where
+  -- those next to the place on the left are marked since that was worked on
+  left_known : after ≡ true → 0 < column_of s from → column_of s j ≤ column_of s from → is_marked new.marks j ≡ true
+  left_known t k m =
+      let a = follows t in
+      let p = get_or f.found (head - 1) 0 in
+      let b = left_of s p from size (at ∙ a.place) k in
+      let here = (floods.each (head - 1) (omega (arith, l))).marked in
+      let rows : gap (row_of s p) (row_of s j) ≤ 1 = rw (b.0) d.rows in
+      let columns : gap (column_of s p) (column_of s j) ≤ 1 = omega (arith, b.1, d.columns, m) in
+      elim (cases_eq p j) as (λ _. is_marked new.marks j ≡ true) [
+        | inl same ↦ g.marked j (ap (is_marked f.marks) (sym same) ∙ here)
+        | inr other ↦ g.marked j (round (head - 1) (omega (arith, a.some)) j (near_so s p j (record { other = other; rows = rows; columns = columns })) has)
+      ]
+
+  around : (b : Bool) → after ≡ b → is_marked new.marks j ≡ true
+  around true t = elim (cases_lt (column_of s from) (column_of s j)) as (λ _. is_marked new.marks j ≡ true) [
+    | inl m ↦ near j has.0 d.rows d.columns (λ _ _. m) (has.1 ∙ sym e)
+    | inr m ↦ elim (cases_lt 0 (column_of s from)) as (λ _. is_marked new.marks j ≡ true) [
+        | inl k ↦ left_known t k m
+        | inr k ↦ near j has.0 d.rows d.columns (λ _ q. absurd (omega (arith, q, k))) (has.1 ∙ sym e)
+      ]
+  ]
+  around false t = near j has.0 d.rows d.columns (λ q _. absurd (not_both after q t)) (has.1 ∙ sym e)
+
+  pub next_known : is_marked new.marks j ≡ true
+  next_known = around after refl
+
 -- one more place has no further neighbour
-pub round_next : (s : Size) (cells : Cells) (z : ℤ) (value : Option ℤ) (head from : ℕ) (f new : FloodState) → value ≡ Some z → head < length f.found → from ≡ get_or f.found head 0 → IsGrown s cells value from f new → IsAllMarked s cells value from new.marks → IsRoundTo s cells z head f → IsRoundTo s cells z (head + 1) new
-round_next s cells z value head from f new e l at g near round k m j n has = elim (cases_lt k head) as (λ _. is_marked new.marks j ≡ true) [
+pub round_next : (s : Size) (cells : Cells) (z : ℤ) (value : Option ℤ) (root head from : ℕ) (before : List Bool) (after : Bool) (f new : FloodState) → IsSize s → value ≡ Some z → head < length f.found → from ≡ get_or f.found head 0 → IsFlooding s cells z root before f → (after ≡ true → IsAfter f.found head) → IsGrown s cells value from f new → IsAllMarked s cells value from after new.marks → IsRoundTo s cells z head f → IsRoundTo s cells z (head + 1) new
+round_next s cells z value root head from before after f new size e l at floods follows g near round k m j n has = elim (cases_lt k head) as (λ _. is_marked new.marks j ≡ true) [
   | inl q ↦ g.marked j (round k q j (rw (g.stays k (omega (arith, q, l))) at n) has)
   | inr q ↦ (let same : k ≡ head = omega (arith, m, q) in
       let is : get_or new.found k 0 ≡ from = g.stays k (omega (arith, same, l)) ∙ ap (λ i. get_or f.found i 0) same ∙ sym at in
       let d = near_is s from j (ap (λ i. is_neighbour s i j) (sym is) ∙ n) in
-      near j has.0 d.rows d.columns (has.1 ∙ sym e))
+      next_known s cells z value root head from j before after f new size e l at floods follows g near round d has)
 ]
 
 pub region_begun : (s : Size) (cells : Cells) (z : ℤ) (root : ℕ) (extent : Size) (marks : List Bool) (cleared f : FloodState) → length marks ≡ cells_in s → Has s cells z root → is_marked marks root ≡ false → cleared ≡ record { size = extent; marks = marks; found = [] } → f ≡ record cleared { marks = slice_set cleared.marks root true; found = cleared.found ++ root ∷ [] } → IsFlooding s cells z root marks f

@@ -1,5 +1,5 @@
 -- A region that is reached place by place.
-use Rattle.std.specs.Prelude.{◌≡◌, ℕ, suc, ◌+◌, ◌<◌, ◌≤◌, ℤ, Bool, true, false, List, [], ◌∷◌, ◌++◌, length, get_or, Option, Some, None, slice_index_or, slice_set, if◌then◌else◌, ◌&&◌, not}
+use Rattle.std.specs.Prelude.{◌≡◌, ℕ, suc, ◌+◌, ◌-◌, ◌<◌, ◌≤◌, ℤ, Bool, true, false, List, [], ◌∷◌, ◌++◌, length, get_or, Option, Some, None, slice_index_or, slice_set, if◌then◌else◌, ◌&&◌, not}
 use Rattle.std.specs.List.{sum_by}
 use Rattle.map_nums.specs.Grids.{Size, Cells, cell_at, cells_in, is_neighbour, row_of, column_of, gap}
 use Rattle.map_defs.specs.Cells.{same_cell}
@@ -71,21 +71,30 @@ pub record IsFlooded (s : Size) (cells : Cells) (z : ℤ) (root : ℕ) (before :
   pub flooding : IsFlooding s cells z root before f
   pub round : (k : ℕ) → k < length f.found → IsRound s cells z f.marks (slice_index_or f.found k 0)
 
--- the places of a row next to place `from` that have the cell are marked
-abbrev pub IsRowMarked : Size → Cells → Option ℤ → ℕ → ℕ → List Bool → Type 0
-IsRowMarked s cells value from row marks = (j : ℕ) → j < cells_in s → row_of s j ≡ row → gap (column_of s from) (column_of s j) ≤ 1 → cell_at cells j ≡ value → is_marked marks j ≡ true
+-- the places of a row next to place `from`, from column `low` on, that have the cell are marked
+abbrev pub IsRowMarked : Size → Cells → Option ℤ → ℕ → ℕ → ℕ → List Bool → Type 0
+IsRowMarked s cells value from row low marks = (j : ℕ) → j < cells_in s → row_of s j ≡ row → gap (column_of s from) (column_of s j) ≤ 1 → low ≤ column_of s j → cell_at cells j ≡ value → is_marked marks j ≡ true
+
+-- a column that is not next to the place on the left of column `here`, where that place was worked on
+abbrev pub IsFurther : Bool → ℕ → ℕ → Type 0
+IsFurther after here column = after ≡ true → 0 < here → here < column
 
 -- and in all rows
-abbrev pub IsAllMarked : Size → Cells → Option ℤ → ℕ → List Bool → Type 0
-IsAllMarked s cells value from marks = (j : ℕ) → j < cells_in s → gap (row_of s from) (row_of s j) ≤ 1 → gap (column_of s from) (column_of s j) ≤ 1 → cell_at cells j ≡ value → is_marked marks j ≡ true
+abbrev pub IsAllMarked : Size → Cells → Option ℤ → ℕ → Bool → List Bool → Type 0
+IsAllMarked s cells value from after marks = (j : ℕ) → j < cells_in s → gap (row_of s from) (row_of s j) ≤ 1 → gap (column_of s from) (column_of s j) ≤ 1 → IsFurther after (column_of s from) (column_of s j) → cell_at cells j ≡ value → is_marked marks j ≡ true
 
 -- those of them in the columns before c
-abbrev pub IsRowPart : Size → Cells → Option ℤ → ℕ → ℕ → ℕ → List Bool → Type 0
-IsRowPart s cells value from row c marks = (j : ℕ) → j < cells_in s → row_of s j ≡ row → gap (column_of s from) (column_of s j) ≤ 1 → cell_at cells j ≡ value → column_of s j < c → is_marked marks j ≡ true
+abbrev pub IsRowPart : Size → Cells → Option ℤ → ℕ → ℕ → ℕ → ℕ → List Bool → Type 0
+IsRowPart s cells value from row low c marks = (j : ℕ) → j < cells_in s → row_of s j ≡ row → gap (column_of s from) (column_of s j) ≤ 1 → low ≤ column_of s j → cell_at cells j ≡ value → column_of s j < c → is_marked marks j ≡ true
 
 -- those in the rows before r
-abbrev pub IsAllPart : Size → Cells → Option ℤ → ℕ → ℕ → List Bool → Type 0
-IsAllPart s cells value from r marks = (j : ℕ) → j < cells_in s → gap (row_of s from) (row_of s j) ≤ 1 → gap (column_of s from) (column_of s j) ≤ 1 → cell_at cells j ≡ value → row_of s j < r → is_marked marks j ≡ true
+abbrev pub IsAllPart : Size → Cells → Option ℤ → ℕ → Bool → ℕ → List Bool → Type 0
+IsAllPart s cells value from after r marks = (j : ℕ) → j < cells_in s → gap (row_of s from) (row_of s j) ≤ 1 → gap (column_of s from) (column_of s j) ≤ 1 → IsFurther after (column_of s from) (column_of s j) → cell_at cells j ≡ value → row_of s j < r → is_marked marks j ≡ true
+
+-- a place of the list is the one on the right of the place before it, or begins the next row
+pub record IsAfter (found : List ℕ) (head : ℕ) : Type 0 where
+  pub some : 0 < head
+  pub place : slice_index_or found head 0 ≡ slice_index_or found (head - 1) 0 + 1
 
 -- the first places of the region in hand have no further neighbour
 abbrev pub IsRoundTo : Size → Cells → ℤ → ℕ → FloodState → Type 0

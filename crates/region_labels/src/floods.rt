@@ -1,19 +1,19 @@
 //! A region that is reached place by place.
-ghost use Rattle.std.specs.Prelude.{◌≡◌, ◌<◌, ◌≤◌, ◌+◌, ◌-◌, ◌*◌, ◌++◌, ◌∷◌, [], length, replicate, false, true, slice_set, slice_index_or, IfOk, OnOk, OnErr, IsSome, Some, ℤ};
+ghost use Rattle.std.specs.Prelude.{◌≡◌, ◌<◌, ◌≤◌, ◌+◌, ◌-◌, ◌*◌, ◌++◌, ◌∷◌, [], length, replicate, false, true, slice_set, slice_index_or, IfOk, OnOk, OnErr, IsSome, Some, ℕ, ℤ};
 ghost use Rattle.map_nums.specs.Grids.{IsSize, cells_in, cell_at, row_of, column_of, gap};
 ghost use Rattle.layer_tiles.specs.Tallies.{RisesBy};
-ghost use Rattle.region_labels.specs.Flood.{is_marked, marks_in, reached, IsGrown, IsRowMarked, IsAllMarked, IsFlooded, IsJoined};
+ghost use Rattle.region_labels.specs.Flood.{is_marked, marks_in, reached, IsGrown, IsRowMarked, IsAllMarked, IsFurther, IsAfter, IsFlooded, IsJoined};
 ghost use Rattle.region_labels.specs.Touched.{IsMarkedFor};
 
+use crate::marks::Marks;
 use layer_tiles::{Cell, Change, Extent, NoMemory, Tally};
 use std::alloc::Global;
 use std::marker::Model;
-use tile_work::PlaceSet;
 
 /// The places that were reached so far, and those of the region in hand in the order in which they were reached.
 #[derive(Drop)]
 pub struct Flood {
-    marks: PlaceSet,
+    marks: Marks,
     found: Vec<u32>,
     /// How many places were reached.
     count: u64,
@@ -33,12 +33,23 @@ impl Model for Flood {
 }
 
 impl Flood {
-    /// No place was reached.
+    /// No place was reached, and few are to be.
     pub fn new(alloc: Global, extent: Extent) -> Result<Flood, NoMemory>
         ensures { IfOk result (λ flood. flood ≡ record { size = extent; marks = replicate (cells_in extent) false; found = [] }) }
     {
         Ok(Flood {
-            marks: PlaceSet::new(alloc, extent)?,
+            marks: Marks::sparse(alloc, extent)?,
+            found: Vec::new(alloc),
+            count: 0,
+        })
+    }
+
+    /// No place was reached, and most are to be.
+    pub fn dense(alloc: Global, extent: Extent) -> Result<Flood, NoMemory>
+        ensures { IfOk result (λ flood. flood ≡ record { size = extent; marks = replicate (cells_in extent) false; found = [] }) }
+    {
+        Ok(Flood {
+            marks: Marks::dense(alloc, extent)?,
             found: Vec::new(alloc),
             count: 0,
         })
@@ -74,6 +85,17 @@ impl Flood {
         self.found.push(at)?;
         self.count += 1;
         Ok(())
+    }
+
+    /// Whether a place of the region in hand comes right after the one that was reached before it.
+    fn is_after(&self, head: usize) -> bool
+        requires { head < length self.now.found }
+        ensures { result ≡ true → IsAfter self.now.found head }
+    {
+        if head == 0 {
+            return false;
+        }
+        self.found[head - 1] as u64 + 1 == self.found[head] as u64
     }
 
     /// A next region is in hand.
@@ -128,13 +150,14 @@ fn reach<M: Tally>(
     flood.add(at)
 }
 
-/// Reaches the places of a row next to a place, whose column is told. At most three picks.
+/// Reaches the places of a row next to a place, whose column is told, from column `low` on. At most three picks.
 fn reach_row<M: Tally>(
     of: &Change<'_>,
     value: Cell,
     from: u32,
     row: u32,
     column: u32,
+    low: u32,
     flood: &mut Flood,
     tally: &mut M,
 ) -> Result<(), NoMemory>
@@ -142,14 +165,15 @@ fn reach_row<M: Tally>(
     requires row { row < of.now.size.rows }
     requires close { gap (row_of of.now.size from) row ≤ 1 }
     requires column { column ≡ column_of of.now.size from }
+    requires least { column ≤ low + 1 }
+    requires most { low ≤ column + 1 }
     requires extent { flood.old.size ≡ of.now.size }
     requires marks { length flood.old.marks ≡ cells_in of.now.size }
     ensures grown { IsGrown of.now.size of.now.cells value from flood.old flood.new }
-    ensures near { OnOk result (IsRowMarked of.now.size of.now.cells value from row flood.new.marks) }
+    ensures near { OnOk result (IsRowMarked of.now.size of.now.cells value from row low flood.new.marks) }
     ensures picks { RisesBy 0 3 (M.counts tally.old) (M.counts tally.new) }
 {
     let columns = of.extent().columns();
-    let low = column.saturating_sub(1);
     let high = (column + 2).min(columns);
     for c in low..high {
         reach(of, value, columns, row, c, flood, tally)?;
@@ -157,11 +181,26 @@ fn reach_row<M: Tally>(
     Ok(())
 }
 
-/// Reaches the neighbours of a place. At most nine picks.
+/// The first column next to a place whose places are to be reached; `after` where the place on its left was worked on.
+fn first_column(extent: Extent, from: u32, after: bool) -> u32
+    ensures least { column_of extent from ≤ result + 1 }
+    ensures most { result ≤ column_of extent from + 1 }
+    ensures further { (x : ℕ) → gap (column_of extent from) x ≤ 1 → IsFurther after (column_of extent from) x → result ≤ x }
+{
+    let column = from % extent.columns();
+    if after && column > 0 {
+        return column + 1;
+    }
+    column.saturating_sub(1)
+}
+
+/// Reaches the neighbours of a place, but for those next to the place on its left where that was worked on (`after`). At
+/// most nine picks.
 fn reach_all<M: Tally>(
     of: &Change<'_>,
     value: Cell,
     from: u32,
+    after: bool,
     flood: &mut Flood,
     tally: &mut M,
 ) -> Result<(), NoMemory>
@@ -169,16 +208,17 @@ fn reach_all<M: Tally>(
     requires extent { flood.old.size ≡ of.now.size }
     requires marks { length flood.old.marks ≡ cells_in of.now.size }
     ensures grown { IsGrown of.now.size of.now.cells value from flood.old flood.new }
-    ensures near { OnOk result (IsAllMarked of.now.size of.now.cells value from flood.new.marks) }
+    ensures near { OnOk result (IsAllMarked of.now.size of.now.cells value from after flood.new.marks) }
     ensures picks { RisesBy 0 9 (M.counts tally.old) (M.counts tally.new) }
 {
     let extent = of.extent();
     let row = from / extent.columns();
     let column = from % extent.columns();
+    let first = first_column(extent, from, after);
     let low = row.saturating_sub(1);
     let high = (row + 2).min(extent.rows());
     for r in low..high {
-        reach_row(of, value, from, r, column, flood, tally)?;
+        reach_row(of, value, from, r, column, first, flood, tally)?;
     }
     Ok(())
 }
@@ -203,12 +243,14 @@ pub fn reach_region<M: Tally>(
     ensures grows { marks_in flood.old.marks ≤ marks_in flood.new.marks }
     ensures picks { RisesBy 0 (9 * (marks_in flood.new.marks - marks_in flood.old.marks)) (M.counts tally.old) (M.counts tally.new) }
 {
+    let _size = of.extent();
     flood.clear();
     flood.add(root)?;
     let mut head = 0;
     while head < flood.found().len() {
         let at = flood.found()[head];
-        reach_all(of, value, at, flood, tally)?;
+        let after = flood.is_after(head);
+        reach_all(of, value, at, after, flood, tally)?;
         head += 1;
     }
     Ok(())

@@ -149,7 +149,7 @@ fn first_labels<M: Tally>(alloc: Global, of: &Change<'_>, tally: &mut M) -> Resu
     let extent = of.extent();
     let count = extent.cells();
     let mut labels = Working::new(alloc, extent, None)?;
-    let mut flood = Flood::new(alloc, extent)?;
+    let mut flood = Flood::dense(alloc, extent)?;
     label_all(of, &mut flood, &mut labels, tally)?;
     let worked = count as u64 + flood.count();
     let patch = labels.into_patch(tally)?;
