@@ -5,3 +5,4 @@ pub mod Mosts
 pub mod Powers
 pub mod Joins
 pub mod FirstCells
+pub mod Counting

@@ -8,6 +8,7 @@
 mod extremes;
 mod fronts;
 mod kernel;
+mod kinds;
 mod masks;
 mod numbers;
 mod places;

@@ -6,10 +6,11 @@ ghost use Rattle.layer_tiles.specs.PlaceByPlace.{IsPlacesAnswer};
 ghost use Rattle.tile_frame.specs.Frames.{IsRowAnswer, by_row};
 ghost use Rattle.focal_ops.specs.Masks.{HasHalves, IsGrown, numbers_round, statistic_round};
 
+use crate::kinds::{Kinds, statistic_by_kinds};
 use crate::masks::Mask;
 use crate::places::start_of;
 use layer_tiles::{Cell, Extent, KernelRefusal, Tile, Value};
-use map_nums::{Stat, statistic_in};
+use map_nums::Stat;
 use near_cells::NearCells;
 use std::alloc::Global;
 use tile_frame::put;
@@ -56,8 +57,11 @@ fn numbers_rows(
     let Ok(mut made) = Tile::new(alloc, extent, tile, Cell::null()) else {
         return Err(KernelRefusal::NoMemory);
     };
+    let mut kinds = Kinds::new();
     for r in 0..extent.place(tile).height {
-        numbers_row(stat, mask, near, extent, tile, r, numbers, &mut made)?;
+        numbers_row(
+            stat, mask, near, extent, tile, r, numbers, &mut kinds, &mut made,
+        )?;
     }
     Ok(made)
 }
@@ -71,6 +75,7 @@ fn numbers_row(
     tile: u32,
     r: u32,
     numbers: &mut [Value],
+    kinds: &mut Kinds,
     made: &mut Tile,
 ) -> Result<(), KernelRefusal>
     requires mask { HasHalves mask.now.reach mask.now.halves }
@@ -85,7 +90,7 @@ fn numbers_row(
     let start = (place.top + r) * extent.columns() + place.left;
     for c in 0..place.width {
         let count = collect(mask, near, r, c, numbers);
-        let answer = statistic_in(stat, &mut numbers[..count]);
+        let answer = statistic_by_kinds(stat, &mut numbers[..count], kinds);
         put(made, r, c, start + c, answer)?;
     }
     Ok(())
