@@ -101,9 +101,9 @@ module _ (s : Size) (cells : Cells) (z : ℤ) (value : Option ℤ) (root head fr
   around true t = elim (cases_lt (column_of s from) (column_of s j)) as (λ _. is_marked new.marks j ≡ true) [
     | inl m ↦ near j has.0 d.rows d.columns (λ _ _. m) (has.1 ∙ sym e)
     | inr m ↦ elim (cases_lt 0 (column_of s from)) as (λ _. is_marked new.marks j ≡ true) [
-        | inl k ↦ left_known t k m
-        | inr k ↦ near j has.0 d.rows d.columns (λ _ q. absurd (omega (arith, q, k))) (has.1 ∙ sym e)
-      ]
+      | inl k ↦ left_known t k m
+      | inr k ↦ near j has.0 d.rows d.columns (λ _ q. absurd (omega (arith, q, k))) (has.1 ∙ sym e)
+    ]
   ]
   around false t = near j has.0 d.rows d.columns (λ q _. absurd (not_both after q t)) (has.1 ∙ sym e)
 
