@@ -2,7 +2,7 @@
 --
 -- A value is what a path costs, and falls where a step gives less. Once the steps from each place were tried since its value fell, no
 -- step gives less, so by induction along a path no path does. The order of the queue does not matter to that.
-use Rattle.std.proofs.Common.{◌≡◌, ◌≢◌, ℕ, zero, suc, ◌+◌, ◌<◌, ◌≤◌, List, [], ◌∷◌, length, refl, sym, ◌∙◌, ap, arith, inl, inr, subst}
+use Rattle.std.proofs.Common.{◌≡◌, ◌≢◌, ℕ, suc, ◌+◌, ◌<◌, ◌≤◌, List, [], ◌∷◌, refl, sym, ◌∙◌, ap, arith, inl, inr, subst}
 use Rattle.std.specs.Prelude.{◌⊎◌}
 use Rattle.std.specs.List.{Contains}
 use Rattle.std.specs.List.Sorted.{IsPermutation}
@@ -10,7 +10,6 @@ use Rattle.std.proofs.lemmas.Bool.{cases_lt}
 use Rattle.std.proofs.lemmas.List.Sorted.{Contains-permutation}
 use Rattle.map_defs.specs.Nets.{Net, IsClosed, HasCosts, cost_in, IsLeastIn, IsEquation}
 use Rattle.map_defs.proofs.Nets.{agreeing_least}
-use Rattle.least_costs.specs.Ranks.{sum_to}
 use Rattle.least_costs.specs.Queue.{IsSetTo, IsKept}
 use Rattle.least_costs.specs.Filling.{IsRelaxed, IsFilling, IsOffering}
 use Rattle.least_costs.proofs.Equations.{same_or}
