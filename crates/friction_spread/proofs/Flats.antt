@@ -3,7 +3,6 @@ use Rattle.std.proofs.Common.{◌≡◌, inl, inr, ℕ, zero, suc, ◌+◌, ◌<
 use Rattle.std.specs.Prelude.{slice_set, ◌==◌, if◌then◌else◌}
 use Rattle.std.proofs.lemmas.Bool.{cases_lt}
 use Rattle.std.proofs.lemmas.List.{get_or_default, get_or_past, get_or-set_same, get_or-set_other, get_or_append_left, get_or_push, get_or-replicate, length-replicate}
-use Rattle.map_nums.specs.Grids.{cells_in}
 use Rattle.map_defs.specs.Nets.{IsLeastIn}
 use Rattle.map_defs.specs.Spread.{friction_at}
 use Rattle.map_defs.proofs.Nets.{one_least}

@@ -1,4 +1,4 @@
-use Rattle.std.proofs.Common.{ℕ, ◌≤◌, ◌∷◌, arith}
+use Rattle.std.proofs.Common.{arith}
 use Rattle.least_costs.proofs.Fills.{taken_out, filled_least}
 use Rattle.least_costs.proofs.Queues.{popped_length}
 use Rattle.friction_spread.specs.Costs.{net_of}

@@ -1,4 +1,4 @@
-use Rattle.std.proofs.Common.{◌≡◌, ℕ, ◌+◌, ◌<◌, get_or, refl, ap, sym, ◌∙◌, arith}
+use Rattle.std.proofs.Common.{◌≡◌, ◌+◌, ◌<◌, get_or, refl, ap, sym, ◌∙◌, arith}
 use Rattle.map_defs.specs.Spread.{friction_at}
 use Rattle.least_costs.proofs.Fills.{offered, offered_none}
 use Rattle.friction_spread.specs.Costs.{net_of, step_of}

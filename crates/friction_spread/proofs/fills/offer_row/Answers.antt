@@ -1,5 +1,5 @@
 use Rattle.std.proofs.Common.{sym, ◌∙◌}
-use Rattle.least_costs.proofs.Fills.{offered_then, offered_none}
+use Rattle.least_costs.proofs.Fills.{offered_then}
 use Rattle.friction_spread.specs.Costs.{net_of}
 use Rattle.friction_spread.specs.Flat.{costs_of}
 use Rattle.friction_spread.proofs.Rounds.{row_relaxed_next}

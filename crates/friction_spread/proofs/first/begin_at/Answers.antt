@@ -1,10 +1,10 @@
-use Rattle.std.proofs.Common.{◌≡◌, ℕ, ◌<◌, ◌≤◌, [], true, refl, arith, sym, ◌∙◌}
+use Rattle.std.proofs.Common.{◌≡◌, ◌<◌, [], true, refl, arith, sym, ◌∙◌}
 use Rattle.std.specs.Prelude.{is_some}
 use Rattle.map_nums.specs.Grids.{cell_at}
 use Rattle.map_defs.specs.Spread.{friction_at}
 use Rattle.least_costs.proofs.Queues.{pushed_kept, pushed_there}
 use Rattle.least_costs.proofs.Fills.{lowered}
-use Rattle.friction_spread.specs.Costs.{base_of, net_of}
+use Rattle.friction_spread.specs.Costs.{net_of}
 use Rattle.friction_spread.specs.Flat.{costs_of}
 use Rattle.friction_spread.proofs.Flats.{cost_set}
 use Rattle.friction_spread.proofs.Grounds.{base_source, base_barrier, base_other}

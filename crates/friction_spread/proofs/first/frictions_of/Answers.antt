@@ -1,6 +1,6 @@
 use Rattle.std.proofs.Common.{◌+◌, arith}
-use Rattle.layer_tiles.proofs.Rising.{rises_none, rises_then, rises_within}
-use Rattle.friction_spread.proofs.Flats.{no_frictions, one_friction_more}
+use Rattle.layer_tiles.proofs.Rising.{rises_then, rises_within}
+use Rattle.friction_spread.proofs.Flats.{one_friction_more}
 use Rattle.friction_spread.proofs.first.frictions_of.Goals as goal
 
 pub loop-at-preserved : goal.loop-at-preserved

@@ -1,7 +1,7 @@
 use Rattle.std.proofs.Common.{◌≡◌, ℕ, ◌+◌, ◌<◌, ap, sym, ◌∙◌, arith, subst}
 use Rattle.std.specs.List.{Contains}
 use Rattle.map_defs.specs.Spread.{friction_at}
-use Rattle.friction_spread.specs.Costs.{values, net_of, step_of}
+use Rattle.friction_spread.specs.Costs.{values, step_of}
 use Rattle.friction_spread.specs.Spots.{weighed}
 use Rattle.friction_spread.proofs.Least.{step_to_barrier, step_weighed}
 use Rattle.friction_spread.proofs.offers.offer.Given.{Over}
