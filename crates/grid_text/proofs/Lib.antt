@@ -21,7 +21,7 @@ mod FewDigits
 mod CellLists
 mod Splits
 mod HeaderLines
-mod Spaces
+mod Blanks
 mod RowsOfTiles
 mod RowTexts
 mod Looks

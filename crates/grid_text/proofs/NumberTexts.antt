@@ -56,7 +56,7 @@ drop_whole : (text : List ℕ) → drop (length text) text ≡ []
 drop_whole [] = refl
 drop_whole (b ∷ text) = drop_whole text
 
-natural_digits : (text : List ℕ) → 0 < length text → AreDigits text → natural_in text ≡ Some (digits_number text)
+pub natural_digits : (text : List ℕ) → 0 < length text → AreDigits text → natural_in text ≡ Some (digits_number text)
 natural_digits text some h =
     natural_is text text [] (length text) (sym (prefix_all is_ascii_digit text h)) (λ e. omega (arith, some, e)) (sym (take_all (length text) text (omega arith))) (sym (drop_whole text)) refl
 

@@ -15,11 +15,11 @@ rows-more f a (suc n) =
     ∙ ap (λ i. (f a ++ flat_map f (range_with_len (a + 1) n)) ++ f i) (omega arith)
 
 -- one more row
-pub next_row : (start text now : List ℕ) (s : Size) (cells row : Cells) (r : ℕ) → text ≡ start ++ flat_map (row_text s cells) (range_with_len 0 r) → row ≡ take s.columns (drop (r * s.columns) cells) → now ≡ text ++ (spaced (map cell_text row) ++ codes "\n") → now ≡ start ++ flat_map (row_text s cells) (range_with_len 0 (r + 1))
-next_row start text now s cells row r t e n =
+pub next_row : (start text now : List ℕ) (s : Size) (cells : Cells) (r : ℕ) → text ≡ start ++ flat_map (row_text s cells) (range_with_len 0 r) → now ≡ text ++ row_text s cells r → now ≡ start ++ flat_map (row_text s cells) (range_with_len 0 (r + 1))
+next_row start text now s cells r t n =
     let f = row_text s cells in
     let before = flat_map f (range_with_len 0 r) in
-    rw (n, t, e, add-one)
+    rw (n, t, add-one)
     (append_assoc start before (f r) ∙ ap (λ x. start ++ x) (sym (rows-more f 0 r ∙ ap (λ i. before ++ f i) (omega arith))))
 
 -- the header, and all rows

@@ -1,5 +1,5 @@
 -- A row of a grid, from the tiles that it crosses.
-use Rattle.std.proofs.Common.{◌≡◌, ℕ, ◌+◌, ◌-◌, ◌*◌, ◌/◌, ◌%◌, ◌<◌, ◌≤◌, min, length, take, drop, refl, sym, ap, ◌∙◌, ◌++◌, arith}
+use Rattle.std.proofs.Common.{◌≡◌, ℕ, ◌+◌, ◌-◌, ◌*◌, ◌/◌, ◌%◌, ◌<◌, ◌≤◌, min, length, take, drop, refl, sym, ap, ◌∙◌, ◌++◌, arith, length-take, length-drop}
 use Rattle.std.proofs.Math.Seq.{take-add}
 use Rattle.std.proofs.lemmas.List.{drop-drop}
 use Rattle.std.proofs.lemmas.Nat.{div-mul-add, mod-mul-add, mul-add-lt, mul-le}
@@ -67,3 +67,9 @@ row-more s cells row part r k t h n c e p =
 pub row_whole : (s : Size) (cells : Cells) (r k : ℕ) → k ≡ tiles_across s → take (min (32 * k) s.columns) (drop (r * s.columns) cells) ≡ take s.columns (drop (r * s.columns) cells)
 unfolding tiles_across
 row_whole s cells r k e = ap (λ n. take n (drop (r * s.columns) cells)) (omega arith)
+
+-- no row is empty
+pub row_some : (s : Size) (cells : Cells) (r : ℕ) → IsSize s → length cells ≡ cells_in s → r < s.rows → 0 < length (take s.columns (drop (r * s.columns) cells))
+row_some s cells r h n l =
+    let rest : r * s.columns + s.columns ≤ s.rows * s.columns = omega (arith, mul-le (r + 1) s.columns s.rows s.columns (omega arith) (omega arith)) in
+    simp (length-take, length-drop) (omega (arith, h.some_column, n, rest))

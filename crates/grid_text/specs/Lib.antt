@@ -14,6 +14,7 @@ pub mod BadKeys
 pub mod Refusals
 pub mod Settled
 pub mod Printed
+pub mod Blanks
 pub mod ReadBack
 pub mod Reads
 pub mod Rows

@@ -1,5 +1,5 @@
 //! The whole numbers of a text.
-ghost use Rattle.std.specs.Prelude.{◌≡◌, ◌<◌, ◌≤◌, ◌^◌, ◌==◌, true, length};
+ghost use Rattle.std.specs.Prelude.{◌≡◌, ◌<◌, ◌≤◌, ◌^◌, ◌==◌, ◌↔◌, ◌&&◌, true, nat_le, length, IsSome, IfSome, IsTrue};
 ghost use Rattle.std.specs.List.{list_all, prefix_len};
 ghost use Rattle.std.specs.Char.{is_ascii_digit};
 ghost use Rattle.grid_text.specs.Numbers.{are_digits, digits_number, unsigned, is_negative, is_zero_fraction, number_in, count_in};
@@ -59,6 +59,25 @@ fn digits_number(text: &[u8]) -> u64
     number
 }
 
+// The number that a text of few digits stands for, none where it is any other.
+fn few_digits(text: &[u8]) -> Option<u64>
+    ensures some { IsSome result ↔ IsTrue (are_digits text.now && nat_le (length text.now) 18) }
+    ensures value { IfSome result (λ n. n ≡ digits_number text.now) }
+    ensures bound { IfSome result (λ n. n < 10 ^ 18) }
+{
+    if text.is_empty() || text.len() > MOST_DIGITS {
+        return None;
+    }
+    let mut number = 0;
+    for byte in text {
+        if !byte.is_ascii_digit() {
+            return None;
+        }
+        number = 10 * number + (*byte - b'0') as u64;
+    }
+    Some(number)
+}
+
 fn are_zeros(text: &[u8]) -> bool
     ensures { result ≡ list_all (λ z. z == 48) text.now }
 {
@@ -92,6 +111,9 @@ fn significant(text: &[u8]) -> &[u8]
 fn read_natural(text: &[u8]) -> Natural
     ensures { IsNatural text.now result }
 {
+    if let Some(number) = few_digits(text) {
+        return Natural::Short(number);
+    }
     let count = digits_len(text);
     let (digits, fraction) = text.split_at(count);
     if count == 0 || !is_zero_fraction(fraction) {

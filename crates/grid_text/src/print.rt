@@ -1,10 +1,11 @@
 //! Printing a grid.
-ghost use Rattle.std.specs.Prelude.{◌≡◌, ◌*◌, ◌<◌, ◌++◌, codes, decimal, map, take, drop, OnOk, IfOk};
+ghost use Rattle.std.specs.Prelude.{◌≡◌, ◌-◌, ◌*◌, ◌<◌, ◌++◌, codes, decimal, length, take, OnOk, IfOk};
 ghost use Rattle.std.specs.Fmt.{signed_decimal};
 ghost use Rattle.layer_tiles.specs.Tiles.{tiles_in, tiles_across};
 ghost use Rattle.layer_tiles.specs.Tallies.{RisesBy};
 ghost use Rattle.grid_text.specs.Headers.{IsHeader};
-ghost use Rattle.grid_text.specs.Printed.{null_number, cell_text, spaced, x_key, y_key, header_text, rows_text, grid_text};
+ghost use Rattle.grid_text.specs.Blanks.{blanked};
+ghost use Rattle.grid_text.specs.Printed.{null_number, cell_text, x_key, y_key, header_text, row_text, rows_text, grid_text};
 ghost use Rattle.grid_text.specs.ReadBack.{ReadsAs};
 
 use crate::{Corner, Header};
@@ -13,9 +14,6 @@ use layer_tiles::{Cell, Extent, Layer, Tally};
 use map_nums::{NoMemory, Value};
 use std::alloc::Global;
 
-/// The number that stands for null: no cell can hold it.
-const NULL_NUMBER: Value = -2_000_000_001;
-
 fn put_number(text: &mut Vec<u8>, number: Value) -> Result<(), NoMemory>
     ensures { OnOk result (text.new.items ≡ text.old.items ++ signed_decimal number) }
 {
@@ -23,11 +21,19 @@ fn put_number(text: &mut Vec<u8>, number: Value) -> Result<(), NoMemory>
     Ok(())
 }
 
+// The number that stands for null: no cell can hold it.
+fn put_null(text: &mut Vec<u8>) -> Result<(), NoMemory>
+    ensures { OnOk result (text.new.items ≡ text.old.items ++ signed_decimal null_number) }
+{
+    text.extend_from_slice(b"-2000000001")?;
+    Ok(())
+}
+
 fn put_cell(text: &mut Vec<u8>, cell: Cell) -> Result<(), NoMemory>
     ensures { OnOk result (text.new.items ≡ text.old.items ++ cell_text cell) }
 {
     match cell.get() {
-        None => put_number(text, NULL_NUMBER),
+        None => put_null(text),
         Some(value) => put_number(text, value),
     }
 }
@@ -74,7 +80,7 @@ fn put_null_line(text: &mut Vec<u8>) -> Result<(), NoMemory>
     ensures { OnOk result (text.new.items ≡ text.old.items ++ codes "NODATA_value " ++ signed_decimal null_number ++ codes "\n") }
 {
     text.extend_from_slice(b"NODATA_value ")?;
-    put_number(text, NULL_NUMBER)?;
+    put_null(text)?;
     text.push(b'\n')?;
     Ok(())
 }
@@ -91,54 +97,53 @@ fn put_header(text: &mut Vec<u8>, header: &Header, extent: Extent) -> Result<(),
     Ok(())
 }
 
-// Gathers a row of a layer from its tiles: one look each.
-fn gather_row<M: Tally>(
-    layer: &Layer,
-    r: u32,
-    row: &mut Vec<Cell>,
-    tally: &mut M,
-) -> Result<(), NoMemory>
-    requires { r < layer.now.size.rows }
-    ensures row { OnOk result (row.new.items ≡ take layer.now.size.columns (drop (r * layer.now.size.columns) layer.now.cells)) }
-    ensures looks { RisesBy (tiles_across layer.now.size) 0 (M.counts tally.old) (M.counts tally.new) }
+// Cells of a line, with a blank after each.
+fn put_cells(text: &mut Vec<u8>, cells: &[Cell]) -> Result<(), NoMemory>
+    ensures { OnOk result (text.new.items ≡ text.old.items ++ blanked cells.now) }
 {
-    row.clear();
-    let across = layer.extent().tiles_across();
-    let first = r / 32 * across;
-    for k in 0..across {
-        let tile = layer.view(first + k, tally);
-        row.extend_from_slice(tile.row(r % 32))?;
+    for cell in cells {
+        put_cell(text, *cell)?;
+        text.push(b' ')?;
     }
     Ok(())
 }
 
-// A line of cells.
-fn put_row(text: &mut Vec<u8>, row: &[Cell]) -> Result<(), NoMemory>
-    ensures { OnOk result (text.new.items ≡ text.old.items ++ (spaced (map cell_text row.now) ++ codes "\n")) }
+// Ends a line: a line feed stands in place of the last blank.
+fn end_line(text: &mut Vec<u8>) -> Result<(), NoMemory>
+    ensures { OnOk result (text.new.items ≡ take (length text.old.items - 1) text.old.items ++ codes "\n") }
 {
-    for (i, cell) in row.iter().enumerate() {
-        if i > 0 {
-            text.push(b' ')?;
-        }
-        put_cell(text, *cell)?;
-    }
+    text.pop();
     text.push(b'\n')?;
     Ok(())
 }
 
-fn put_rows<M: Tally>(
-    alloc: Global,
+// A line of the cells of a row, from the tiles that it crosses: one look each.
+fn put_row<M: Tally>(
     text: &mut Vec<u8>,
     layer: &Layer,
+    r: u32,
     tally: &mut M,
 ) -> Result<(), NoMemory>
+    requires { r < layer.now.size.rows }
+    ensures row { OnOk result (text.new.items ≡ text.old.items ++ row_text layer.now.size layer.now.cells r) }
+    ensures looks { RisesBy (tiles_across layer.now.size) 0 (M.counts tally.old) (M.counts tally.new) }
+{
+    let across = layer.extent().tiles_across();
+    let first = r / 32 * across;
+    for k in 0..across {
+        let tile = layer.view(first + k, tally);
+        put_cells(text, tile.row(r % 32))?;
+    }
+    end_line(text)?;
+    Ok(())
+}
+
+fn put_rows<M: Tally>(text: &mut Vec<u8>, layer: &Layer, tally: &mut M) -> Result<(), NoMemory>
     ensures rows { OnOk result (text.new.items ≡ text.old.items ++ rows_text layer.now.size layer.now.cells) }
     ensures looks { RisesBy (layer.now.size.rows * tiles_across layer.now.size) 0 (M.counts tally.old) (M.counts tally.new) }
 {
-    let mut row = Vec::new(alloc);
     for r in 0..layer.extent().rows() {
-        gather_row(layer, r, &mut row, tally)?;
-        put_row(text, &row)?;
+        put_row(text, layer, r, tally)?;
     }
     Ok(())
 }
@@ -157,6 +162,6 @@ pub fn print_grid<M: Tally>(
 {
     let mut text = Vec::new(alloc);
     put_header(&mut text, header, layer.extent())?;
-    put_rows(alloc, &mut text, layer, tally)?;
+    put_rows(&mut text, layer, tally)?;
     Ok(text)
 }

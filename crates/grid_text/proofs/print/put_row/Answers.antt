@@ -1,15 +1,52 @@
-use Rattle.std.proofs.Common.{ℕ, Vec, Global, ap, ◌∙◌, arith}
-use Rattle.grid_text.proofs.Spaces.{next_word, first_word}
+use Rattle.std.proofs.Common.{◌+◌, ◌*◌, ◌/◌, ◌%◌, ◌<◌, min, take, drop, refl, ap, sym, subst, ◌∙◌, ◌++◌, arith}
+use Rattle.layer_tiles.specs.Tiles.{Block, tiles_across}
+use Rattle.grid_text.specs.Blanks.{blanked}
+use Rattle.grid_text.proofs.RowsOfTiles.{few_tiles, crosses, row-more, row_whole, row_some}
+use Rattle.grid_text.proofs.Looks.{then_looks}
+use Rattle.grid_text.proofs.Blanks.{next_piece, ended_line}
 use Rattle.grid_text.proofs.print.put_row.Goals as goal
-use Rattle.grid_text.proofs.print.put_row.Goals.{then-i-gt0+in_ok-push, else-i-gt0}
 
-pub loop-i-preserved : goal.loop-i-preserved
-loop-i-preserved c =
-    elim c.if-i-gt0.branch [
-      | then-i-gt0+in_ok-push w ↦
-          next_word c.args.text.now.items c.loop-i.text.items c.if-i-gt0.text.items c.put_cell.new.text.items c.args.row.now c.loop-i.i c.index-row-i.result
-          c.loop-i.invariant (ap (λ (v : Vec ℕ Global). v.items) w.text-is ∙ w.in_ok-push.ensures.items) c.in_ok-put_cell.ensures w.if-i-gt0.true c.loop-i-test.true c.index-row-i.is
-      | else-i-gt0 w ↦
-          first_word c.args.text.now.items c.if-i-gt0.text.items c.put_cell.new.text.items c.args.row.now c.loop-i.i c.index-row-i.result
-          (ap (λ (v : Vec ℕ Global). v.items) w.text-is ∙ c.loop-i.invariant) c.in_ok-put_cell.ensures (omega (arith, w.if-i-gt0.false)) c.loop-i-test.true c.index-row-i.is
-    ]
+pub overflow_mul-first : goal.overflow_mul-first
+overflow_mul-first g c =
+    let few = few_tiles c.args.layer.now.size c.args.r c.tiles_across-across.result c.extent.ensures.layer.size c.requires (c.tiles_across-across.ensures.across ∙ ap tiles_across c.extent.ensures.extent) in
+    omega (arith, few.0)
+
+pub overflow_add-first : goal.overflow_add-first
+overflow_add-first g c =
+    let few = few_tiles c.args.layer.now.size c.args.r c.tiles_across-across.result c.extent.ensures.layer.size c.requires (c.tiles_across-across.ensures.across ∙ ap tiles_across c.extent.ensures.extent) in
+    omega (arith, few.0, few.1, c.loop-k-test.true)
+
+pub view-tile-requires : goal.view-tile-requires
+view-tile-requires g c =
+    (crosses c.args.layer.now.size c.args.r c.loop-k.k c.tiles_across-across.result (c.tiles_across-across.ensures.across ∙ ap tiles_across c.extent.ensures.extent) c.requires c.loop-k-test.true).within
+
+pub row-requires : goal.row-requires
+row-requires g c =
+    subst (λ (b : Block). c.args.r % 32 < b.height) (sym c.view-tile.ensures.tile)
+    (crosses c.args.layer.now.size c.args.r c.loop-k.k c.tiles_across-across.result (c.tiles_across-across.ensures.across ∙ ap tiles_across c.extent.ensures.extent) c.requires c.loop-k-test.true).row
+
+pub loop-k-preserved : goal.loop-k-preserved
+loop-k-preserved g c =
+    let layer = c.args.layer.now in
+    let before = take (min (32 * c.loop-k.k) layer.size.columns) (drop (c.args.r * layer.size.columns) layer.cells) in
+    let after = take (min (32 * (c.loop-k.k + 1)) layer.size.columns) (drop (c.args.r * layer.size.columns) layer.cells) in
+    let tile = crosses layer.size c.args.r c.loop-k.k c.tiles_across-across.result (c.tiles_across-across.ensures.across ∙ ap tiles_across c.extent.ensures.extent) c.requires c.loop-k-test.true in
+    record {
+      row =
+          next_piece c.args.text.now.items c.loop-k.text.items c.put_cells.new.text.items before c.row.result.now after c.loop-k.invariant.row c.in_ok-put_cells.ensures
+          (row-more layer.size layer.cells before c.row.result.now c.args.r c.loop-k.k (c.args.r / 32 * c.tiles_across-across.result + c.loop-k.k) c.extent.ensures.layer.size c.extent.ensures.layer.cells tile refl
+          (c.row.ensures.row ∙ ap (λ (b : Block). take b.width (drop (c.args.r % 32 * b.width) b.cells)) c.view-tile.ensures.tile));
+      looks = then_looks c.loop-k.k _ _ _ c.loop-k.invariant.looks c.view-tile.ensures.look;
+    }
+
+pub returns-clause-row : goal.returns-clause-row
+returns-clause-row g c =
+    let layer = c.args.layer.now in
+    let row = take layer.size.columns (drop (c.args.r * layer.size.columns) layer.cells) in
+    ended_line c.args.text.now.items c.loop-k.text.items c.end_line.new.text.items row
+    (row_some layer.size layer.cells c.args.r c.extent.ensures.layer.size c.extent.ensures.layer.cells c.requires)
+    (c.loop-k.invariant.row
+    ∙ ap (λ cells. c.args.text.now.items ++ blanked cells)
+    (row_whole layer.size layer.cells c.args.r c.loop-k.k
+    (omega (arith, c.loop-k-test.false, c.loop-k.auto.k-end) ∙ c.tiles_across-across.ensures.across ∙ ap tiles_across c.extent.ensures.extent)))
+    c.in_ok-end_line.ensures

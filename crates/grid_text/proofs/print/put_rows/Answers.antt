@@ -10,8 +10,7 @@ loop-r-preserved g c =
     let across = tiles_across layer.size in
     record {
       rows =
-          next_row c.args.text.now.items c.loop-r.text.items c.put_row.new.text.items layer.size layer.cells c.deref.result.now c.loop-r.r c.loop-r.invariant.rows
-          (c.deref.ensures.value ∙ c.in_ok-gather_row.ensures.row) c.in_ok-put_row.ensures;
+          next_row c.args.text.now.items c.loop-r.text.items c.put_row.new.text.items layer.size layer.cells c.loop-r.r c.loop-r.invariant.rows c.in_ok-put_row.ensures.row;
       looks =
-          then_rises (c.loop-r.r * across) across ((c.loop-r.r + 1) * across) _ _ _ c.loop-r.invariant.looks c.in_ok-gather_row.ensures.looks (omega arith);
+          then_rises (c.loop-r.r * across) across ((c.loop-r.r + 1) * across) _ _ _ c.loop-r.invariant.looks c.in_ok-put_row.ensures.looks (omega arith);
     }
