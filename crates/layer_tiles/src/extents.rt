@@ -1,29 +1,39 @@
 //! The size of a grid, and its tiles.
 ghost use Rattle.std.specs.Prelude.{◌≡◌, ◌↔◌, ◌<◌, ◌≤◌, ℕ, IsSome, IfSome};
-ghost use Rattle.map_nums.specs.Grids.{Size, IsSize, cells_in};
+ghost use Rattle.map_nums.specs.Grids.{Size, IsSize, cells_in, row_of, column_of};
 ghost use Rattle.layer_tiles.specs.Tiles.{tiles_in, tile_of, tile_size, place_in, tiles_across, tiles_down, IsPlaced};
 ghost use Rattle.layer_tiles.specs.Places.{IsPlaceOf};
 ghost use Rattle.layer_tiles.specs.Runs.{run_length};
 
 use std::marker::Model;
 
+/// A power of two above the product of any row's length with any place.
+const SCALED_ONE: u64 = 8_589_934_592;
+
 /// The rows and columns of a grid.
 #[derive(Clone, Copy)]
 pub struct Extent {
     rows: u32,
     columns: u32,
+    /// `SCALED_ONE` by the columns, rounded down, and one more: a product with it finds a row sooner than a division.
+    scale: u64,
 }
 
 impl Model for Extent {
+    ghost use Rattle.std.specs.Prelude.{◌≡◌};
+    ghost use Rattle.std.proofs.Common.{ap, sym};
     ghost use Rattle.map_nums.specs.Grids.{Size, IsSize};
+    ghost use Rattle.layer_tiles.specs.Scales.{scale_of};
 
     ghost Value = { Size };
 
     ghost view = { λ e. record { rows = e.rows; columns = e.columns } };
 
-    ghost invariant = { λ e. IsSize (record { rows = e.rows; columns = e.columns }) };
+    ghost invariant = { λ e. IsSize (record { rows = e.rows; columns = e.columns }) × (e.scale ≡ scale_of (record { rows = e.rows; columns = e.columns })) };
 
-    ghost inverse = { λ s. record { rows = s.rows; columns = s.columns } };
+    ghost inverse = { λ s. record { rows = s.rows; columns = s.columns; scale = scale_of s } };
+
+    ghost inverse_ok = { λ a h. ap (λ n. record { rows = a.rows; columns = a.columns; scale = n }) (sym h.1) };
 }
 
 impl Extent {
@@ -35,7 +45,11 @@ impl Extent {
         if rows < 1 || rows > 4096 || columns < 1 || columns > 4096 || rows * columns > 1_500_000 {
             return None;
         }
-        Some(Extent { rows, columns })
+        Some(Extent {
+            rows,
+            columns,
+            scale: SCALED_ONE / u64::from(columns) + 1,
+        })
     }
 
     /// The extent of one cell.
@@ -43,6 +57,7 @@ impl Extent {
         Extent {
             rows: 1,
             columns: 1,
+            scale: SCALED_ONE + 1,
         }
     }
 
@@ -94,13 +109,37 @@ impl Extent {
         (self.rows + 31) / 32 * ((self.columns + 31) / 32)
     }
 
+    /// The row of a cell.
+    #[inline]
+    pub fn row_of(&self, at: u32) -> u32
+        requires { at < cells_in self.now }
+        ensures row { result ≡ row_of self.now at }
+        ensures within { result < self.now.rows }
+        ensures size { IsSize self.now }
+    {
+        (u64::from(at) * self.scale / SCALED_ONE) as u32
+    }
+
+    /// The column of a cell.
+    #[inline]
+    pub fn column_of(&self, at: u32) -> u32
+        requires { at < cells_in self.now }
+        ensures column { result ≡ column_of self.now at }
+        ensures within { result < self.now.columns }
+        ensures size { IsSize self.now }
+    {
+        at - self.row_of(at) * self.columns
+    }
+
     /// The tile of a cell.
     #[tactic(auto, unfolding(crate::specs::Tiles::tile_of, crate::specs::Tiles::tiles_across))]
     pub fn tile_of(&self, at: u32) -> u32
         requires { at < cells_in self.now }
         ensures { result ≡ tile_of self.now at }
     {
-        at / self.columns / 32 * ((self.columns + 31) / 32) + at % self.columns / 32
+        let row = self.row_of(at);
+        let column = self.column_of(at);
+        row / 32 * ((self.columns + 31) / 32) + column / 32
     }
 
     /// How many cells lie together from one on, to the end of its row within its tile.
@@ -110,7 +149,7 @@ impl Extent {
         ensures length { result ≡ run_length self.now at }
         ensures few { result ≤ 32 }
     {
-        let column = at % self.columns;
+        let column = self.column_of(at);
         (32 - column % 32).min(self.columns - column) as usize
     }
 
@@ -122,9 +161,10 @@ impl Extent {
         ensures tile { tile_of self.now at < tiles_in self.now }
     {
         let columns = self.columns();
-        let column = at % columns;
+        let row = self.row_of(at);
+        let column = self.column_of(at);
         let width = (columns - column / 32 * 32).min(32);
-        (at / columns % 32 * width + column % 32) as usize
+        (row % 32 * width + column % 32) as usize
     }
 
     /// Where a tile lies.
