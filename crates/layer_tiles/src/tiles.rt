@@ -2,9 +2,9 @@
 ghost use Rattle.std.specs.Prelude.{◌≡◌, ◌+◌, ◌*◌, ◌<◌, ◌≤◌, length, take, drop, replicate, slice_set, IfOk, IsTrue, ◌↔◌};
 ghost use Rattle.map_nums.specs.Grids.{cell_at};
 ghost use Rattle.layer_tiles.specs.Cells.{AreCells};
-ghost use Rattle.layer_tiles.specs.Tiles.{Block, IsBlock, block_row, tiles_in, tile_size, tile_height, tile_width};
+ghost use Rattle.layer_tiles.specs.Tiles.{Block, IsBlock, ArePut, IsRowSet, block_row, tiles_in, tile_size, tile_height, tile_width};
 
-use crate::cells::Cell;
+use crate::cells::{Cell, are_cells};
 use crate::extents::Extent;
 use crate::views::TileView;
 use map_nums::NoMemory;
@@ -81,6 +81,17 @@ impl Tile {
         self.cells[at] = cell;
     }
 
+    /// Sets a row, counted from 0 within the tile.
+    pub fn set_row(&mut self, r: u32, cells: &[Cell])
+        requires row { r < self.old.height }
+        requires width { length cells.now ≡ self.old.width }
+        ensures { IsRowSet r cells.now self.old self.new }
+    {
+        are_cells(cells);
+        let first = r as usize * self.width;
+        put_cells(&mut self.cells, first, cells);
+    }
+
     /// A row of the tile, counted from 0 within it.
     pub fn row(&self, r: u32) -> &[Cell]
         requires { r < self.now.height }
@@ -117,14 +128,24 @@ impl Tile {
 }
 
 /// Whether two lists hold the same cells.
-pub(crate) fn same_cells(one: &[Cell], other: &[Cell]) -> bool
+pub fn same_cells(one: &[Cell], other: &[Cell]) -> bool
     requires { length one.now ≡ length other.now }
     ensures { IsTrue result ↔ (one.now ≡ other.now) }
 {
+    // The first cell that differs does not end the loop: without a branch it becomes one of vectors.
+    let mut same = true;
     for k in 0..one.len() {
-        if !one[k].same(&other[k]) {
-            return false;
-        }
+        same &= one[k].same(&other[k]);
     }
-    true
+    same
+}
+
+/// Writes cells over those of a list, from a place on.
+fn put_cells(list: &mut [Cell], first: usize, cells: &[Cell])
+    requires { first + length cells.now ≤ length list.old }
+    ensures { ArePut first (length cells.now) cells.now list.old list.new }
+{
+    for c in 0..cells.len() {
+        list[first + c] = cells[c];
+    }
 }
