@@ -1,8 +1,8 @@
 -- Places in the order of tiles.
-use Rattle.std.proofs.Common.{◌≡◌, ◌≢◌, inl, inr, ℕ, ◌+◌, ◌-◌, ◌*◌, ◌/◌, ◌%◌, ◌<◌, ◌≤◌, List, [], ◌∷◌, ◌++◌, length, get_or, drop, Option, ℤ, refl, sym, ◌∙◌, ap, subst, arith}
+use Rattle.std.proofs.Common.{◌≡◌, ◌≢◌, inl, inr, ℕ, zero, suc, ◌+◌, ◌-◌, ◌*◌, ◌/◌, ◌%◌, ◌<◌, ◌≤◌, List, [], ◌∷◌, ◌++◌, length, get_or, drop, Option, None, ℤ, refl, sym, ◌∙◌, ap, subst, arith}
 use Rattle.std.proofs.lemmas.Bool.{cases_lt}
 use Rattle.std.proofs.lemmas.Nat.{mod-mul-add}
-use Rattle.std.proofs.lemmas.List.{get_or_append_left, get_or_push, length_push, get_or-take, get_or-drop}
+use Rattle.std.proofs.lemmas.List.{get_or_append_left, get_or_default, get_or_push, length_push, get_or-take, get_or-drop}
 use Rattle.map_nums.specs.Grids.{Size, IsSize, Cells, cell_at, cells_in}
 use Rattle.layer_tiles.specs.Tiles.{tile_of, tile_start, tile_top, tile_left, tiles_across, tile_height, tile_width, tiles_in, tile_cells, tile_block, block_row}
 use Rattle.layer_tiles.specs.Places.{IsPlaceOf}
@@ -167,6 +167,21 @@ row_end s t r c h l p w one other old found k a before after u v b =
 -- before the first column
 pub row_begun : (s : Size) (t r : ℕ) (one other : Cells) (old : List ℕ) → AddsRowTo s t r 0 one other old old
 row_begun s t r one other old before after u v b = let P : ℕ → Type 0 = λ n. AreChangedTo s before after n old in subst P (omega arith) b
+
+-- a row that stays
+row_stays : (s : Size) (t r c : ℕ) → IsSize s → t < tiles_in s → r < tile_height s t → c ≤ tile_width s t → (row : Cells) (old : List ℕ) → length row ≡ tile_width s t → AddsRowTo s t r c row row old old
+row_stays s t r zero h l p q row old n = row_begun s t r row row old
+row_stays s t r (suc c) h l p q row old n =
+    let k : c < tile_width s t = omega (arith, q) in
+    let within : c < length row = omega (arith, k, n) in
+    let x = get_or row c None in
+    let same = get_or_default row c None x within in
+    let next : c + 1 ≡ suc c = omega arith in
+    subst (λ m. AddsRowTo s t r m row row old old) next (row_pass s t r c h l p k row row old old (row_stays s t r c h l p (omega (arith, q)) row old n) x x same same refl)
+
+pub row_equal : (s : Size) (t r : ℕ) → IsSize s → t < tiles_in s → r < tile_height s t → r < 32 → tile_width s t ≤ 32 → (one other : Cells) (old : List ℕ) → length one ≡ tile_width s t → one ≡ other → AddsRowTo s t r 32 one other old old
+row_equal s t r h l p u w one other old n e =
+    subst (λ (cells : Cells). AddsRowTo s t r 32 one cells old old) e (row_end s t r (tile_width s t) h l u (omega arith) one one old old w (row_stays s t r (tile_width s t) h l p (omega arith) one old n))
 
 -- ---- tiles
 

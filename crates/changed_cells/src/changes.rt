@@ -6,7 +6,7 @@ ghost use Rattle.layer_tiles.specs.Tallies.{RisesBy};
 ghost use Rattle.layer_tiles.specs.Changes.{cells_before};
 ghost use Rattle.changed_cells.specs.Changed.{AreChanged, AreChangedTo, AddsRowTo, IsAddedIf};
 
-use layer_tiles::{Cell, Change, Extent, NoMemory, Tally, TileView};
+use layer_tiles::{Cell, Change, Extent, NoMemory, Tally, TileView, same_cells};
 use std::alloc::Global;
 
 /// The places at which an operand changed, each once, tile by tile and row by row. Two looks for each touched tile.
@@ -68,6 +68,28 @@ fn add_rows(
 
 /// Adds the places of a row of a tile at which its cells differ.
 fn add_row(
+    extent: Extent,
+    tile: u32,
+    r: u32,
+    before: &[Cell],
+    after: &[Cell],
+    found: &mut Vec<u32>,
+) -> Result<(), NoMemory>
+    requires within { tile < tiles_in extent }
+    requires row { r < tile_height extent tile }
+    requires before { length before.now ≡ tile_width extent tile }
+    requires after { length after.now ≡ tile_width extent tile }
+    ensures { OnOk result (AddsRowTo extent tile r 32 before.now after.now found.old.items found.new.items) }
+{
+    let _placed = extent.place(tile);
+    if same_cells(before, after) {
+        return Ok(());
+    }
+    add_cells(extent, tile, r, before, after, found)
+}
+
+/// The same, cell by cell.
+fn add_cells(
     extent: Extent,
     tile: u32,
     r: u32,

@@ -6,7 +6,7 @@ ghost use Rattle.damage_sets.specs.Seen.{IsChangedIn, IsChangedOf, IsChangedCell
 ghost use Rattle.damage_sets.specs.Widened.{IsWidened};
 
 use crate::sets::TileSet;
-use layer_tiles::{Cell, Change, Tally};
+use layer_tiles::{Cell, Change, Tally, same_cells};
 
 /// Adds the tiles that the changed cells of an operand reach. Two looks at each tile that its patch holds.
 pub(crate) fn add_changed<M: Tally>(
@@ -59,6 +59,21 @@ fn add_tile<M: Tally>(change: &Change<'_>, tile: u32, reach: u32, set: &mut Tile
 
 /// Adds the tiles that the changed cells of a row of a tile reach.
 fn add_row(set: &mut TileSet, row: u32, left: u32, before: &[Cell], after: &[Cell], reach: u32)
+    requires row { row < set.old.size.rows }
+    requires columns { left + length before.now ≤ set.old.size.columns }
+    requires same_length { length after.now ≡ length before.now }
+    requires reach { reach ≤ 64 }
+    ensures size { set.new.size ≡ set.old.size }
+    ensures marks { IsWidened set.old.size reach (IsChangedIn set.old.size row left before.now after.now (length before.now)) set.old.marks set.new.marks }
+{
+    if same_cells(before, after) {
+        return;
+    }
+    add_cells(set, row, left, before, after, reach);
+}
+
+/// The same, cell by cell.
+fn add_cells(set: &mut TileSet, row: u32, left: u32, before: &[Cell], after: &[Cell], reach: u32)
     requires row { row < set.old.size.rows }
     requires columns { left + length before.now ≤ set.old.size.columns }
     requires same_length { length after.now ≡ length before.now }

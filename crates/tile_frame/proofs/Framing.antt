@@ -1,18 +1,19 @@
 -- Rows that are made cell by cell, and tiles that are made row by row.
-use Rattle.std.proofs.Common.{◌≡◌, ◌≢◌, ℕ, ◌+◌, ◌-◌, ◌*◌, ◌<◌, ◌≤◌, length, get_or, set, IsTrue, IsFalse, Option, None, ℤ, Result, Ok, Err, IfOk, refl, sym, ◌∙◌, ap, subst, arith, below_more, ⊎_elim}
-use Rattle.std.proofs.lemmas.Bool.{cases_lt}
+use Rattle.std.proofs.Common.{◌≡◌, ◌≢◌, ℕ, ◌+◌, ◌-◌, ◌*◌, ◌<◌, ◌≤◌, length, get_or, set, IsTrue, IsFalse, Option, None, ℤ, Result, Ok, Err, IfOk, refl, sym, ◌∙◌, ap, subst, arith, below_more, ⊎_elim, inl, Bool, ◌&&◌}
+use Rattle.std.specs.Result.{is_ok}
+use Rattle.std.proofs.lemmas.Bool.{cases_lt, and_parts}
 use Rattle.std.proofs.lemmas.List.{get_or-set_same, get_or-set_other, length-set}
 use Rattle.std.proofs.lemmas.Nat.{mul-add-lt, div-mul-add, mod-mul-add}
 use Rattle.map_nums.specs.Answers.{is_wide}
 use Rattle.map_nums.specs.Exact.{IsExact}
-use Rattle.map_nums.specs.Grids.{Size}
+use Rattle.map_nums.specs.Grids.{Size, Cells, cell_at}
 use Rattle.map_nums.specs.declared.Wide.{Wide}
-use Rattle.layer_tiles.specs.Tiles.{Block, tile_start, tile_top, tile_left, tile_height, tile_width}
+use Rattle.layer_tiles.specs.Tiles.{Block, IsRowSet, tile_start, tile_top, tile_left, tile_height, tile_width}
 use Rattle.layer_tiles.specs.PlaceByPlace.{IsPlaceRefusal, IsLeastPlace, IsMade}
 use Rattle.layer_tiles.specs.declared.kernels.KernelRefusal.{KernelRefusal}
 use Rattle.layer_tiles.specs.declared.kernels.KernelRefusal.TheVariants.{Overflow}
 use Rattle.layer_tiles.specs.declared.kernels.KernelRefusal.TheVariants as refusal
-use Rattle.tile_frame.specs.Frames.{by_row, refused_at, IsRowMade, IsFirstWide, IsRowRefusal, IsRowAnswer}
+use Rattle.tile_frame.specs.Frames.{by_row, refused_at, AreCellsOf, IsRowMade, IsFirstWide, IsRowRefusal, IsRowAnswer}
 
 -- ---- a row
 
@@ -49,6 +50,33 @@ row_more value width height r c old made new cell m w count p q a n =
 pub row_put : (value : ℕ → Option ℤ) (width height r c at : ℕ) (old made new : Block) (answer : Result (Option ℤ) Wide) → IsRowMade value width r c old made → old.width ≡ width → length old.cells ≡ height * width → r < height → c < width → IsExact (value c) answer → IfOk answer (λ cell. new ≡ record made { cells = set made.cells (r * made.width + c) cell }) → refused_at at answer ≡ Ok tt → IsRowMade value width r (c + 1) old new
 row_put value width height r c at old made new (Ok cell) m w count p q a n e = row_more value width height r c old made new cell m w count p q a n
 row_put value width height r c at old made new (Err wide) m w count p q a n e = cc
+
+-- the cells of a row were set to its values
+pub row_set : (value : ℕ → Option ℤ) (width r : ℕ) (row : Cells) (old new : Block) → old.width ≡ width → IsRowSet r row old new → ((c : ℕ) → c < width → cell_at row c ≡ value c) → ((c : ℕ) → c < width → IsFalse (is_wide (value c))) → IsRowMade value width r width old new
+row_set value width r row old new w set same ranged =
+    let here : (c : ℕ) → c < width → cell_at new.cells (r * old.width + c) ≡ cell_at row c = λ c l. set.here c (omega (arith, l, w)) in
+    record {
+      height_stays = set.height_stays;
+      width_stays = set.width_stays;
+      count = set.count;
+      above = λ k l. set.other k (inl (subst (λ j. k < r * j) (sym w) l));
+      done = λ c l. ap (λ j. cell_at new.cells (r * j + c)) (sym w) ∙ here c l ∙ same c l;
+      in_range = ranged;
+    }
+
+-- one more cell of a list
+pub cells_more : (value : ℕ → Option ℤ) (c : ℕ) (cells : Cells) (cell : Option ℤ) → AreCellsOf value c cells → c < length cells → cell ≡ value c → IsFalse (is_wide (value c)) → AreCellsOf value (c + 1) (set cells c cell)
+cells_more value c cells cell a l is ranged = record {
+  same = below_more _ _
+      (λ j b. let other : j ≢ c = omega arith in get_or-set_other cells c j cell None other ∙ a.same j b)
+      (get_or-set_same cells c cell None l ∙ is);
+  in_range = below_more _ _ a.in_range ranged;
+}
+
+-- the answer of one more cell, where those before are in range
+pub cells_go_on : (value : ℕ → Option ℤ) (c : ℕ) (cells : Cells) (answer : Result (Option ℤ) Wide) (before ok : Bool) (cell : Option ℤ) → (IsTrue before → AreCellsOf value c cells) → c < length cells → IsExact (value c) answer → IfOk answer (λ v. cell ≡ v) → ok ≡ is_ok answer → IsTrue (before && ok) → AreCellsOf value (c + 1) (set cells c cell)
+cells_go_on value c cells (Ok v) before ok cell a l x is k t = cells_more value c cells cell (a (and_parts before ok t).0) l (is ∙ x.0) x.1
+cells_go_on value c cells (Err wide) before ok cell a l x is k t = let both = and_parts before ok t in cc
 
 first_wide : (value : ℕ → Option ℤ) (s : Size) (t r c at : ℕ) (old made : Block) → IsRowMade value (tile_width s t) r c old made → c < tile_width s t → at ≡ (tile_top s t + r) * s.columns + tile_left s t + c → IsTrue (is_wide (value c)) → IsFirstWide value s t r at
 unfolding tile_start

@@ -1,5 +1,5 @@
 -- A tile that is made row by row, and a row that is made cell by cell.
-use Rattle.std.specs.Prelude.{◌≡◌, ℕ, ◌+◌, ◌*◌, ◌/◌, ◌%◌, ◌<◌, length, ℤ, Option, Result, Ok, Err, IsTrue, IsFalse}
+use Rattle.std.specs.Prelude.{◌≡◌, ℕ, ◌+◌, ◌*◌, ◌/◌, ◌%◌, ◌<◌, List, length, ℤ, Option, Result, Ok, Err, IsTrue, IsFalse}
 use Rattle.map_nums.specs.Answers.{is_wide}
 use Rattle.map_nums.specs.Grids.{Size, cell_at}
 use Rattle.map_nums.specs.declared.Wide.{Wide}
@@ -24,6 +24,11 @@ pub record IsRowMade (value : ℕ → Option ℤ) (width r n : ℕ) (old new : B
   pub count : length new.cells ≡ length old.cells
   pub above : (k : ℕ) → k < r * width → cell_at new.cells k ≡ cell_at old.cells k
   pub done : (c : ℕ) → c < n → cell_at new.cells (r * width + c) ≡ value c
+  pub in_range : (c : ℕ) → c < n → IsFalse (is_wide (value c))
+
+-- the first n cells of a list have these values, all of them in range
+pub record AreCellsOf (value : ℕ → Option ℤ) (n : ℕ) (cells : List (Option ℤ)) : Type 0 where
+  pub same : (c : ℕ) → c < n → cell_at cells c ≡ value c
   pub in_range : (c : ℕ) → c < n → IsFalse (is_wide (value c))
 
 -- the first column whose value is out of range is that of cell `at`

@@ -42,3 +42,14 @@ fn cell_of(value: Option<Value>) -> Cell
         Some(number) => Cell::within(number),
     }
 }
+
+/// The cell of an answer; null where it is out of range.
+pub(crate) fn cell_or_null(answer: Result<Option<Value>, Wide>) -> Cell
+    requires { ForOk answer (λ value. IsFalse (is_wide value)) }
+    ensures { IfOk answer (λ value. result ≡ value) }
+{
+    match answer {
+        Ok(value) => cell_of(value),
+        Err(Wide) => Cell::null(),
+    }
+}

@@ -4,8 +4,8 @@ use Rattle.map_nums.specs.Grids.{Size}
 use Rattle.damage_sets.specs.Added.{IsAt}
 use Rattle.damage_sets.specs.Widened.{IsWidened}
 use Rattle.damage_sets.proofs.Rows.{row_more, row_same}
-use Rattle.damage_sets.proofs.changed.add_row.Goals as goal
-use Rattle.damage_sets.proofs.changed.add_row.Goals.{then-not-same, else-not-same}
+use Rattle.damage_sets.proofs.changed.add_cells.Goals as goal
+use Rattle.damage_sets.proofs.changed.add_cells.Goals.{then-not-same, else-not-same}
 
 pub loop-k-preserved : goal.loop-k-preserved
 loop-k-preserved c =

@@ -2,7 +2,7 @@ use Rattle.std.proofs.Common.{◌<◌, arith, refl, sym}
 use Rattle.std.proofs.lemmas.Result.{err_from_is_err_and}
 use Rattle.layer_tiles.specs.Tiles.{tile_height, tile_width}
 use Rattle.tile_frame.proofs.Framing.{row_none, row_put, row_refused}
-use Rattle.tile_frame.proofs.rows.make_row.Goals as goal
+use Rattle.tile_frame.proofs.rows.put_cells.Goals as goal
 
 pub loop-c-init : goal.loop-c-init
 loop-c-init g c = row_none (g.R.RowMaker.value c.args.row.now) (tile_width c.args.extent c.args.tile) c.args.r c.args.made.now

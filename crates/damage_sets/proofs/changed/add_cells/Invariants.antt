@@ -1,7 +1,7 @@
 use Rattle.std.proofs.Common.{◌≡◌}
 use Rattle.damage_sets.specs.Seen.{IsChangedIn}
 use Rattle.damage_sets.specs.Widened.{IsWidened}
-use Rattle.damage_sets.proofs.changed.add_row.Given as goal
+use Rattle.damage_sets.proofs.changed.add_cells.Given as goal
 
 abbrev pub invariant-loop-k : goal.invariant-loop-k
 invariant-loop-k l = record {
