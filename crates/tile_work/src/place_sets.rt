@@ -57,8 +57,9 @@ impl PlaceSet {
         requires { at < cells_in self.now.size }
         ensures { result ≡ slice_index_or self.now.marks at false }
     {
-        let columns = self.extent.columns();
-        self.has_at(at / columns, at % columns)
+        let row = self.extent.row_of(at);
+        let column = self.extent.column_of(at);
+        self.has_at(row, column)
     }
 
     /// Whether the place of a row and a column is marked.
@@ -80,8 +81,9 @@ impl PlaceSet {
         ensures ok { OnOk result (self.new ≡ record self.old { marks = slice_set self.old.marks at true }) }
         ensures err { OnErr result (self.new ≡ self.old) }
     {
-        let columns = self.extent.columns();
-        self.add_at(at / columns, at % columns)
+        let row = self.extent.row_of(at);
+        let column = self.extent.column_of(at);
+        self.add_at(row, column)
     }
 
     /// Marks the place of a row and a column.

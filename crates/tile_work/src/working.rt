@@ -215,8 +215,9 @@ fn set_in(extent: Extent, tile: &mut Tile, at: u32, cell: Cell)
     requires size { IsBlockOf extent (tile_of extent at) tile.old }
     ensures { tile.new ≡ record tile.old { cells = slice_set tile.old.cells (place_in extent at) cell } }
 {
-    let columns = extent.columns();
-    tile.set(at / columns % 32, at % columns % 32, cell);
+    let row = extent.row_of(at);
+    let column = extent.column_of(at);
+    tile.set(row % 32, column % 32, cell);
 }
 
 /// The copied tiles that are not those of the layer. One look each.
@@ -307,7 +308,8 @@ fn cell_in(extent: Extent, tile: &Tile, at: u32) -> Cell
     requires size { IsBlockOf extent (tile_of extent at) tile.now }
     ensures { result ≡ cell_at tile.now.cells (place_in extent at) }
 {
-    let columns = extent.columns();
-    let row = tile.row(at / columns % 32);
-    row[(at % columns % 32) as usize]
+    let row = extent.row_of(at);
+    let column = extent.column_of(at);
+    let cells = tile.row(row % 32);
+    cells[(column % 32) as usize]
 }
