@@ -50,15 +50,6 @@ in_order None d = inl tt
 in_order (Some z) None = inr tt
 in_order (Some z) (Some w) = by_lt_z w z (λ l. inr l) (λ l. inl (omega (arith, ints)))
 
-pub up_to_itself : (c : Option ℤ) → IsUpTo c c
-up_to_itself None = tt
-up_to_itself (Some z) = omega (arith, ints)
-
-pub up_to_from_below : (c d : Option ℤ) → IsBelow c d → IsUpTo c d
-up_to_from_below None d h = tt
-up_to_from_below (Some z) None h = h
-up_to_from_below (Some z) (Some w) h = omega (arith, ints)
-
 pub below_trans : (b c d : Option ℤ) → IsBelow b c → IsBelow c d → IsBelow b d
 below_trans None None d h k = absurd h
 below_trans None (Some z) None h k = absurd k

@@ -142,9 +142,6 @@ pairs_rise (p ∷ ps) h s = (
 values_turned : (x y : Pair) (ps : List Pair) (c : Option ℤ) → IsPermutation (values_in (zones_of (x ∷ y ∷ ps)) (values_of (x ∷ y ∷ ps)) c) (values_in (zones_of (y ∷ x ∷ ps)) (values_of (y ∷ x ∷ ps)) c)
 values_turned x y ps c = by_tests (same_cell c x.zone) (same_cell c y.zone) refl refl
   where
-    rest : Cells
-    rest = values_in (zones_of ps) (values_of ps) c
-
     by_tests : (a b : Bool) → same_cell c x.zone ≡ a → same_cell c y.zone ≡ b → IsPermutation (values_in (zones_of (x ∷ y ∷ ps)) (values_of (x ∷ y ∷ ps)) c) (values_in (zones_of (y ∷ x ∷ ps)) (values_of (y ∷ x ∷ ps)) c)
     by_tests true true e f = rw (e, f) (IsPermutation-middle (x.value ∷ []) y.value (values_in (zones_of ps) (values_of ps) c))
     by_tests true false e f = rw (e, f) (IsPermutation-refl (x.value ∷ values_in (zones_of ps) (values_of ps) c))

@@ -1,7 +1,7 @@
 -- One more place of a list whose runs are gathered.
 use Rattle.std.proofs.Common.{◌≡◌, ◌⊎◌, inl, inr, ℕ, ◌+◌, ◌<◌, ◌≤◌, Bool, true, false, List, [], ◌∷◌, ◌++◌, length, get_or, drop, map, refl, sym, ◌∙◌, ap, arith, append_assoc}
 use Rattle.std.proofs.lemmas.Bool.{cases_lt, false_from_ne_true}
-use Rattle.std.proofs.lemmas.List.{drop_more, drop_all, append-nil}
+use Rattle.std.proofs.lemmas.List.{drop_more, drop_all}
 use Rattle.cell_kinds.specs.Runs.{put_front, runs_of}
 
 -- the first run begins n places earlier
@@ -18,9 +18,6 @@ module _ {X : Type 0} (same : X → X → Bool) {K : Type 0} (f : X × ℕ → K
   not_longer : (es : List (X × ℕ)) → longer 0 es ≡ es
   not_longer [] = refl
   not_longer (e ∷ es) = let z : 0 + e.1 ≡ e.1 = omega arith in ap (λ (n : ℕ). (e.0, n) ∷ es) z
-
-  pub gathered_none : (xs : List X) → IsGathered xs [] 0 0
-  gathered_none xs = record { behind = omega arith; all = ap (map f) (sym (not_longer (runs_of same xs))) }
 
   longer_on : (y : X) (n : ℕ) (zs : List X) (es : List (X × ℕ)) → same y y ≡ true → longer n (put_front same y (put_front same y es)) ≡ longer (n + 1) (put_front same y es)
   longer_on y n zs [] t = rw t (let e : n + (1 + 1) ≡ n + 1 + 1 = omega arith in ap (λ (k : ℕ). (y, k) ∷ []) e)
@@ -93,7 +90,3 @@ module _ {X : Type 0} (same : X → X → Bool) {K : Type 0} (f : X × ℕ → K
 
     pub gathered_last : (kept next : List K) (count : ℕ) → ((i + 1 < length xs) × (get_or xs (i + 1) d ≡ get_or xs i d) → ⊥) → next ≡ kept ++ f (get_or xs i d, count + 1) ∷ [] → IsGathered xs kept count i → IsGathered xs next 0 (i + 1)
     gathered_last kept next count stop e g = gathered_end xs kept next count i (get_or xs i d) (drop (i + 1) xs) (drop_more xs i d here) refl (others_follow stop) e g
-
-  pub gathered_all : (xs : List X) (kept : List K) (count i : ℕ) → length xs ≤ i → IsGathered xs kept count i → kept ≡ map f (runs_of same xs)
-  gathered_all xs kept count i h g =
-      sym (g.all ∙ ap (λ (l : List X). kept ++ map f (longer count (runs_of same l))) (drop_all i xs h) ∙ append-nil kept)

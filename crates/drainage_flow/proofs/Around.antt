@@ -1,10 +1,9 @@
 -- The cells round one, as rows have them, and its direction.
-use Rattle.std.proofs.Common.{◌≡◌, ℕ, zero, suc, ◌+◌, ◌<◌, ◌≤◌, get_or, set, length, [], ◌∷◌, Option, Some, None, refl, sym, ◌∙◌, ap, arith, ℤ, pos, ◌+ℤ◌, true, false, subst, inl, inr}
+use Rattle.std.proofs.Common.{◌≡◌, ℕ, zero, suc, ◌+◌, ◌<◌, ◌≤◌, get_or, length, [], ◌∷◌, Option, Some, None, refl, sym, ◌∙◌, ap, arith, ℤ, pos, ◌+ℤ◌, true, false, subst}
 use Rattle.std.specs.Prelude.{option_map, not, IfSome, Result}
 use Rattle.std.proofs.lemmas.List.FromFn.{get_or-map-range_with_len}
 use Rattle.std.proofs.lemmas.Int.{ints}
-use Rattle.std.proofs.lemmas.List.{get_or_default, get_or-set_same, get_or-set_other}
-use Rattle.std.proofs.lemmas.Bool.{cases_lt}
+use Rattle.std.proofs.lemmas.List.{get_or_default}
 use Rattle.std.proofs.lemmas.Nat.{div_below, mod_below, div-add-mod'}
 use Rattle.map_nums.specs.Grids.{Size, IsSize, Cells, cell_at, cell_there, near, cells_in, row_of, column_of}
 use Rattle.map_nums.specs.Numbers.{is_value}
@@ -94,9 +93,6 @@ direction_narrow s surface i = narrow (cell_at surface i) refl
         let d = direction_is s surface i z (winner_at s surface i) (direction_of (winner_at s surface i)) e refl refl in
         ap is_wide (sym d) ∙ ap not (direction_small (direction_of (winner_at s surface i)) (numbered_few (winner_at s surface i) (winner_few s surface i)))
 
-pub exact_direction : (s : Size) (surface : Cells) (i : ℕ) (o : Option ℤ) → o ≡ direction_at s surface i → (o ≡ direction_at s surface i) × (is_wide (direction_at s surface i) ≡ false)
-exact_direction s surface i o e = (e, direction_narrow s surface i)
-
 -- the tile of directions
 pub direction_answer : (s e : Size) (surface : Cells) (t : ℕ) (result : Result Block KernelRefusal) → e ≡ s → IsSize s → t < tiles_in s → IsPlacesAnswer (by_row (tile_width e t) (λ r c. direction_at s surface (cell_in s t r c))) e t result → IsTileAnswer s (direction_grid s surface).cells t result
 unfolding direction_grid
@@ -111,11 +107,3 @@ never_wide s surface t at w =
     let f = direction_narrow s surface at in
     let t : is_wide (cell_at (grid_by s (direction_at s surface)).cells at) ≡ true = w.wide in
     absurd (cc)
-
--- ---- eight cells, one after another
-
-pub more_cells : (f : ℕ → Option ℤ) (xs : Cells) (k : ℕ) (x : Option ℤ) → k < length xs → ((u : ℕ) → u < k → get_or xs u None ≡ f u) → x ≡ f k → (u : ℕ) → u < k + 1 → get_or (set xs k x) u None ≡ f u
-more_cells f xs k x room below here u l = elim (cases_lt u k) as (λ _. get_or (set xs k x) u None ≡ f u) [
-  | inl h ↦ get_or-set_other xs k u x None (omega arith) ∙ below u h
-  | inr h ↦ (let e : u ≡ k = omega arith in rw (e) (get_or-set_same xs k x None room ∙ here))
-]

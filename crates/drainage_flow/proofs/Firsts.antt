@@ -19,19 +19,6 @@ more_of d f n xs x e below here c l = elim (cases_lt c n) as (λ _. get_or (xs +
   | inr h ↦ (let q : c ≡ n = omega arith in get_or_push xs x d c (e ∙ sym q) ∙ here ∙ ap f (sym q))
 ]
 
-pub downs_none : (s : Size) (surface : Cells) (downs : List (Option ℕ)) → downs ≡ [] → AreDowns s surface 0 downs
-downs_none s surface downs e = record { count = ap length e; each = λ c l. absurd (omega arith) }
-
-pub downs_more : (s : Size) (surface : Cells) (n : ℕ) (downs new : List (Option ℕ)) (o : Option ℕ) → AreDowns s surface n downs → o ≡ downstream_of s surface n → new ≡ downs ++ o ∷ [] → AreDowns s surface (n + 1) new
-downs_more s surface n downs new o d e q = rw (q)
-    record {
-      count = length-append downs (o ∷ []) ∙ omega (arith, d.count);
-      each = more_of None (downstream_of s surface) n downs o d.count d.each e;
-    }
-
-pub brought_none : (surface weights : Cells) (amounts : List ℤ) → amounts ≡ [] → AreBrought surface weights 0 amounts
-brought_none surface weights amounts e = record { count = ap length e; each = λ c l. absurd (omega arith); high = λ c l. absurd (omega arith); low = λ c l. absurd (omega arith) }
-
 pub brought_more : (surface weights : Cells) (n : ℕ) (amounts new : List ℤ) (z : ℤ) → AreBrought surface weights n amounts → z ≡ brought (cell_at surface n) (cell_at weights n) → z ≤ℤ pos 2000000000 → pos 0 ≤ℤ (pos 2000000000 +ℤ z) → new ≡ amounts ++ z ∷ [] → AreBrought surface weights (n + 1) new
 brought_more surface weights n amounts new z b e h l q = rw (q)
     record {

@@ -1,19 +1,10 @@
 -- The places of the eight neighbours of a cell.
-use Rattle.std.proofs.Common.{◌≡◌, ℕ, ◌+◌, ◌*◌, ◌/◌, ◌%◌, ◌<◌, ◌≤◌, Bool, true, false, cond, Some, None, refl, sym, ◌∙◌, ap, arith, inl, inr, ℤ, pos, negsuc, ◌+ℤ◌, ◌<ℤ◌}
-use Rattle.std.specs.Prelude.{◌⊎◌, ◌≤ℤ◌, ◌&&◌, nat_lt}
-use Rattle.std.proofs.lemmas.Int.{ints}
+use Rattle.std.proofs.Common.{◌≡◌, ℕ, ◌+◌, ◌*◌, ◌/◌, ◌%◌, ◌<◌, Bool, true, false, cond, Some, None, refl, sym, ◌∙◌, ap, arith, ℤ, pos, negsuc}
+use Rattle.std.specs.Prelude.{◌&&◌, nat_lt}
 use Rattle.std.proofs.lemmas.Bool.Decides.{nat_tests}
 use Rattle.std.proofs.lemmas.Nat.{mul-add-lt, div-mul-add, mod-mul-add}
-use Rattle.map_nums.specs.Grids.{Size, Offset, cells_in, place_at, moved}
-use Rattle.drainage_flow.specs.Steepest.{offset_at, line_at}
-
-pub line_none : (z : ℤ) (end : ℕ) → (z <ℤ pos 0) ⊎ (pos end ≤ℤ z) → None ≡ line_at z end
-line_none (pos r) end (inl h) = absurd (omega (arith, ints))
-line_none (pos r) end (inr h) = let e : nat_lt r end ≡ false = no_lt r end (omega (arith, ints)) in sym (ap (λ b. cond b (Some r) None) e)
-  where
-    no_lt : (a b : ℕ) → b ≤ a → nat_lt a b ≡ false
-    no_lt a b h = grind (arith, nat_tests)
-line_none (negsuc r) end h = refl
+use Rattle.map_nums.specs.Grids.{Size, cells_in, place_at}
+use Rattle.drainage_flow.specs.Steepest.{line_at}
 
 pub line_some : (z : ℤ) (end r : ℕ) → z ≡ pos r → r < end → Some r ≡ line_at z end
 line_some z end r e h = let t : nat_lt r end ≡ true = lt_yes r end h in sym (ap (λ x. line_at x end) e ∙ ap (λ b. cond b (Some r) None) t)
@@ -32,25 +23,6 @@ line_within (pos n) end r e = within (nat_lt n end) refl e
     within false t e = absurd (cc)
 line_within (negsuc n) end r e = absurd (cc)
 
-place_none_row : (s : Size) (r c : ℤ) → line_at r s.rows ≡ None → place_at s r c ≡ None
-place_none_row s (pos r) (pos c) e = none (nat_lt r s.rows) e
-  where
-    none : (b : Bool) → cond b (Some r) None ≡ None → cond (b && nat_lt c s.columns) (Some (r * s.columns + c)) None ≡ None
-    none true e = absurd (cc)
-    none false e = refl
-place_none_row s (pos r) (negsuc c) e = refl
-place_none_row s (negsuc r) c e = refl
-
-place_none_column : (s : Size) (r c : ℤ) → line_at c s.columns ≡ None → place_at s r c ≡ None
-place_none_column s (pos r) (pos c) e = none (nat_lt r s.rows) (nat_lt c s.columns) e
-  where
-    none : (a b : Bool) → cond b (Some c) None ≡ None → cond (a && b) (Some (r * s.columns + c)) None ≡ None
-    none a true e = absurd (cc)
-    none true false e = refl
-    none false false e = refl
-place_none_column s (pos r) (negsuc c) e = refl
-place_none_column s (negsuc r) c e = refl
-
 pub place_some : (s : Size) (r c : ℤ) (row column : ℕ) → line_at r s.rows ≡ Some row → line_at c s.columns ≡ Some column → place_at s r c ≡ Some (row * s.columns + column)
 place_some s (pos r) (pos c) row column e f = some (nat_lt r s.rows) (nat_lt c s.columns) e f
   where
@@ -60,15 +32,6 @@ place_some s (pos r) (pos c) row column e f = some (nat_lt r s.rows) (nat_lt c s
     some false b e f = absurd (cc)
 place_some s (pos r) (negsuc c) row column e f = absurd (cc)
 place_some s (negsuc r) c row column e f = absurd (cc)
-
-pub moved_none_row : (s : Size) (at k : ℕ) (o : Offset) → o ≡ offset_at k → None ≡ line_at (pos (at / s.columns) +ℤ o.0) s.rows → None ≡ moved s at (offset_at k)
-moved_none_row s at k o e h = sym (ap (moved s at) (sym e) ∙ place_none_row s (pos (at / s.columns) +ℤ o.0) (pos (at % s.columns) +ℤ o.1) (sym h))
-
-pub moved_none_column : (s : Size) (at k : ℕ) (o : Offset) → o ≡ offset_at k → None ≡ line_at (pos (at % s.columns) +ℤ o.1) s.columns → None ≡ moved s at (offset_at k)
-moved_none_column s at k o e h = sym (ap (moved s at) (sym e) ∙ place_none_column s (pos (at / s.columns) +ℤ o.0) (pos (at % s.columns) +ℤ o.1) (sym h))
-
-pub moved_some : (s : Size) (at k row column : ℕ) (o : Offset) → o ≡ offset_at k → Some row ≡ line_at (pos (at / s.columns) +ℤ o.0) s.rows → Some column ≡ line_at (pos (at % s.columns) +ℤ o.1) s.columns → Some (row * s.columns + column) ≡ moved s at (offset_at k)
-moved_some s at k row column o e h i = sym (ap (moved s at) (sym e) ∙ place_some s (pos (at / s.columns) +ℤ o.0) (pos (at % s.columns) +ℤ o.1) row column (sym h) (sym i))
 
 pub moved_within : (s : Size) (rows columns row column : ℕ) (r c : ℤ) → rows ≡ s.rows → columns ≡ s.columns → Some row ≡ line_at r rows → Some column ≡ line_at c columns → row * columns + column < cells_in s
 moved_within s rows columns row column r c e f h i =

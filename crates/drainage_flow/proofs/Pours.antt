@@ -260,9 +260,6 @@ put_is flows d z x l = elim (same_or_not x d) as (λ _. flow_in (set flows d (fl
   | inr n ↦ get_or-set_other flows d x (flow_in flows d +ℤ z) (pos 0) n ∙ omega (arith, ints, part_off (eqb d x) z (other_false d x n))
 ]
 
-part_none : (x : ℕ) (z : ℤ) → part (is_to None x) z ≡ pos 0
-part_none x z = refl
-
 -- what a place does for the pools
 pub passes_on : (g : Net) (end at : ℕ) (downs downs' : List (Option ℕ)) (waits waits' : List ℕ) (flows flows' : List ℤ) (next : Option ℕ) → ArePools g end (Some at) downs waits flows → Passes (down_in downs at) at downs waits flows downs' waits' flows' next → ArePools g end next downs' waits' flows'
 passes_on g end at downs downs' waits waits' flows flows' next p = by_down (down_in downs at) refl
@@ -405,35 +402,6 @@ pools_begin g start downs waits flows p l z =
           | inr h ↦ elim (same_or_not x start) as (λ _. (Some start ≡ Some x) ⊎ (start + 1 ≤ x)) [ inl r ↦ inl (ap Some (sym r)) | inr n ↦ inr (omega (arith, h, n)) ]
         ];
         own = λ x e. (let r : x ≡ start = cc in rw (r) (l, fresh, sym (q.waits start l fresh (none start)) ∙ ap pos z, λ w. omega arith));
-      };
-    }
-
-pub pools_skip : (g : Net) (start : ℕ) (downs : List (Option ℕ)) (waits : List ℕ) (flows : List ℤ) → ArePools g start None downs waits flows → wait_in waits start ≢ 0 → ArePools g (start + 1) None downs waits flows
-pools_skip g start downs waits flows p z =
-    let q = p.pouring in
-    let none : (x : ℕ) → (let n : Option ℕ = None in n) ≢ Some x = λ x e. not_none x e in
-    record {
-      downs_count = p.downs_count;
-      waits_count = p.waits_count;
-      flows_count = p.flows_count;
-      pouring = record {
-        done = q.done;
-        load = q.load;
-        core = q.core;
-        downs = q.downs;
-        within = q.within;
-        waits = q.waits;
-        fresh = λ x m w e. q.fresh x m w (omega (arith, e));
-        left = λ x m d w. elim (q.left x m d w) as (λ _. (None ≡ Some x) ⊎ (start + 1 ≤ x)) [
-          | inl e ↦ inl e
-          | inr h ↦ elim (same_or_not x start) as (λ _. (None ≡ Some x) ⊎ (start + 1 ≤ x)) [
-            | inl r ↦ (let e : pos (wait_in waits x) ≡ inflow g (undone q.done) x = q.waits x m d (none x) in
-                let k : wait_in waits x ≡ 0 = omega (arith, ints, e, w) in
-                absurd (z (ap (wait_in waits) (sym r) ∙ k)))
-            | inr n ↦ inr (omega (arith, h, n))
-          ]
-        ];
-        own = λ x e. not_none x e;
       };
     }
 

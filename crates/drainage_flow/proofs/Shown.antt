@@ -122,9 +122,6 @@ forward_ground s surface old changed k w at z g l e flow = record {
 pub ground_at : (s : Size) (surface old : Cells) (changed : List ℕ) (k : ℕ) (w : WorkState) (at : ℕ) (z : ℤ) → AreGrounded s surface old changed k w.cells → at < cells_in s → z ≡ number_at old at → cell_at w.cells at ≢ shown (cell_at surface at) z → (c : ℕ) × (c < cells_in s) × ((flow : ℕ → ℤ) → cell_at old c ≢ shown_at surface flow c)
 ground_at s surface old changed k w at z g l e n = (at, l, λ flow. (forward_ground s surface old changed k w at z g l e flow).changes n)
 
-pub grounded_none : (s : Size) (surface old : Cells) (changed : List ℕ) (cells : Cells) → cells ≡ old → AreGrounded s surface old changed 0 cells
-grounded_none s surface old changed cells e = record { each = λ c l. inr (ap (λ (xs : Cells). cell_at xs c) e); done = λ j l. absurd (omega arith) }
-
 pub grounded_more : (s : Size) (surface old : Cells) (changed : List ℕ) (k : ℕ) (cells new : Cells) (at : ℕ) (z : ℤ) → AreGrounded s surface old changed k cells → length cells ≡ cells_in s → at < cells_in s → at ≡ get_or changed k 0 → z ≡ number_at old at → new ≡ set cells at (shown (cell_at surface at) z) → AreGrounded s surface old changed (k + 1) new
 grounded_more s surface old changed k cells new at z g count within is e q = rw (q)
     record {
@@ -203,9 +200,6 @@ same_then a b c h k = record { size = k.size ∙ h.size; before = k.before ∙ h
 
 pub rises_on : (x y z p q r : ℕ) (a b c : TallyState) → x ≤ y → y ≤ z → p + q ≡ r → RisesBy (y - x) p a b → RisesBy (z - y) q b c → RisesBy (z - x) r a c
 rises_on x y z p q r a b c l m e h k = rises_within (y - x + (z - y)) (p + q) (z - x) r a c (omega (arith, l, m)) (omega (arith, e)) (rises_then (y - x) p (z - y) q a b c h k)
-
-pub rises_off : (x y p q r : ℕ) (a b c : TallyState) → x ≤ y → p + q ≤ r → RisesBy (y - x) p a b → RisesBy 1 q b c → RisesBy (y - x + 1) r a c
-rises_off x y p q r a b c l e h k = rises_within (y - x + 1) (p + q) (y - x + 1) r a c (omega arith) e (rises_then (y - x) p 1 q a b c h k)
 
 pub one_pick : (l : ℕ) (a b c : TallyState) → b ≡ picked 1 a → RisesBy l 3 b c → RisesBy l 4 a c
 one_pick l a b c e h = rises_within (0 + l) (1 + 3) l 4 a c (omega arith) (omega arith) (rises_then 0 1 l 3 a b c (rises_within 0 (0 + 1) 0 1 a b (omega arith) (omega arith) (rises_picked 0 0 1 a a b (rises_none a) e)) h)

@@ -123,9 +123,6 @@ module _ (s : Size) (surface : Cells) (at : ℕ) (here : ℤ) where
       le_true : (x y : ℤ) → x ≤ℤ y → int_le x y ≡ true
       le_true x y h = grind (arith, ints)
 
-  at_default : (k : ℕ) (d : Offset) (b : Bool) → k < 8 → test (offset_at k) ≡ b → test (get_or compass k d) ≡ b
-  at_default k d b h e = ap test (get_or_default compass k d (pos 0, pos 0) h) ∙ e
-
   winner_from : (best : ℤ) (to : Option ℕ) → IsFirstSteepest falls_at 8 best to → position test compass ≡ to
   winner_from best to w = elim w.found as (λ _. position test compass ≡ to) [
     | inl f ↦ (

@@ -12,17 +12,13 @@ use Rattle.layer_tiles.specs.Tiles.{Block, tiles_in, tile_of}
 use Rattle.layer_tiles.specs.Tallies.{TallyState, RisesBy}
 use Rattle.layer_tiles.proofs.Rising.{rises_then, rises_within}
 use Rattle.layer_tiles.proofs.Rounds.{back}
-use Rattle.tile_work.specs.Working.{WorkState, IsPatchTo, base_of, begun_cells, copies}
+use Rattle.tile_work.specs.Working.{WorkState, IsPatchTo, begun_cells, copies}
 use Rattle.tile_work.proofs.Copies.{copies_few}
 use Rattle.changed_cells.proofs.Joining.{differs_so, differs_is}
 use Rattle.changed_cells.proofs.Touching.{has_so}
 use Rattle.drainage_flow.specs.Showing.{shown_at, changes, changed_count, IsWorked, AreCopiedFor}
 
 -- ---- a working layer at its beginning
-
-begun_count : (s : Size) (before : Option (List (Option ℤ))) → length (begun_cells s before) ≡ cells_in s
-unfolding begun_cells
-begun_count s before = length-map-range_with_len (cell_at (base_of before)) 0 (cells_in s)
 
 begun_same : (s : Size) (cells : Cells) → length cells ≡ cells_in s → begun_cells s (Some cells) ≡ cells
 unfolding begun_cells

@@ -88,18 +88,3 @@ module _ {W X : Type 0} (g : Tests W) where
 
       begins : Begins (node (end_of r) (on f q <|> step r)) []
       begins = through (end_of r) (on f q <|> step r) w (rw takes (rw (or_left (q v) (step r w) (h v).node) (h v).healthy.begins))
-
-  -- an optional part: a line may go on by the rest, with a word that the part doesn't take
-  pub tail_or : {A B : Type 0} (f : W → Option A) (q : A → Rule W X) (f' : W → Option B) (p : B → Rule W X) (w : W) (v : B) → f w ≡ None → f' w ≡ Some v → f g.operation ≡ None → f' g.operation ≡ None
-      → ((v : A) → Healthy (q v)) → ((v : B) → Healthy (p v)) → Tail (also (on f q) (next f' p))
-  tail_or f q f' p w v skips takes free gone h k =
-      record { healthy = healthy_node None (on f q <|> on f' p) begins none_here all; node = refl; no_body = none_here }
-    where
-      none_here : NoBody (on f q <|> on f' p)
-      none_here = rw (free, gone) refl
-
-      all : AllSound (on f q <|> on f' p)
-      all = all_or (on f q) (on f' p) (all_on f q h) (all_on f' p k)
-
-      begins : Begins (node None (on f q <|> on f' p)) []
-      begins = through None (on f q <|> on f' p) w (rw (skips, takes) (k v).begins)

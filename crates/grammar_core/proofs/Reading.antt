@@ -6,7 +6,7 @@ use Rattle.grammar_core.specs.declared.Fault.{Fault}
 use Rattle.grammar_core.specs.Rules.{Rule, fail, node, step, ends, on, next, after, also, or_rule, ◌<|>◌}
 use Rattle.grammar_core.specs.Refusals.{Tests, is_unknown}
 use Rattle.grammar_core.specs.Run.{is_node, refused, kind_at, run}
-use Rattle.grammar_core.specs.Readers.{◌>>=◌, Read, taken, fault_kind, one_at, end_at, starts}
+use Rattle.grammar_core.specs.Readers.{◌>>=◌, taken, fault_kind, one_at, end_at, starts}
 use Rattle.grammar_core.proofs.Parts.{or_left}
 
 pub assoc : {A B C : Type 0} (m : Result A Fault) (f : A → Result B Fault) (h : B → Result C Fault) → ((m >>= f) >>= h) ≡ (m >>= λ x. f x >>= h)
@@ -53,11 +53,6 @@ module _ {W X : Type 0} (g : Tests W) where
       go None = rw (p.free, taken_is r nodes (f g.number), p.number) refl
       go (Some v) = rw (p.free, nodes v) (reads v ws)
 
-  -- a place, what is read after it, and then k
-  pub place_k : {A B : Type 0} (f : W → Option A) (due : Bool) (h : A → List W → Read W B) (k : B → List W → Result X Fault) (r : A → Rule W X) → IsPlace g f due → AllNodes r
-      → ((v : A) (ws : List W) → (h v ws >>= λ p. k p.0 p.1) ≡ run g (r v) ws) → (ws : List W) → ((one_at g f due ws >>= λ p. h p.0 p.1) >>= λ p. k p.0 p.1) ≡ run g (next f r) ws
-  place_k f due h k r p nodes reads ws = assoc (one_at g f due ws) (λ p. h p.0 p.1) (λ p. k p.0 p.1) ∙ place f due (λ v us. h v us >>= λ p. k p.0 p.1) r p nodes reads ws
-
   pub end_reads : (x : X) (ws : List W) → (end_at ws >>= λ e. Ok x) ≡ run g (ends x) ws
   unfolding run
   end_reads x [] = refl
@@ -67,18 +62,6 @@ module _ {W X : Type 0} (g : Tests W) where
   abbrev pub or_refused : {A : Type 0} → Option A → ℕ → (A → Result X Fault) → Result X Fault
   or_refused None n h = refused Syntax n
   or_refused (Some v) n h = h v
-
-  -- a place where an operation is due, and no number
-  pub body_place : {A : Type 0} (f : W → Option A) (h : A → List W → Result X Fault) (r : A → Rule W X) → is_some (f g.operation) ≡ true → is_some (f g.number) ≡ false → AllNodes r → Reads h r
-      → (w : W) (ws : List W) → cond (is_unknown g (w ∷ ws)) (refused Operation (suc (length ws))) (or_refused (f w) (suc (length ws)) (λ v. h v ws)) ≡ run g (next f r) (w ∷ ws)
-  unfolding run
-  body_place {A = A} f h r due none nodes reads w ws = go (f w)
-    where
-      go : (s : Option A) → cond (is_unknown g (w ∷ ws)) (refused Operation (suc (length ws))) (or_refused s (suc (length ws)) (λ v. h v ws))
-          ≡ cond (is_node (after (f g.operation) r) && is_unknown g (w ∷ ws)) (refused Operation (suc (length ws)))
-          (cond (is_node (after s r)) (run g (after s r) ws) (refused (kind_at g (next f r) (w ∷ ws)) (suc (length ws))))
-      go None = rw (taken_is r nodes (f g.operation), due, taken_is r nodes (f g.number), none) refl
-      go (Some v) = rw (taken_is r nodes (f g.operation), due, nodes v) (ap (cond (is_unknown g (w ∷ ws)) (refused Operation (suc (length ws)))) (reads v ws))
 
   not_there : {A : Type 0} (s : Option A) (q : A → Rule W X) → is_some s ≡ false → after s q ≡ fail
   not_there None q e = refl

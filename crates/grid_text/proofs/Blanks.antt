@@ -1,18 +1,10 @@
 -- A line of cells, each with a blank after it until the line ends.
-use Rattle.std.proofs.Common.{◌≡◌, ◌<◌, ◌-◌, ◌+◌, ℕ, List, [], ◌∷◌, ◌++◌, length, take, get_or, map, Option, ℤ, sym, ap, ◌∙◌, append_assoc, length-append, codes, arith}
-use Rattle.std.proofs.lemmas.List.{append-nil, flat_map_more, take_more, take_at}
+use Rattle.std.proofs.Common.{◌≡◌, ◌<◌, ◌-◌, ◌+◌, ℕ, List, [], ◌∷◌, ◌++◌, length, take, map, Option, ℤ, sym, ap, ◌∙◌, append_assoc, length-append, codes, arith}
+use Rattle.std.proofs.lemmas.List.{append-nil, take_at}
 use Rattle.std.proofs.lemmas.List.Concat.{flat_map-append}
 use Rattle.map_nums.specs.Grids.{Cells}
 use Rattle.grid_text.specs.Blanks.{blanked}
 use Rattle.grid_text.specs.Printed.{spaced, cell_text}
-
--- one more cell
-pub next_cell : (start text then now : List ℕ) (cells : Cells) (i : ℕ) (c : Option ℤ) → text ≡ start ++ blanked (take i cells) → then ≡ text ++ cell_text c → now ≡ then ++ codes " " → i < length cells → c ≡ get_or cells i c → now ≡ start ++ blanked (take (i + 1) cells)
-next_cell start text then now cells i c t s n l e =
-    n ∙ ap (λ x. x ++ codes " ") (s ∙ ap (λ x. x ++ cell_text c) t)
-    ∙ append_assoc (start ++ blanked (take i cells)) (cell_text c) (codes " ")
-    ∙ flat_map_more (λ (z : Option ℤ). cell_text z ++ codes " ") start (take i cells) c
-    ∙ ap (λ xs. start ++ blanked xs) (ap (λ (z : Option ℤ). take i cells ++ z ∷ []) e ∙ sym (take_more cells i c l))
 
 -- the cells of one more tile
 pub next_piece : (start text now : List ℕ) (row piece next : Cells) → text ≡ start ++ blanked row → now ≡ text ++ blanked piece → row ++ piece ≡ next → now ≡ start ++ blanked next

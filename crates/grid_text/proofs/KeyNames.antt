@@ -62,9 +62,6 @@ key-spells name k e =
       | inr (inr (inr (inr (inr (inr (inr (inr h))))))) ↦ absurd h
     ]
 
-lower_above : (b : ℕ) → 65 ≤ b → b < 91 → to_ascii_lowercase b ≡ b + 32
-lower_above b p q = ap (λ t. cond t b (cond (nat_lt b 91) (b + 32) b)) (le-ltb b 65 p) ∙ ap (λ t. cond t (b + 32) b) (lt-ltb b 91 q)
-
 lower_beyond : (b : ℕ) → 91 ≤ b → to_ascii_lowercase b ≡ b
 lower_beyond b p = ap (λ t. cond t b (cond (nat_lt b 91) (b + 32) b)) (le-ltb b 65 (omega arith)) ∙ ap (λ t. cond t (b + 32) b) (le-ltb b 91 p)
 

@@ -3,7 +3,7 @@ use Rattle.std.proofs.Common.{◌≡◌, ℕ, zero, suc, ◌+◌, ◌≤◌, Lis
 use Rattle.std.specs.Prelude.{◌⊎◌}
 use Rattle.std.specs.List.{Contains, All}
 use Rattle.std.specs.List.Sorted.{IsPermutation}
-use Rattle.std.proofs.lemmas.List.Sorted.{Contains-permutation, IsPermutation-sym, length_permutation}
+use Rattle.std.proofs.lemmas.List.Sorted.{Contains-permutation, length_permutation}
 use Rattle.least_costs.specs.Queue.{IsKept}
 
 -- in front of a list
@@ -30,8 +30,3 @@ popped_left x y old new p h n = elim (contains_front x y new (Contains-permutati
 -- each entry has at least the least key
 pub key_least : (key : ℕ) (x : ℕ × ℕ) (entries : List (ℕ × ℕ)) → All (λ (y : ℕ × ℕ). key ≤ y.0) entries → Contains entries x → key ≤ x.0
 key_least key x entries all h = let P : ℕ × ℕ → Type 0 = λ y. key ≤ y.0 in subst P h.2 (all h.0 x h.1)
-
--- the popped entry and those left were there
-pub popped_all : (x y : ℕ × ℕ) (old new : List (ℕ × ℕ)) → IsPermutation old (y ∷ new) → (x ≡ y) ⊎ Contains new x → Contains old x
-popped_all x y old new p (inl e) = Contains-permutation (y ∷ new) old x (IsPermutation-sym old (y ∷ new) p) (0, omega arith, sym e)
-popped_all x y old new p (inr h) = Contains-permutation (y ∷ new) old x (IsPermutation-sym old (y ∷ new) p) (suc h.0, omega (arith, h.1), h.2)

@@ -1,10 +1,10 @@
 -- One entry taken out of the queue keeps what the repair knows.
-use Rattle.std.proofs.Common.{◌≡◌, ◌≢◌, ℕ, ◌+◌, ◌-◌, ◌*◌, ◌<◌, ◌≤◌, min, Bool, true, false, List, [], ◌∷◌, length, refl, sym, ◌∙◌, ap, arith, inl, inr, subst}
+use Rattle.std.proofs.Common.{◌≡◌, ◌≢◌, ℕ, ◌+◌, ◌-◌, ◌*◌, ◌<◌, ◌≤◌, min, Bool, true, false, List, [], ◌∷◌, length, sym, ◌∙◌, ap, arith, inl, inr, subst}
 use Rattle.std.specs.Prelude.{◌==◌, if◌then◌else◌}
 use Rattle.std.specs.Int.{from_bool}
 use Rattle.std.specs.List.{Contains, All}
 use Rattle.std.specs.List.Sorted.{IsPermutation}
-use Rattle.std.proofs.lemmas.Bool.{cases_lt, both_ways}
+use Rattle.std.proofs.lemmas.Bool.{cases_lt}
 use Rattle.std.proofs.lemmas.Bool.Decides.{nat_tests}
 use Rattle.map_defs.specs.Nets.{Net, HasCosts, IsClosed, IsWithin, IsLeastIn, equation}
 use Rattle.map_defs.proofs.Nets.{IsSettled, least_costs}
@@ -12,7 +12,7 @@ use Rattle.least_costs.specs.Ranks.{ranks, changed}
 use Rattle.least_costs.specs.Queue.{IsQueued, IsKept, IsDue, next_value, IsOffered, IsSetTo, IsRise, IsStep, is_first}
 use Rattle.least_costs.specs.Best.{Ranked, IsRepairing, same}
 use Rattle.least_costs.proofs.Equations.{same_or, equation_kept, equation_fallen, equation_rises, equation_holds, outside, next_above, next_below, next_most}
-use Rattle.least_costs.proofs.Takes.{Taken, take_above, take_below, ranks_rise, ranks_most, ranks_changed, changed_moves, changed_start, rank_left}
+use Rattle.least_costs.proofs.Takes.{Taken, take_above, take_below, ranks_rise, ranks_most, ranks_changed, changed_moves, rank_left}
 use Rattle.least_costs.proofs.Moves.{moved_least, moved_most}
 use Rattle.least_costs.proofs.Queues.{popped_left, popped_length, key_least}
 
@@ -79,20 +79,10 @@ module _ (g : Net) (closed : IsClosed g) (costs : HasCosts g) (no_loop : HasNoLo
       pub rises : ranks g.top old d g.size + 1 ≤ ranks g.top old d' g.size
       rises = ranks_rise g.top old d d' g.size at due.within set.other taken'.rises
 
-      pub at_left : old at ≢ d' at
-      at_left = rank_left g.top (old at) (d at) (d' at) taken'.rises
-
       pub ranked' : (i : ℕ) → Ranked g i (old i) (d' i)
       ranked' i = elim (same_or i at) as (λ _. Ranked g i (old i) (d' i)) [
         | inl e ↦ (let P : ℕ → Type 0 = λ i. Ranked g i (old i) (d' i) in subst P (sym e) taken'.ranked)
         | inr n ↦ (let P : ℕ → Type 0 = λ v. Ranked g i (old i) v in subst P (sym (set.other i n)) (now.ranked i))
-      ]
-
-      -- a place that left its old value does not come back to it
-      pub left_stays : (i : ℕ) → old i ≢ d i → old i ≢ d' i
-      left_stays i n = elim (same_or i at) as (λ _. old i ≢ d' i) [
-        | inl e ↦ (let P : ℕ → Type 0 = λ j. old j ≢ d' j in subst P (sym e) at_left)
-        | inr m ↦ (λ q. n (q ∙ set.other i m))
       ]
 
       -- a place whose key is the same stands there still
@@ -224,27 +214,8 @@ went g closed costs no_loop old d entries left moved key at now popped all d' en
       smaller = omega (arith, popped_length (key, at) entries left popped);
     }))
 
--- the places that left their old values, after one entry
-pub record WentLeft (g : Net) (old d d' : ℕ → ℕ) (at : ℕ) (is_taken : Bool) : Type 0 where
-  pub stays : (i : ℕ) → old i ≢ d i → old i ≢ d' i
-  pub taken : is_taken ≡ true → (at < g.size) × (old at ≢ d' at)
-
-pub went_left : (g : Net) → IsClosed g → HasCosts g → HasNoLoop g → (old d : ℕ → ℕ) (entries left : List (ℕ × ℕ)) (moved key at : ℕ) → IsRepairing g old d entries moved → IsPermutation entries ((key, at) ∷ left) → All (λ (y : ℕ × ℕ). key ≤ y.0) entries →
-    (d' : ℕ → ℕ) (entries' : List (ℕ × ℕ)) (is_taken : Bool) → IsStep g d left key at d' entries' is_taken → WentLeft g old d d' at is_taken
-went_left g closed costs no_loop old d entries left moved key at now popped all d' entries' true s = record {
-  stays = left_stays g closed costs no_loop old d entries left moved key at now popped all s.due d' entries' s.value;
-  taken = λ _. (s.due.within, at_left g closed costs no_loop old d entries left moved key at now popped all s.due d' entries' s.value);
-}
-went_left g closed costs no_loop old d entries left moved key at now popped all d' entries' false s = record {
-  stays = λ i n q. n (q ∙ ap (λ (f : ℕ → ℕ). f i) s.same);
-  taken = λ e. absurd (both_ways false refl e);
-}
-
 -- with no entry left the values are the least costs
 pub all_least : (g : Net) → HasCosts g → (old d : ℕ → ℕ) (entries : List (ℕ × ℕ)) (moved : ℕ) → IsRepairing g old d entries moved → entries ≡ [] → (i : ℕ) → IsLeastIn g i (d i)
 all_least g costs old d entries moved now e =
     least_costs g d costs now.within
     (λ i. elim (same_or (d i) (equation g d i)) as (λ _. d i ≡ equation g d i) [ inl q ↦ q | inr n ↦ absurd (omega (arith, (now.queued i n).1, ap length e)) ])
-
-pub begun : (g : Net) (d : ℕ → ℕ) (entries : List (ℕ × ℕ)) → IsWithin g d → ((i : ℕ) → d i ≤ g.top) → ((i : ℕ) → IsQueued g d entries i) → IsRepairing g d d entries 0
-begun g d entries w m q = record { within = w; old_most = m; most = m; queued = q; ranked = λ i. same refl; moved_is = sym (changed_start d g.size) }

@@ -97,14 +97,6 @@ pub ranks_changed : (t : ℕ) (o d : ℕ → ℕ) (n : ℕ) → ranks t o d n �
 unfolding ranks changed
 ranks_changed t o d n = sum_twice (λ j. rank t (o j) (d j)) (λ j. if o j == d j then 0 else 1) n (λ j. rank_changed t (o j) (d j))
 
-sum_none : (f : ℕ → ℕ) (n : ℕ) → ((j : ℕ) → f j ≡ 0) → sum_to f n ≡ 0
-sum_none f zero h = refl
-sum_none f (suc n) h = omega (arith, h n, sum_none f n h)
-
-pub ranks_start : (t : ℕ) (o : ℕ → ℕ) (n : ℕ) → ranks t o o n ≡ 0
-unfolding ranks
-ranks_start t o n = sum_none (λ j. rank t (o j) (o j)) n (λ j. rank_same t (o j) (o j) refl)
-
 -- ---- the places that left their old value
 
 sum_adds : (f f' : ℕ → ℕ) (n i k : ℕ) → i < n → ((j : ℕ) → j ≢ i → f' j ≡ f j) → f' i ≡ f i + k → sum_to f' n ≡ sum_to f n + k
@@ -120,13 +112,6 @@ left_now t o v v' r = grind (arith, nat_tests)
 pub changed_moves : (t : ℕ) (o d d' : ℕ → ℕ) (n i : ℕ) → i < n → ((j : ℕ) → j ≢ i → d' j ≡ d j) → rank t (o i) (d i) + 1 ≤ rank t (o i) (d' i) → changed o d' n ≡ changed o d n + from_bool (o i == d i)
 unfolding changed
 changed_moves t o d d' n i h s r = sum_adds (λ j. if o j == d j then 0 else 1) (λ j. if o j == d' j then 0 else 1) n i (from_bool (o i == d i)) h (λ j e. ap (λ x. if o j == x then 0 else 1) (s j e)) (left_now t (o i) (d i) (d' i) r)
-
-pub changed_start : (o : ℕ → ℕ) (n : ℕ) → changed o o n ≡ 0
-unfolding changed
-changed_start o n = sum_none (λ j. if o j == o j then 0 else 1) n (λ j. start_same (o j))
-  where
-    start_same : (a : ℕ) → ◌≡◌ {A = ℕ} (if a == a then 0 else 1) 0
-    start_same a = grind (arith, nat_tests)
 
 changed_below : (f : ℕ → ℕ) (n : ℕ) → ((j : ℕ) → f j ≤ 1) → sum_to f n ≤ n
 changed_below f zero h = omega arith

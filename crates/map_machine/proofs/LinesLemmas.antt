@@ -4,9 +4,6 @@ use Rattle.std.proofs.lemmas.List.{append-nil, map-append}
 use Rattle.std.proofs.lemmas.List.Folds.{list_any-append}
 use Rattle.map_machine.specs.Lines.{onto_first, ended_pieces, has_line_feed, open_piece, without_return, ended_lines, further_lines}
 
-onto_first-append : (b : ℕ) (p : List ℕ) (ps qs : List (List ℕ)) → onto_first b ((p ∷ ps) ++ qs) ≡ onto_first b (p ∷ ps) ++ qs
-onto_first-append b p ps qs = refl
-
 -- with no line feed there is no ended piece, and all is open
 none_ended : (xs : List ℕ) → has_line_feed xs ≡ false → (ended_pieces xs ≡ []) × (open_piece xs ≡ xs)
 none_ended [] e = (refl, refl)
@@ -82,15 +79,8 @@ open_piece-append (b ∷ xs) ys = elim (has_line_feed (b ∷ xs)) as (λ t. has_
       | false ↦ λ e. refl
     ] refl
 
-pub ended_pieces-feed : (xs : List ℕ) → ended_pieces (xs ++ 10 ∷ []) ≡ ended_pieces xs ++ open_piece xs ∷ []
-ended_pieces-feed xs = ended_pieces-append xs (10 ∷ []) ∙ ap (λ l. ended_pieces xs ++ l) (ended_at_feed (open_piece xs) (open_has_none xs)).0
-
 pub open_piece-feed : (xs : List ℕ) → open_piece (xs ++ 10 ∷ []) ≡ []
 open_piece-feed xs = open_piece-append xs (10 ∷ []) ∙ (ended_at_feed (open_piece xs) (open_has_none xs)).1
-
-pub ended_pieces-byte : (xs : List ℕ) (b : ℕ) → (b == 10) ≡ false → ended_pieces (xs ++ b ∷ []) ≡ ended_pieces xs
-ended_pieces-byte xs b e = ended_pieces-append xs (b ∷ [])
-    ∙ ap (λ l. ended_pieces xs ++ l) (none_ended (open_piece xs ++ b ∷ []) (no_feed_more (open_piece xs) b (open_has_none xs) e)).0 ∙ append-nil (ended_pieces xs)
 
 pub open_piece-byte : (xs : List ℕ) (b : ℕ) → (b == 10) ≡ false → open_piece (xs ++ b ∷ []) ≡ open_piece xs ++ b ∷ []
 open_piece-byte xs b e = open_piece-append xs (b ∷ []) ∙ (none_ended (open_piece xs ++ b ∷ []) (no_feed_more (open_piece xs) b (open_has_none xs) e)).1
@@ -98,12 +88,6 @@ open_piece-byte xs b e = open_piece-append xs (b ∷ []) ∙ (none_ended (open_p
 -- the lines that end in a front are the first of those that end in the whole
 pub ended_lines-append : (xs ys : List ℕ) → ended_lines (xs ++ ys) ≡ ended_lines xs ++ ended_lines (open_piece xs ++ ys)
 ended_lines-append xs ys = ap (map without_return) (ended_pieces-append xs ys) ∙ map-append without_return (ended_pieces xs) (ended_pieces (open_piece xs ++ ys))
-
-pub ended_lines-feed : (xs : List ℕ) → ended_lines (xs ++ 10 ∷ []) ≡ ended_lines xs ++ without_return (open_piece xs) ∷ []
-ended_lines-feed xs = ap (map without_return) (ended_pieces-feed xs) ∙ map-append without_return (ended_pieces xs) (open_piece xs ∷ [])
-
-pub ended_lines-byte : (xs : List ℕ) (b : ℕ) → (b == 10) ≡ false → ended_lines (xs ++ b ∷ []) ≡ ended_lines xs
-ended_lines-byte xs b e = ap (map without_return) (ended_pieces-byte xs b e)
 
 -- one carriage return at the end goes, and any other last byte stays
 pub without_return-push : (xs : List ℕ) (b : ℕ) → without_return (xs ++ b ∷ []) ≡ cond (b == 13) xs (xs ++ b ∷ [])

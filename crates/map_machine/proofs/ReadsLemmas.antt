@@ -1,9 +1,8 @@
 -- What lines may read, as they are played one after another.
-use Rattle.std.proofs.Common.{◌≡◌, ◌<◌, ◌≤◌, ◌+◌, ◌-◌, ℕ, true, false, List, [], ◌∷◌, ◌++◌, ◌||◌, cond, length, refl, sym, ap, ◌∙◌, arith, Result, Ok, Err}
+use Rattle.std.proofs.Common.{◌≡◌, ◌+◌, ◌-◌, ℕ, true, false, List, [], ◌∷◌, ◌++◌, ◌||◌, cond, length, refl, sym, ap, ◌∙◌, arith, Result, Ok, Err}
 use Rattle.std.specs.Prelude.{nat_le}
 use Rattle.std.specs.List.{list_any}
 use Rattle.std.proofs.lemmas.Bool.{le-leb}
-use Rattle.std.proofs.lemmas.Bool.Decides.{nat_tests}
 use Rattle.std.proofs.lemmas.List.{length-append}
 use Rattle.map_lines.specs.Present.{present}
 use Rattle.statement_parser.specs.Lines.{Line, blank, edit, ask, quit}
@@ -40,9 +39,6 @@ within_same a = record { looks = omega arith; picks = omega arith }
 within_more : (a b c : Reads) → IsWithin b c → IsWithin (together a b) (together a c)
 within_more a b c w = record { looks = omega (arith, w.looks); picks = omega (arith, w.picks) }
 
-within_first : (a b : Reads) → IsWithin a (together a b)
-within_first a b = record { looks = omega arith; picks = omega arith }
-
 -- ---- one command after another
 
 -- a reply that is whole among the bytes written
@@ -52,26 +48,7 @@ and_then-whole r reply n next =
     let left : (length reply + n) - length reply ≡ n = omega arith in
     rw (whole) (ap (λ k. together r (next k)) left)
 
--- more bytes allow no less
-and_then-more : (r : Reads) (reply : List ℕ) (m n : ℕ) (first second : ℕ → Reads) → m ≤ n → ((k l : ℕ) → k ≤ l → IsWithin (first k) (second l)) → IsWithin (and_then r reply m first) (and_then r reply n second)
-and_then-more r reply m n first second le more = elim (nat_le (length reply) m) as (λ t. nat_le (length reply) m ≡ t → IsWithin (cond t (together r (first (m - length reply))) r) (and_then r reply n second)) [
-  | true ↦ λ e.
-      let fits : length reply ≤ n = grind (arith, nat_tests) in
-      rw (le-leb (length reply) n fits) (within_more r (first (m - length reply)) (second (n - length reply)) (more (m - length reply) (n - length reply) (omega arith)))
-  | false ↦ λ e. elim (nat_le (length reply) n) as (λ t. IsWithin r (cond t (together r (second (n - length reply))) r)) [
-    | true ↦ within_first r (second (n - length reply))
-    | false ↦ within_same r
-  ]
-] refl
-
 -- ---- lines
-
-pub lines_reads-more : (s : MapState) (lines : List (List ℕ)) (m n : ℕ) → m ≤ n → IsWithin (lines_reads s lines m) (lines_reads s lines n)
-lines_reads-more s [] m n le = within_same no_reads
-lines_reads-more s (x ∷ xs) m n le = elim (is_quit x) as (λ t. IsWithin (cond t no_reads (and_then (line_reads s x) (reply_to s x) m (lines_reads (state_to s x) xs))) (cond t no_reads (and_then (line_reads s x) (reply_to s x) n (lines_reads (state_to s x) xs)))) [
-  | true ↦ within_same no_reads
-  | false ↦ and_then-more (line_reads s x) (reply_to s x) m n (lines_reads (state_to s x) xs) (lines_reads (state_to s x) xs) le (λ k l. lines_reads-more (state_to s x) xs k l)
-]
 
 -- the first of some lines may read no more than all
 pub lines_reads-front : (s : MapState) (xs ys : List (List ℕ)) (n : ℕ) → IsWithin (lines_reads s xs n) (lines_reads s (xs ++ ys) n)
@@ -123,13 +100,6 @@ lines_reads-one s line n goes = rw goes (elim (nat_le (length (reply_to s line))
 ])
 
 -- ---- lines that read nothing
-
-not_short : (n : ℕ) → 4096 < n → nat_le n 4096 ≡ false
-not_short n h = grind (arith, nat_tests)
-
-pub line_reads-long : (s : MapState) (line : List ℕ) → 4096 < length line → line_reads s line ≡ no_reads
-unfolding line_reads line_of
-line_reads-long s line long = rw (not_short (length line) long) refl
 
 ends_reads : (s : MapState) (r : Result Line LineRefusal) → ends r ≡ true → reads_by s r ≡ no_reads
 ends_reads s (Ok blank) e = absurd (cc)

@@ -9,7 +9,7 @@ use Rattle.std.proofs.Math.Seq.{take-append-add}
 use Rattle.std.proofs.lemmas.Bool.{lt-ltb, le-ltb}
 use Rattle.map_machine.specs.Lines.{open_piece, ended_lines, last_line, lines_of}
 use Rattle.map_machine.specs.States.{MapState}
-use Rattle.map_machine.specs.Steps.{step_of, is_quit, long_reply}
+use Rattle.map_machine.specs.Steps.{is_quit, long_reply}
 use Rattle.map_machine.specs.Text.{reply_to, state_to, replies_to, state_after, session_lines}
 use Rattle.map_machine.proofs.LinesLemmas.{ended_lines-append}
 
@@ -50,12 +50,6 @@ reply_to-long s line long = rw (lt-ltb 4096 (length line) long) refl
 
 pub state_to-long : (s : MapState) (line : List ℕ) → 4096 < length line → state_to s line ≡ s
 state_to-long s line long = rw (lt-ltb 4096 (length line) long) refl
-
-pub reply_to-short : (s : MapState) (line : List ℕ) → length line ≤ 4096 → reply_to s line ≡ (step_of s line).reply
-reply_to-short s line short = rw (le-ltb 4096 (length line) short) refl
-
-pub state_to-short : (s : MapState) (line : List ℕ) → length line ≤ 4096 → state_to s line ≡ (step_of s line).state
-state_to-short s line short = rw (le-ltb 4096 (length line) short) refl
 
 -- the text of one line that goes on
 pub replies_to-one : (s : MapState) (line : List ℕ) → is_quit line ≡ false → replies_to s (line ∷ []) ≡ reply_to s line

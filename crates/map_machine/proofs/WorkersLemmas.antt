@@ -1,17 +1,9 @@
 -- When a word says a number of workers.
-use Rattle.std.proofs.Common.{◌≡◌, ◌<◌, ◌≤◌, ◌+◌, ◌-◌, ℕ, true, false, List, decimal, ap, ◌∙◌, arith, bytes_eq}
+use Rattle.std.proofs.Common.{◌≡◌, ◌<◌, ◌≤◌, ◌+◌, ◌-◌, ℕ, true, List, decimal, ap, ◌∙◌, arith, bytes_eq}
 use Rattle.std.specs.List.{list_any, range_with_len}
-use Rattle.std.proofs.lemmas.List.Elements.{All-from_get_or}
-use Rattle.std.proofs.lemmas.List.Folds.{list_any_none, list_any_at}
+use Rattle.std.proofs.lemmas.List.Folds.{list_any_at}
 use Rattle.std.proofs.lemmas.List.FromFn.{length-range_with_len, get_or-range_with_len}
 use Rattle.map_machine.specs.Words.{is_workers}
-
-none_up_to : (word : List ℕ) (most : ℕ) → ((k : ℕ) → 1 ≤ k → k < most + 1 → bytes_eq word (decimal k) ≡ false)
-    → list_any (λ n. bytes_eq word (decimal n)) (range_with_len 1 most) ≡ false
-none_up_to word most none =
-    list_any_none (λ n. bytes_eq word (decimal n)) (range_with_len 1 most) (All-from_get_or (λ n. bytes_eq word (decimal n) ≡ false) (range_with_len 1 most) 0 (λ i within.
-    let small : i < most = omega (arith, within, length-range_with_len 1 most) in
-    ap (λ n. bytes_eq word (decimal n)) (get_or-range_with_len 1 most i 0 small) ∙ none (1 + i) (omega arith) (omega arith)))
 
 one_up_to : (word : List ℕ) (most n : ℕ) → 1 ≤ n → n ≤ most → bytes_eq word (decimal n) ≡ true
     → list_any (λ k. bytes_eq word (decimal k)) (range_with_len 1 most) ≡ true
@@ -20,10 +12,6 @@ one_up_to word most n some within is =
     let there : 1 + (n - 1) ≡ n = omega arith in
     list_any_at (λ k. bytes_eq word (decimal k)) (range_with_len 1 most) (n - 1) 0 (omega (arith, length-range_with_len 1 most))
     (ap (λ k. bytes_eq word (decimal k)) (get_or-range_with_len 1 most (n - 1) 0 at ∙ there) ∙ is)
-
--- no number from 1 to 64 is said
-pub no_workers : (word : List ℕ) → ((k : ℕ) → 1 ≤ k → k < 65 → bytes_eq word (decimal k) ≡ false) → is_workers word ≡ false
-no_workers word none = none_up_to word 64 none
 
 pub some_workers : (word : List ℕ) (n : ℕ) → 1 ≤ n → n ≤ 64 → bytes_eq word (decimal n) ≡ true → is_workers word ≡ true
 some_workers word n some within is = one_up_to word 64 n some within is

@@ -1,5 +1,5 @@
 -- Going through marks one by one.
-use Rattle.std.proofs.Common.{◌≡◌, ℕ, suc, ◌+◌, ◌<◌, ◌≤◌, Bool, true, false, cond, not, List, [], ◌∷◌, length, get_or, drop, map, filter, refl, sym, ◌∙◌, ap, arith, ℤ, Option, Some, None}
+use Rattle.std.proofs.Common.{◌≡◌, ℕ, ◌+◌, ◌<◌, ◌≤◌, Bool, true, false, cond, not, List, [], ◌∷◌, length, get_or, drop, map, filter, refl, sym, ◌∙◌, ap, arith, ℤ, Option, Some, None}
 use Rattle.std.proofs.lemmas.List.{drop_more, drop_all}
 use Rattle.map_defs.specs.Ops.{Name}
 use Rattle.map_edits.specs.Marks.{Mark as Kept, is_mark, find_mark}
@@ -35,15 +35,6 @@ module _ (marks : List Mark) (n : Name) (z : ℤ) where
   -- how many others there are from place i on
   abbrev pub others_from : ℕ → ℕ
   others_from i = length (filter (λ (m : Kept). not (is_mark n z m)) (kept_from marks i))
-
-  pub others_past : (i : ℕ) (m : Mark) → i < length marks → m ≡ get_or marks i m → is_mark n z (mark_of m) ≡ true → others_from i ≡ others_from (i + 1)
-  others_past i m h e t = rw (next_kept marks i m h e, t) refl
-
-  pub others_more : (i : ℕ) (m : Mark) → i < length marks → m ≡ get_or marks i m → is_mark n z (mark_of m) ≡ false → others_from i ≡ suc (others_from (i + 1))
-  others_more i m h e t = rw (next_kept marks i m h e, t) refl
-
-  pub others_none : (i : ℕ) → length marks ≤ i → others_from i ≡ 0
-  others_none i h = rw (none_kept marks i h) refl
 
 -- a filter of the marks, and of what is seen of them
 pub kept-filter : (p : Kept → Bool) (marks : List Mark) → map mark_of (filter (λ (m : Mark). p (mark_of m)) marks) ≡ filter p (map mark_of marks)

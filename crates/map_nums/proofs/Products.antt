@@ -4,8 +4,6 @@ use Rattle.std.specs.Int.{int_max, int_min}
 use Rattle.std.proofs.Math.Nat.{mul-le-mul}
 use Rattle.std.proofs.lemmas.Bool.{cases_lt}
 use Rattle.std.proofs.lemmas.Int.{ints, clamps, unsigned_abs-mul}
-use Rattle.map_nums.specs.Numbers.{in_value_range}
-use Rattle.map_nums.proofs.Ranges.{most, past_range}
 
 abbrev pub clamped : ℕ → ℤ → ℤ
 clamped m z = int_max (negsuc m) (int_min z (pos (suc m)))
@@ -51,8 +49,3 @@ past_or_same m whole held v (inr p) =
 -- one factor more
 pub held_times : (m : ℕ) (whole held v : ℤ) → IsHeld m whole held → IsHeld m (whole *ℤ v) (clamped m (held *ℤ v))
 held_times m whole held v h = held_at m (whole *ℤ v) (held *ℤ v) (past_or_same m whole held v h.agrees)
-
--- what a cell may hold of the two is the same
-pub held_in_range : (whole held : ℤ) → IsHeld most whole held → in_value_range held ≡ in_value_range whole
-held_in_range whole held h =
-    elim h.agrees [ inl p ↦ ap in_value_range p.0 | inr p ↦ rw (past_range held p.0, past_range whole p.1) refl ]

@@ -51,10 +51,6 @@ region_copied s now z root first marks f labels begun ca cb h in_it low l c =
 null_right : (s : Size) (now : Cells) (i : ℕ) → cell_at now i ≡ None → IsRegionLabel s now i None
 null_right s now i e = let P : Option ℤ → Type 0 = λ c. IsLabelOf s now i c None in subst P (sym e) refl
 
-none_some : (c : Option ℤ) → c ≡ None → IsSome c → ⊥
-none_some None e h = both_ways false refl h
-none_some (Some z) e h = cc
-
 -- one more place is cleared
 pub cleared_copied : (s : Size) (now : Cells) (changed : List ℕ) (old cells : Cells) (k at : ℕ) (ca cb cc : List Bool) → at < cells_in s → IsCleared now (take k changed) old cells → IsCopiedAt s now at cells cb cc → IsCopiedWith s now old ca cb → IsCopiedWith s now old ca cc
 cleared_copied s now changed old cells k at ca cb cc l w step h =

@@ -89,9 +89,6 @@ module _ (s : Size) (cells : Cells) (z : ℤ) (root : ℕ) (before : List Bool) 
 
 -- ---- what a step leaves
 
-pub grown_none : (s : Size) (cells : Cells) (value : Option ℤ) (from : ℕ) (f : FloodState) → IsGrown s cells value from f f
-grown_none s cells value from f = record { floods = λ z root before e h m. h; marked = λ i e. e; extent = refl; size = refl; grows = omega arith; stays = λ k l. refl }
-
 holds_kept : (old new : List ℕ) (i : ℕ) → length old ≤ length new → ((k : ℕ) → k < length old → get_or new k 0 ≡ get_or old k 0) → Holds old i → Holds new i
 holds_kept old new i n same h = (h.0, omega (arith, h.1), same h.0 h.1 ∙ h.2)
 

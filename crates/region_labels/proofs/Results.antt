@@ -1,9 +1,8 @@
 -- After all steps the labels are the regions.
 use Rattle.std.proofs.Common.{◌≡◌, ◌⊎◌, inl, inr, ℕ, zero, suc, ◌+◌, ◌<◌, ◌≤◌, Bool, true, false, List, [], ◌∷◌, length, get_or, take, map, replicate, Option, Some, None, IsSome, refl, sym, ◌∙◌, ap, subst, arith, ℤ}
 use Rattle.std.proofs.lemmas.Bool.{cases_lt, cases_Bool, cases_eq, both_ways, false_from_ne_true}
-use Rattle.std.proofs.lemmas.List.{get_or-replicate, length-replicate, get_or_past, get_or-set_same, get_or-set_other, length-set, ext_get_or}
+use Rattle.std.proofs.lemmas.List.{get_or-replicate, length-replicate, get_or_past, ext_get_or}
 use Rattle.std.proofs.lemmas.List.FromFn.{get_or-map-range_with_len, length-map-range_with_len}
-use Rattle.std.specs.Prelude.{slice_set}
 use Rattle.map_nums.specs.Grids.{Size, Cells, cell_at, cells_in, places, is_neighbour}
 use Rattle.map_defs.specs.Cells.{same_cell}
 use Rattle.map_defs.specs.Regions.{Has, IsLabelOf, IsRegionLabel, AreRegions}
@@ -40,10 +39,6 @@ null_was s was i label e r = let P : Option ℤ → Type 0 = λ c. IsLabelOf s w
 some_of : (c : Option ℤ) → (c ≡ None) ⊎ IsSome c
 some_of None = inl refl
 some_of (Some z) = inr refl
-
-none_some : (c : Option ℤ) → c ≡ None → IsSome c → ⊥
-none_some None e h = both_ways false refl h
-none_some (Some z) e h = cc
 
 -- a list has a place or not
 held_to : (found : List ℕ) (i n : ℕ) → n ≤ length found → Holds found i ⊎ ((k : ℕ) → k < n → get_or found k 0 ≡ i → ⊥)
@@ -110,9 +105,6 @@ first_now s now begun labels marks none l handled n = record {
 
 -- ---- clearing
 
-pub cleared_none : (now old : Cells) → IsCleared now [] old old
-cleared_none now old = record { count = refl; here = λ i h. absurd (omega (arith, h.1)); other = λ i h. refl }
-
 pub cleared_more : (now : Cells) (changed : List ℕ) (old cells new : Cells) (k at : ℕ) → k < length changed → at ≡ get_or changed k 0 → IsClearedAt now at cells new → IsCleared now (take k changed) old cells → IsCleared now (take (k + 1) changed) old new
 cleared_more now changed old cells new k at l e c h = record {
   count = c.count ∙ h.count;
@@ -125,16 +117,6 @@ cleared_more now changed old cells new k at l e c h = record {
   ];
   other = λ i some. c.other i (λ w. some (let P : ℕ → Type 0 = Holds (take (k + 1) changed) in subst P (sym (w ∙ e)) (take_last changed k l))) ∙ h.other i (λ d. some (holds_take changed k i l d));
 }
-
-pub cleared_put : (now old new : Cells) (at : ℕ) → at < length old → new ≡ slice_set old at None → cell_at now at ≡ None → IsClearedAt now at old new
-cleared_put now old new at l e n = record {
-  count = ap length e ∙ length-set old at None;
-  here = λ _. rw (e) (get_or-set_same old at None None l);
-  other = λ i some. rw (e) (get_or-set_other old at i None None (λ q. none_some (cell_at now at) n (let P : ℕ → Type 0 = λ j. IsSome (cell_at now j) in subst P q (some q))));
-}
-
-pub cleared_kept : (now old : Cells) (at : ℕ) → IsSome (cell_at now at) → IsClearedAt now at old old
-cleared_kept now old at some = record { count = refl; here = λ n. absurd (none_some (cell_at now at) n some); other = λ i h. refl }
 
 -- ---- the layer that is worked on
 
@@ -163,13 +145,3 @@ first_made s extent now la lb fa fb tiles n e size before cells flood count same
     let regions : AreRegions s now lb.cells =
     first_now s now la.cells lb.cells fb.marks (λ i l. ap (λ (xs : Cells). cell_at xs i) c ∙ begun_null s i l) (step.keeps la.cells begun) handled (same.count ∙ ap length c ∙ begun_count s None) in
     subst (AreRegions s now) (sym (made s lb.size lb.before [] lb.cells tiles (same.size ∙ size ∙ e) (ap base_of (same.before ∙ before)) patch.makes)) regions
-
--- the patch of a repair
-pub repaired_made : (s extent : Size) (was now old : Cells) (changed : List ℕ) (la lb lc : WorkState) (fa fb : FloodState) (tiles : List (ℕ × Block)) (n : ℕ) → AreRegions s was old → HoldsChanged s was now changed → extent ≡ s → la.size ≡ extent → la.before ≡ Some old → la.cells ≡ begun_cells extent (Some old) → fa ≡ record { size = extent; marks = replicate n false; found = [] } → n ≡ cells_in extent → IsSameWork la lb → IsCleared now changed la.cells lb.cells → IsSameWork lb lc → IsLabelStep s now lb.cells fa.marks lc.cells fb.marks → ((k : ℕ) → k < length changed → AreHandledRound s now fb.marks (get_or changed k 0)) → IsPatchTo lc.size lc.before lc.cells tiles → AreRegions s now (patched s old tiles)
-repaired_made s extent was now old changed la lb lc fa fb tiles n right all e size before cells flood count same clear same' step handled patch =
-    let c : la.cells ≡ old = cells ∙ ap (λ (z : Size). begun_cells z (Some old)) e ∙ begun_same s old right.full in
-    let begun : IsLabelling s now lb.cells lb.cells fa.marks = subst (λ (f : FloodState). IsLabelling s now lb.cells lb.cells f.marks) (sym flood) (labelling_begun s now lb.cells n (count ∙ ap cells_in e)) in
-    let clear' : IsCleared now changed old lb.cells = subst (λ (xs : Cells). IsCleared now changed xs lb.cells) c clear in
-    let regions : AreRegions s now lc.cells =
-    regions_now s was now old lb.cells lc.cells changed fb.marks right all clear' (step.keeps lb.cells begun) handled (same'.count ∙ same.count ∙ ap length c ∙ right.full) in
-    subst (AreRegions s now) (sym (made s lc.size lc.before old lc.cells tiles (same'.size ∙ same.size ∙ size ∙ e) (ap base_of (same'.before ∙ same.before ∙ before)) patch.makes)) regions

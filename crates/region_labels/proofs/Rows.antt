@@ -29,9 +29,6 @@ only_place s row c i j p r q =
 pub row_lt : (s : Size) (i : ℕ) → IsSize s → i < cells_in s → row_of s i < s.rows
 row_lt s i h l = div_below i s.columns s.rows h.some_column l
 
-pub column_lt : (s : Size) (i : ℕ) → IsSize s → column_of s i < s.columns
-column_lt s i h = mod_below i s.columns h.some_column
-
 -- ---- a step along a row
 
 module _ (s : Size) (cells : Cells) (value : Option ℤ) (from row c j : ℕ) (old f new : FloodState) (p : IsPlace s row c j) (rows : gap (row_of s from) row ≤ 1) (columns : gap (column_of s from) c ≤ 1) (size : length f.marks ≡ cells_in s) (is : new ≡ reached cells value j f) where

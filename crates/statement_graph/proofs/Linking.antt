@@ -37,9 +37,6 @@ first_before es at first e m o within is named found some =
     true_false : true ≡ false → ⊥
     true_false e = cc
 
-any_node : Node
-any_node = record { name = []; needs = None }
-
 pub there_is : (es : List Entry) (at : ℕ) (e : Entry) → at < length es → e ≡ get_or es at e → get_or (nodes_at es) at (node_at e) ≡ node_at e
 there_is es at e within is =
     let len : length (nodes_at es) ≡ length es = length-map es node_at in

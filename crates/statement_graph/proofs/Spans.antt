@@ -1,8 +1,7 @@
 -- Where a group starts and ends among the places, and what stands before and after it.
-use Rattle.std.proofs.Common.{◌≡◌, ℕ, zero, suc, ◌+◌, ◌≤◌, Bool, true, false, not, cond, slice_get, add-one, List, [], ◌∷◌, ◌++◌, map, length, drop, Some, None, bytes_eq, refl, sym, ap, ◌∙◌, arith, append_assoc, length-append}
+use Rattle.std.proofs.Common.{◌≡◌, ℕ, zero, suc, ◌+◌, Bool, true, false, not, cond, slice_get, add-one, List, [], ◌∷◌, ◌++◌, map, length, drop, Some, None, bytes_eq, refl, sym, ap, ◌∙◌, arith, append_assoc, length-append}
 use Rattle.std.proofs.lemmas.Bool.{or_from}
 use Rattle.std.proofs.lemmas.Option.{some_pair_parts, none-some}
-use Rattle.std.proofs.lemmas.List.{drop_all}
 use Rattle.map_defs.specs.Ops.{Name}
 use Rattle.map_defs.specs.Nodes.{Node}
 use Rattle.statement_graph.specs.Groups.{has_group}
@@ -161,11 +160,3 @@ module _ (ss : List Seat) (n : Name) (start at : ℕ) (s : Seat) (is : slice_get
 
   pub span_inner : s.ends ≡ false → span_from start at n (drop at ss) ≡ span_from start (at + 1) n (drop (at + 1) ss)
   span_inner e = ap (span_from start at n) rest_is ∙ rw (e, add-one) refl
-
-pub span_none : (ss : List Seat) (n : Name) (start at : ℕ) → length ss ≤ at → span_from start at n (drop at ss) ≡ None
-span_none ss n start at h = ap (span_from start at n) (drop_all at ss h)
-
-pub own_name-push : (xs : List Node) (x : Node) → own_name (xs ++ x ∷ []) ≡ Some x.name
-own_name-push [] x = refl
-own_name-push (y ∷ []) x = refl
-own_name-push (y ∷ z ∷ zs) x = own_name-push (z ∷ zs) x

@@ -4,32 +4,23 @@ use Rattle.std.specs.Prelude.{sum_by}
 use mathlib.Core.Option.{some, none, some-injective, some-ne-none}
 use native.Mathlib.Decide.{dec_le}
 use lib.ListN.{get_elem?}
-use Rattle.atomic_table.specs.Table.{State, Me, step, keeps, Allows, Splits, Joins, Final, Seen, opening}
+use Rattle.atomic_table.specs.Table.{State, Me, step, keeps, Allows, Splits, Joins, Final, Seen}
 use Rattle.atomic_table.proofs.Lists.{at_set}
 use Rattle.tile_workers.specs.declared.seat.View.{View}
 use Rattle.std.specs.List.{range_with_len}
 use Rattle.tile_workers.specs.Lists.{one_if}
-use Rattle.tile_workers.specs.Tickets.{view, first_view, new_view, spent_view, less_one, both_views}
+use Rattle.tile_workers.specs.Tickets.{view, new_view, spent_view, less_one, both_views}
 use Rattle.tile_workers.specs.Rule.{IsDealt}
 use Rattle.tile_workers.specs.Rule.{IsBoard, marks, drew}
 use Rattle.tile_workers.proofs.Sums.{sum_set, sum_fork, sum_both, sum_one, sum_two, sum_only, each_set, each_snoc}
 use Rattle.tile_workers.proofs.Numbers.{length_merged}
-use Rattle.tile_workers.proofs.Dealt.{split_dealt, draw_dealt, join_dealt, first_dealt, first_each, others_spent, dealt_whole}
+use Rattle.tile_workers.proofs.Dealt.{split_dealt, draw_dealt, join_dealt, others_spent, dealt_whole}
 
 abbrev St : Type 0
 St = State (Unit {0}) View
 
 abbrev SpentIsBlank : View → Type 0
 SpentIsBlank v = v.share ≡ 0 → (v.drawn ≡ []) × (v.marked ≡ false)
-
-pub opens : IsBoard (opening (0 ∷ []) [] first_view)
-opens = record {
-  one_word = refl;
-  shares = refl;
-  spent = first_each SpentIsBlank first_view (λ h. absurd (omega arith));
-  dealt = λ h. first_dealt;
-  ran_over = λ h. absurd (omega arith);
-}
 
 pub splits : (i : ℕ) (v : View) → 1 < v.share → Splits IsBoard i v (less_one v) new_view
 splits i v more s b at = let l : List View = s.views in

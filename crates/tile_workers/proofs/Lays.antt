@@ -29,8 +29,5 @@ module _ {D : Type 0} (jobs : ℕ) (answers : ℕ → D → Type 0) where
       put_cases all left slots x done k d (ℕ_discrete k x) len less here
       (subst (λ (l : List (Laid D)). (0 < times k (tickets l)) ⊎ IsSomeAnd (get_or slots k d) (answers k)) is (put k d less some_there))
 
-  pub put_all : (all : List (Laid D)) (slots : List (Option D)) → ArePut all [] slots → (k : ℕ) (d : Option D) → k < jobs → 0 < times k (tickets all) → IsSomeAnd (get_or slots k d) (answers k)
-  put_all all slots put k d less some_there = ⊎_elim (λ h. absurd (omega arith)) (λ h. h) (put k d less some_there)
-
   pub stands : (whole left : List (Laid D)) (a : Laid D) → AllStand (job_answers jobs answers) whole → whole ≡ left ++ option_to_list (Some a) → AllStand (job_answers jobs answers) left × (answers a.ticket a.done)
   stands whole left a all is = let r = All-pop (λ (t : Laid D). job_answers jobs answers t.ticket t.done) whole left (Some a) is all in (r.0, (r.1).1)

@@ -19,10 +19,6 @@ pub joined_push : (cs : List (List Entry)) (es : List Entry) → joined (cs ++ e
 joined_push [] es = append-nil es
 joined_push (fs ∷ cs) es = ap (λ (l : List Entry). fs ++ l) (joined_push cs es) ∙ sym (append_assoc fs (joined cs) es)
 
-pub joined_join : (cs ds : List (List Entry)) → joined (cs ++ ds) ≡ joined cs ++ joined ds
-joined_join [] ds = refl
-joined_join (es ∷ cs) ds = ap (λ (l : List Entry). es ++ l) (joined_join cs ds) ∙ sym (append_assoc es (joined cs) (joined ds))
-
 -- an entry ranks no higher than the end of its zone, and one above the end of a zone is of a higher one
 pub rank_end : (e : Entry) → IsShort e.pair → rank e.pair ≤ℤ end_of e.pair.zone
 rank_end e s = omega (arith, ints, s.high_key)
@@ -32,13 +28,6 @@ zone_above z e s h = by_lt_z z e.pair.zone (λ l. l) (λ l. absurd (omega (arith
 
 pub above_zone : (z : ℤ) (e : Entry) → IsShort e.pair → z <ℤ e.pair.zone → end_of z <ℤ rank e.pair
 above_zone z e s h = omega (arith, ints, s.low_key, h)
-
-pub end_rises : (y z : ℤ) → y ≤ℤ z → end_of y ≤ℤ end_of z
-end_rises y z h = omega (arith, ints, h)
-
-pub lowest_end : (es : List Entry) → Climbs floor es → Climbs (end_of lowest) es
-lowest_end [] c = tt
-lowest_end (e ∷ es) c = let k = c.2 in (omega (arith, ints, k.low_zone, k.low_key), c.1, c.2, c.3)
 
 pub end_lowest : (es : List Entry) → Climbs (end_of lowest) es → Climbs floor es
 end_lowest es c = climbs_from (end_of lowest) floor es (omega (arith, ints)) c

@@ -1,8 +1,8 @@
 -- Steps put together.
-use Rattle.std.proofs.Common.{◌≡◌, ◌≢◌, ℕ, zero, suc, ◌+◌, ◌<◌, ◌≤◌, ◌^◌, w32, FitsSigned, Bool, true, false, cond, List, [], ◌∷◌, ◌++◌, length, get_or, take, fold, IsPermutation, refl, sym, ◌∙◌, ap, subst, arith, ℤ, pos, negsuc, ◌<ℤ◌, ◌≤ℤ◌, ◌+ℤ◌}
+use Rattle.std.proofs.Common.{◌≡◌, ◌≢◌, ℕ, zero, suc, ◌+◌, ◌<◌, ◌≤◌, Bool, true, false, cond, List, [], ◌∷◌, ◌++◌, length, get_or, take, fold, IsPermutation, refl, sym, ◌∙◌, ap, subst, arith, ℤ, pos, negsuc, ◌<ℤ◌, ◌≤ℤ◌, ◌+ℤ◌}
 use Rattle.std.specs.Ordering.{int_eq, int_cmp, is_lt}
 use Rattle.std.specs.List.Sorted.{IsSortedBy}
-use Rattle.std.proofs.lemmas.Int.{ints, fits_signed_from_abs}
+use Rattle.std.proofs.lemmas.Int.{ints}
 use Rattle.std.proofs.lemmas.Bool.Decides.{Decides-int_eq}
 use Rattle.map_nums.proofs.Exchanges.{along_permutation}
 use Rattle.zonal_totals.specs.declared.pairs.Pair.{Pair}
@@ -27,13 +27,6 @@ size_sum a b =
     let p = size_bounds a in
     let q = size_bounds b in
     size_least (a +ℤ b) (size a + size b) (omega (arith, ints, p.0, q.0)) (omega (arith, ints, p.1, q.1))
-
-pub fits_by_size : (z : ℤ) → size z < 2 ^ 31 → FitsSigned w32 z
-fits_by_size (pos n) h = fits_signed_from_abs w32 (pos n) h
-fits_by_size (negsuc n) h = fits_signed_from_abs w32 (negsuc n) h
-
-pub fits_sum : (a b : ℤ) → size a + size b < 2 ^ 31 → FitsSigned w32 (a +ℤ b)
-fits_sum a b h = fits_by_size (a +ℤ b) (omega (arith, size_sum a b))
 
 pub weight_at : (ss : List Step) (i : ℕ) (d : Step) → i < length ss → weight (take i ss) + size (get_or ss i d).by ≤ weight ss
 weight_at [] i d h = absurd (omega arith)

@@ -72,10 +72,6 @@ both true true e = (refl, refl)
 both true false e = (refl, e)
 both false c e = absurd (cc)
 
-chosen : (b c : Bool) (x : ℤ) → cond (b && c) x (pos 0) ≡ cond b (cond c x (pos 0)) (pos 0)
-chosen true c x = refl
-chosen false c x = refl
-
 module _ (cells tiles : ℕ) (size : ℕ → ℕ) (cell : ℕ → ℕ → ℕ) (tile place : ℕ → ℕ)
     (within : (t k : ℕ) → t < tiles → k < size t → cell t k < cells)
     (tile_is : (t k : ℕ) → t < tiles → k < size t → tile (cell t k) ≡ t)

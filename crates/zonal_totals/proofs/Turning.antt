@@ -69,9 +69,6 @@ module _ (cs : List (List Entry)) (ss : List Step) (i j : ℕ) (out : List (List
       let up : z' <ℤ (get_or (drop j ss) (to - j) d).pair.zone = omega (arith, ints, zone, above d (omega (arith, h, length-drop j ss)), last_zone_is) in
       rank_beyond z' (get_or (drop j ss) (to - j) d).pair (short_at (end_of z) (drop j ss) (to - j) d inv.steps h) up))
 
-  pub turn_some : 0 < length x
-  turn_some = omega (arith, ap (λ (l : List Entry). length l) is, (section_at z cs i inv.base more).0)
-
   pub turn_order : Climbs floor x
   turn_order = subst (λ (l : List Entry). Climbs floor l) (sym is) (floor_of es (section_at z cs i inv.base more).1)
     where
