@@ -29,20 +29,26 @@ quotient_by_product w n c some few =
     scaled w n c (n / c) (n % c) (w / c + 1) (c - w % c) (div-add-mod' n c) (mod_below n c some) (omega (arith, div-add-mod' w c, below)) (omega arith) few
 
 scale_most : (s : Size) → scale_of s ≤ 8589934593
+unfolding scale_of
 scale_most s = omega (arith, div-le_self scaled_one s.columns)
 
 -- the product fits a word
 pub product_fits : (s : Size) (at : ℕ) → IsSize s → at < cells_in s → at * scale_of s < 18446744073709551616
 product_fits s at h l = omega (arith, mul-lt at (scale_of s) 1500000 8589934594 (omega (arith, l, h.most_cells)) (omega (arith, scale_most s)))
 
--- the row of a cell, which lies on the map
-pub record IsRow (s : Size) (at row : ℕ) : Type 0 where
-  pub is : row ≡ row_of s at
-  pub within : row < s.rows
+-- the row of a cell by a product, and the numbers on the way to it fit
+pub record IsRow (s : Size) (at n m : ℕ) : Type 0 where
+  pub product : n * m < 18446744073709551616
+  pub is : n * m / scaled_one ≡ row_of s at
+  pub within : n * m / scaled_one < s.rows
+  pub small : n * m / scaled_one < 4096
 
--- the row by a product, where t is the map's size and m is its scale
-pub row_by_scale : (s t : Size) (at n m : ℕ) → t ≡ s → IsSize t → m ≡ scale_of t → n ≡ at → at < cells_in s → IsRow s at (n * m / scaled_one)
+-- where t is the map's size and m is its scale
+pub row_by_scale : (s t : Size) (at n m : ℕ) → t ≡ s → IsSize t → m ≡ scale_of t → n ≡ at → at < cells_in s → IsRow s at n m
+unfolding scale_of
 row_by_scale s t at n m e h scale same l =
     let few = mul-lt t.columns at 4097 1500000 (omega (arith, h.most_columns)) (omega (arith, h.most_cells, l, ap (λ u. cells_in u) e)) in
+    let fits : n * m < 18446744073709551616 = rw (scale, same) (product_fits t at h (omega (arith, l, ap (λ u. cells_in u) e))) in
     let by : n * m / scaled_one ≡ at / s.columns = rw (scale, same, ← e) (quotient_by_product scaled_one at t.columns h.some_column (omega (arith, few))) in
-    record { is = by; within = rw (by) (div_below at s.columns s.rows (rw (← e) h.some_column) l) }
+    let below : at / s.columns < s.rows = div_below at s.columns s.rows (rw (← e) h.some_column) l in
+    record { product = fits; is = by; within = rw (by) below; small = rw (by) (omega (arith, below, h.most_rows, ap (λ (u : Size). u.rows) e)) }

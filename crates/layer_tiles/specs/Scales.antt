@@ -6,6 +6,6 @@ use Rattle.map_nums.specs.Grids.{Size}
 abbrev pub scaled_one : ℕ
 scaled_one = 8589934592
 
--- the scale of a row
-abbrev pub scale_of : Size → ℕ
+-- the scale of a row; a word of its own, so that proofs above need not read the division in it
+unfoldable pub scale_of : Size → ℕ
 scale_of s = scaled_one / s.columns + 1

@@ -38,6 +38,7 @@ impl Model for Extent {
 
 impl Extent {
     /// The extent of 1 to 4096 rows and columns and at most 1,500,000 cells, none for any other.
+    #[tactic(auto, unfolding(crate::specs::Scales::scale_of))]
     pub fn new(rows: u32, columns: u32) -> Option<Extent>
         ensures fits { IsSome result ↔ IsSize (record { rows = rows; columns = columns }) }
         ensures size { IfSome result (λ e. e ≡ record { rows = rows; columns = columns }) }
@@ -53,6 +54,7 @@ impl Extent {
     }
 
     /// The extent of one cell.
+    #[tactic(auto, unfolding(crate::specs::Scales::scale_of))]
     pub(crate) fn one() -> Extent {
         Extent {
             rows: 1,
