@@ -15,7 +15,7 @@ use Rattle.map_nums.proofs.Ascending.{equals_itself, differs}
 use Rattle.map_nums.proofs.Extremes.{le_is_true, le_both}
 use Rattle.map_nums.proofs.Picks.{count_by-none, find_leading}
 use Rattle.map_nums.proofs.Varieties.{variety_of-permutation}
-use Rattle.focal_ops.specs.Kinds.{AreKinds, HaveSlots, IsKey, by_counts, slot_at}
+use Rattle.focal_ops.specs.Kinds.{AreKinds, IsKey, by_counts}
 
 pub occurrences_few : (x : ℤ) (xs : List ℤ) → occurrences x xs ≤ length xs
 unfolding occurrences
@@ -110,19 +110,6 @@ module _ (xs : List ℤ) (i : ℕ) (here : i < length xs) where
             (λ j l. let t = h.all j l in (t.0, omega (arith, t.1), kept t.0 t.1 ∙ t.2))
             (n, omega arith, put);
       }
-
-taken_still : (slots : List ℕ) (a b s : ℕ) → a < length slots → s < 255 → get_or slots b 0 ≢ 255 → get_or (set slots a s) b 0 ≢ 255
-taken_still slots a b s l few h = elim (cases_eq b a) [
-  | inl e ↦ rw (e, get_or-set_same slots a s 0 l) (λ q. absurd (omega arith))
-  | inr ne ↦ rw (get_or-set_other slots a b s 0 ne) h
-]
-
--- the new kind takes its slot
-pub slots_new : (slots : List ℕ) (values : List ℤ) (n s : ℕ) (z : ℤ) → HaveSlots slots values n → n < length values → slot_at z < length slots → s < 255 → HaveSlots (set slots (slot_at z) s) (set values n z) (n + 1)
-slots_new slots values n s z h room wide few =
-    below_more (λ k. get_or (set slots (slot_at z) s) (slot_at (get_or (set values n z) k (pos 0))) 0 ≢ 255) n
-    (λ k l. let ne : k ≢ n = omega arith in rw (get_or-set_other values n k z (pos 0) ne) (taken_still slots (slot_at z) (slot_at (get_or values k (pos 0))) s wide few (h k l)))
-    (rw (get_or-set_same values n z (pos 0) room, get_or-set_same slots (slot_at z) s 0 wide) (λ q. absurd (omega arith)))
 
 -- ---- the leader by its key
 

@@ -19,10 +19,6 @@ use Rattle.focal_ops.proofs.Spans.{range_more, map-map, map-flat_map, flat_map_a
 pub row_end : (a b w n : ℕ) → a < b → b * w ≤ n → a * w + w ≤ n
 row_end a b w n l h = omega (arith, h, mul-le (a + 1) w b w (omega (arith, l)) (omega arith))
 
--- no more than 96 rows of 96
-pub few_cells : (h w n : ℕ) → n ≡ h * w → h ≤ 96 → w ≤ 96 → n ≤ 9216
-few_cells h w n e p q = omega (arith, e, mul-le h w 96 96 p q)
-
 step_is : (reach k : ℕ) → step reach k ≡ pos k -ℤ pos reach
 step_is reach k = omega (arith, ints)
 

@@ -1,8 +1,8 @@
 -- Costs and frictions in lists.
-use Rattle.std.proofs.Common.{◌≡◌, inl, inr, ℕ, zero, suc, ◌+◌, ◌<◌, ◌≤◌, List, [], ◌∷◌, ◌++◌, length, length-append, get_or, replicate, Option, refl, sym, ◌∙◌, ap, subst, arith, ℤ}
+use Rattle.std.proofs.Common.{◌≡◌, inl, inr, ℕ, zero, suc, ◌+◌, ◌<◌, ◌≤◌, List, [], ◌∷◌, ◌++◌, length, length-append, get_or, Option, refl, sym, ◌∙◌, ap, subst, arith, ℤ}
 use Rattle.std.specs.Prelude.{slice_set, ◌==◌, if◌then◌else◌}
 use Rattle.std.proofs.lemmas.Bool.{cases_lt}
-use Rattle.std.proofs.lemmas.List.{get_or_default, get_or_past, get_or-set_same, get_or-set_other, get_or_append_left, get_or_push, get_or-replicate, length-replicate}
+use Rattle.std.proofs.lemmas.List.{get_or_default, get_or_past, get_or-set_same, get_or-set_other, get_or_append_left, get_or_push}
 use Rattle.map_defs.specs.Nets.{IsLeastIn}
 use Rattle.map_defs.specs.Spread.{friction_at}
 use Rattle.map_defs.proofs.Nets.{one_least}
@@ -15,9 +15,6 @@ use Rattle.friction_spread.specs.Copied.{IsMoved}
 use Rattle.friction_spread.specs.Flat.{costs_of, AreFrictions}
 
 -- ---- frictions
-
-pub no_frictions : (g : GroundState) → AreFrictions g [] 0
-no_frictions g = record { count = omega arith; each = λ i l. absurd (omega (arith, l)); low = λ i l. absurd (omega (arith, l)) }
 
 pub one_friction_more : (g : GroundState) (list new : List ℕ) (n v : ℕ) → new ≡ list ++ v ∷ [] → v ≡ friction_at g.friction n → v < 2147483648 → AreFrictions g list n → AreFrictions g new (n + 1)
 one_friction_more g list new n v e f m h =
@@ -48,12 +45,6 @@ cost_set g costs new at v l e = record {
   here = ap (λ xs. costs_of g xs at) e ∙ get_or-set_same costs at v (suc g.limit) l;
   other = λ j n. ap (λ xs. costs_of g xs j) e ∙ get_or-set_other costs at j v (suc g.limit) n;
 }
-
-pub no_cost : (g : GroundState) (n t i : ℕ) → t ≡ suc g.limit → costs_of g (replicate n t) i ≡ suc g.limit
-no_cost g n t i e = elim (cases_lt i n) as (λ _. costs_of g (replicate n t) i ≡ suc g.limit) [
-  | inl l ↦ get_or-replicate n i t (suc g.limit) l ∙ e
-  | inr l ↦ get_or_past (replicate n t) i (suc g.limit) (omega (arith, l, length-replicate n t))
-]
 
 -- nothing has a cost yet
 pub none_tried : (g : GroundState) (d : ℕ → ℕ) (entries : List (ℕ × ℕ)) → ((i : ℕ) → d i ≡ suc g.limit) → IsFilling (net_of g) d entries

@@ -1,16 +1,15 @@
 -- The net of a spread: where its steps lead, and what cells show in it.
-use Rattle.std.proofs.Common.{◌≡◌, ◌≢◌, inl, inr, ℕ, suc, ◌<◌, ◌≤◌, Bool, true, false, cond, length, Option, Some, None, refl, sym, ◌∙◌, ap, subst, arith, ℤ, pos, negsuc}
-use Rattle.std.specs.Prelude.{◌&&◌, nat_lt, is_some, slice_set}
+use Rattle.std.proofs.Common.{◌≡◌, ◌≢◌, inl, inr, ℕ, suc, ◌<◌, ◌≤◌, Bool, true, false, cond, length, Option, Some, None, refl, ◌∙◌, subst, arith, ℤ, pos, negsuc}
+use Rattle.std.specs.Prelude.{◌&&◌, nat_lt, is_some}
 use Rattle.std.proofs.lemmas.Bool.{cases_lt, cases_Bool, and_parts, and_from, both_ways, ltb-true, lt-ltb, le-leb, lt-leb}
 use Rattle.std.proofs.lemmas.Bool.Decides.{nat_tests}
-use Rattle.std.proofs.lemmas.List.{get_or_past, get_or-set_same, get_or-set_other}
+use Rattle.std.proofs.lemmas.List.{get_or_past}
 use Rattle.map_nums.specs.Grids.{Size, Cells, cell_at, cells_in, row_of, column_of, gap, is_neighbour}
 use Rattle.map_defs.specs.Nets.{IsClosed, HasCosts, IsWithin}
 use Rattle.map_defs.specs.Spread.{friction_at, step_cost}
 use Rattle.map_defs.specs.Rounds.{is_open, spread_net, cost_cell}
 use Rattle.map_defs.proofs.SpreadNet.{below_top, at_top, at_cost, spread_closed, spread_has_costs}
 use Rattle.friction_spread.specs.Costs.{GroundState, cost_of, values, AreCosts, base_of, step_of, net_of}
-use Rattle.least_costs.specs.Queue.{IsSetTo}
 
 pub net_same : (g : GroundState) → spread_net g.size g.sources g.friction (suc g.limit) ≡ net_of g
 unfolding spread_net base_of step_of
@@ -121,25 +120,6 @@ cost_most limit (Some (negsuc v)) e = omega arith
 
 pub values_most : (limit : ℕ) (cells : Cells) → AreCosts limit cells → (i : ℕ) → values limit cells i ≤ suc limit
 values_most limit cells h i = cost_most limit (cell_at cells i) (h i)
-
--- one cell was set
-pub set_values : (limit : ℕ) (cells new : Cells) (at v : ℕ) → at < length cells → v ≤ suc limit → new ≡ slice_set cells at (cost_cell limit v) → IsSetTo (values limit cells) at v (values limit new)
-set_values limit cells new at v l m e = record {
-  here = rw (e) (ap (cost_of (suc limit)) (get_or-set_same cells at (cost_cell limit v) None l) ∙ cost_back limit v m);
-  other = λ j n. rw (e) (ap (cost_of (suc limit)) (get_or-set_other cells at j (cost_cell limit v) None n));
-}
-
-pub set_costs : (limit : ℕ) (cells new : Cells) (at v : ℕ) → at < length cells → v ≤ suc limit → new ≡ slice_set cells at (cost_cell limit v) → AreCosts limit cells → AreCosts limit new
-set_costs limit cells new at v l m e h i =
-    let P : Option ℤ → Type 0 = λ c. c ≡ cost_cell limit (cost_of (suc limit) c) in
-    elim (cases_lt i at) as (λ _. P (cell_at new i)) [
-      | inl q ↦ subst P (sym (ap (λ xs. cell_at xs i) e ∙ get_or-set_other cells at i (cost_cell limit v) None (omega arith))) (h i)
-      | inr q ↦ elim (cases_lt at i) as (λ _. P (cell_at new i)) [
-        | inl r ↦ subst P (sym (ap (λ xs. cell_at xs i) e ∙ get_or-set_other cells at i (cost_cell limit v) None (omega arith))) (h i)
-        | inr r ↦ (let z : i ≡ at = omega arith in
-            subst P (sym (ap (λ xs. cell_at xs i) e ∙ ap (cell_at (slice_set cells at (cost_cell limit v))) z ∙ get_or-set_same cells at (cost_cell limit v) None l)) (ap (cost_cell limit) (sym (cost_back limit v m))))
-      ]
-    ]
 
 pub base_outside : (g : GroundState) (i : ℕ) → cells_in g.size ≤ i → base_of g i ≡ suc g.limit
 unfolding base_of

@@ -1,17 +1,17 @@
 -- The places near a place give its equation.
-use Rattle.std.proofs.Common.{◌≡◌, ◌≢◌, ◌⊎◌, inl, inr, ℕ, suc, ◌+◌, ◌*◌, ◌/◌, ◌%◌, ◌<◌, ◌≤◌, min, true, false, refl, sym, ◌∙◌, ap, subst, arith}
+use Rattle.std.proofs.Common.{◌≡◌, ◌≢◌, ◌⊎◌, inl, inr, ℕ, suc, ◌+◌, ◌*◌, ◌/◌, ◌%◌, ◌<◌, ◌≤◌, true, false, refl, sym, ◌∙◌, ap, subst, arith}
 use Rattle.std.specs.Prelude.{is_some}
 use Rattle.std.proofs.lemmas.Bool.{cases_lt}
-use Rattle.std.proofs.lemmas.Nat.{div-add-mod', div_below, mod_below}
+use Rattle.std.proofs.lemmas.Nat.{div-add-mod', div_below}
 use Rattle.map_nums.specs.Grids.{Size, IsSize, cell_at, cells_in, row_of, column_of, gap}
-use Rattle.map_defs.specs.Nets.{Net, IsWithin, equation}
+use Rattle.map_defs.specs.Nets.{IsWithin, equation}
 use Rattle.map_defs.specs.Spread.{friction_at, step_cost}
 use Rattle.map_defs.proofs.Nets.{equation_is, equation_only}
 use Rattle.friction_spread.specs.declared.ground.Spot.{Spot}
 use Rattle.friction_spread.specs.Costs.{GroundState, base_of, step_of, net_of}
 use Rattle.friction_spread.specs.Spots.{IsSpot, AreNear, weighed}
 use Rattle.friction_spread.proofs.Grounds.{IsJoined, leads, step_joined, step_none, no_loop, base_source, base_barrier, base_other}
-use Rattle.friction_spread.specs.Rows.{IsLowered, RowLowered, RowLoweredTo, RoundLoweredTo}
+use Rattle.friction_spread.specs.Rows.{IsLowered, RoundLoweredTo}
 
 -- ---- one step
 
@@ -45,43 +45,6 @@ only_spot s p i h r c =
 
 pub row_lt : (s : Size) (i : ℕ) → IsSize s → i < cells_in s → row_of s i < s.rows
 row_lt s i h l = div_below i s.columns s.rows h.some_column l
-
-pub column_lt : (s : Size) (i : ℕ) → IsSize s → column_of s i < s.columns
-column_lt s i h = mod_below i s.columns h.some_column
-
--- ---- the least so far
-
-pub lowered_none : (g : Net) (d : ℕ → ℕ) (i best : ℕ) → IsLowered g d i best best
-lowered_none g d i best = record { most = omega arith; attained = inl refl }
-
-pub lowered_then : (g : Net) (d : ℕ → ℕ) (i a b c : ℕ) → IsLowered g d i a b → IsLowered g d i b c → IsLowered g d i a c
-lowered_then g d i a b c p q = record {
-  most = omega (arith, p.most, q.most);
-  attained = elim q.attained as (λ _. (c ≡ a) ⊎ ((j : ℕ) × (c ≡ d j + g.step j i))) [
-    | inl e ↦ elim p.attained as (λ _. (c ≡ a) ⊎ ((j : ℕ) × (c ≡ d j + g.step j i))) [ inl f ↦ inl (e ∙ f) | inr f ↦ inr (f.0, e ∙ f.1) ]
-    | inr e ↦ inr e
-  ];
-}
-
-pub lowered_by : (g : Net) (d : ℕ → ℕ) (i j a b : ℕ) → b ≡ min a (d j + g.step j i) → IsLowered g d i a b
-lowered_by g d i j a b e = record {
-  most = omega (arith, e);
-  attained = elim (cases_lt (d j + g.step j i) a) as (λ _. (b ≡ a) ⊎ ((j : ℕ) × (b ≡ d j + g.step j i))) [ inl l ↦ inr (j, omega (arith, e, l)) | inr l ↦ inl (omega (arith, e, l)) ];
-}
-
-pub row_next : (g : GroundState) (d : ℕ → ℕ) (i row k a b : ℕ) (p : Spot) → IsSpot g.size p → p.row ≡ row → p.column ≡ k → b ≡ min a (d p.at + step_of g p.at i) → RowLoweredTo (net_of g) g.size d i row k a → RowLoweredTo (net_of g) g.size d i row (k + 1) b
-row_next g d i row k a b p h r c e near j l q n m = elim (cases_lt (column_of g.size j) k) as (λ _. b ≤ d j + step_of g j i) [
-  | inl u ↦ omega (arith, near j l q n u, e)
-  | inr u ↦ (let same : j ≡ p.at = only_spot g.size p j h (q ∙ sym r) (omega (arith, m, u, c)) in
-      let P : ℕ → Type 0 = λ x. b ≤ d x + step_of g x i in
-      subst P (sym same) (omega (arith, e)))
-]
-
-pub round_next : (g : GroundState) (d : ℕ → ℕ) (i r a b : ℕ) → b ≤ a → RowLowered (net_of g) g.size d i r b → RoundLoweredTo (net_of g) g.size d i r a → RoundLoweredTo (net_of g) g.size d i (r + 1) b
-round_next g d i r a b h row near j l q n m = elim (cases_lt (row_of g.size j) r) as (λ _. b ≤ d j + step_of g j i) [
-  | inl u ↦ omega (arith, near j l q n u, h)
-  | inr u ↦ row j l (omega (arith, m, u)) n
-]
 
 -- ---- the equation
 

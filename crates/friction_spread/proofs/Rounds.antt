@@ -1,5 +1,5 @@
 -- Rows of places that come into the queue.
-use Rattle.std.proofs.Common.{◌≡◌, inl, inr, ℕ, ◌+◌, ◌-◌, ◌<◌, ◌≤◌, min, List, sym, ◌∙◌, subst, arith}
+use Rattle.std.proofs.Common.{◌≡◌, inl, inr, ℕ, ◌+◌, ◌<◌, ◌≤◌, min, List, sym, ◌∙◌, subst, arith}
 use Rattle.std.proofs.lemmas.Bool.{cases_lt}
 use Rattle.map_nums.specs.Grids.{Size, row_of, column_of, gap}
 use Rattle.map_defs.specs.Nets.{Net}
@@ -11,7 +11,7 @@ use Rattle.friction_spread.proofs.Least.{only_spot}
 use Rattle.least_costs.specs.Queue.{IsQueued, IsKept, IsOfferedBy, OfferedFrom, IsRisen}
 use Rattle.least_costs.specs.Filling.{IsRelaxed}
 use Rattle.least_costs.proofs.Fills.{relaxed_still}
-use Rattle.friction_spread.specs.Rows.{RowQueued, RowQueuedTo, RoundQueuedTo, RowOffered, RowOfferedTo, RoundOffered, RoundOfferedTo, RowRisen, RowRisenTo, RoundRisen, RoundRisenTo, RowRelaxed, RowRelaxedTo, RoundRelaxedTo}
+use Rattle.friction_spread.specs.Rows.{RowQueuedTo, RowOffered, RowOfferedTo, RoundOffered, RoundOfferedTo, RowRisen, RowRisenTo, RoundRisen, RoundRisenTo, RowRelaxed, RowRelaxedTo, RoundRelaxedTo}
 
 pub kept_then : (a b c : List (ℕ × ℕ)) → IsKept a b → IsKept b c → IsKept a c
 kept_then a b c p q x h = q x (p x h)
@@ -20,20 +20,11 @@ kept_then a b c p q x h = q x (p x h)
 pub below : (a b n h : ℕ) → gap a b ≤ 1 → b < n → h ≡ min (a + 2) n → b < h
 below a b n h g l e = omega arith
 
-pub beside : (x n l h c : ℕ) → l ≡ x - 1 → h ≡ min (x + 2) n → l ≤ c → c < h → gap c x ≤ 1
-beside x n l h c e f a b = omega arith
-
 module _ (g : Net) (s : Size) (d : ℕ → ℕ) (entries entries' : List (ℕ × ℕ)) (c : ℕ) (kept : IsKept entries entries') where
   pub row_queued_next : (row k : ℕ) (p : Spot) → IsSpot s p → p.row ≡ row → p.column ≡ k → IsQueued g d entries' p.at → RowQueuedTo g s d entries c row k → RowQueuedTo g s d entries' c row (k + 1)
   row_queued_next row k p h r e here near j l q n m = elim (cases_lt (column_of s j) k) as (λ _. IsQueued g d entries' j) [
     | inl u ↦ (λ x. kept _ (near j l q n u x))
     | inr u ↦ (let same : j ≡ p.at = only_spot s p j h (q ∙ sym r) (omega (arith, m, u, e)) in let P : ℕ → Type 0 = IsQueued g d entries' in subst P (sym same) here)
-  ]
-
-  pub round_queued_next : (r : ℕ) → RowQueued g s d entries' c r → RoundQueuedTo g s d entries c r → RoundQueuedTo g s d entries' c (r + 1)
-  round_queued_next r row near j l q n m = elim (cases_lt (row_of s j) r) as (λ _. IsQueued g d entries' j) [
-    | inl u ↦ (λ x. kept _ (near j l q n u x))
-    | inr u ↦ row j l (omega (arith, m, u)) n
   ]
 
   pub row_offered_next : (row k : ℕ) (p : Spot) → IsSpot s p → p.row ≡ row → p.column ≡ k → IsOfferedBy g d entries' c p.at → RowOfferedTo g s d entries c row k → RowOfferedTo g s d entries' c row (k + 1)
