@@ -115,9 +115,6 @@ slot_lent s cells at w e h l = subst (λ (v : WindowState). IsTrue (lends v.span
 pub band_begins : (s : Size) (band : ℕ) → band < tiles_down s → band_start s band ≡ band * 32 * s.columns
 band_begins s band h = let e : min s.rows (band * 32) ≡ band * 32 = omega (arith, band_row s band h) in ap (λ n. n * s.columns) e
 
-pub band_ends : (s : Size) (band : ℕ) → min s.rows (band * 32 + 32) * s.columns ≡ band_start s (band + 1)
-band_ends s band = let e : min s.rows (band * 32 + 32) ≡ min s.rows ((band + 1) * 32) = omega arith in ap (λ n. n * s.columns) e
-
 pub all_bands : (s : Size) (band : ℕ) → tiles_down s ≤ band → band_start s band ≡ cells_in s
 all_bands s band h = let e : min s.rows (band * 32) ≡ s.rows = omega (arith, last_band s band h) in ap (λ n. n * s.columns) e
 

@@ -2,7 +2,7 @@
 use Rattle.std.proofs.Common.{◌≡◌, ℕ, zero, suc, ◌+◌, ◌-◌, ◌*◌, ◌/◌, ◌<◌, ◌≤◌, min, Bool, true, false, nat_lt, cond, List, [], ◌∷◌, length, get_or, refl, ◌∙◌, ap, arith}
 use Rattle.std.specs.List.{count_by, Contains}
 use Rattle.std.proofs.lemmas.Bool.Decides.{nat_tests}
-use Rattle.std.proofs.lemmas.List.Sums.{count_by-le-length, sum_by-cons}
+use Rattle.std.proofs.lemmas.List.Sums.{sum_by-cons}
 use Rattle.map_nums.specs.Grids.{Size, IsSize}
 use Rattle.layer_tiles.specs.Tiles.{tiles_in, tiles_down, tiles_across, tile_top, tile_left, tile_height, tile_width}
 use Rattle.layer_tiles.specs.Tallies.{TallyState, RisesBy, looked}
@@ -73,7 +73,3 @@ looks_all false s touched t first a b h l is e r = cc
 pub looks_touched : (all : Bool) (s : Size) (touched : List ℕ) (t : ℕ) (first a b : TallyState) → IsSize s → t < tiles_in s → all ≡ false → Contains touched t → b ≡ looked (tiles_lent (span_of s t 0)) a → RisesBy (looks_below all touched t) 0 first a → RisesBy (looks_below all touched (t + 1)) 0 first b
 looks_touched true s touched t first a b h l is held e r = cc
 looks_touched false s touched t first a b h l is held e r = looks_one false s touched t first a b h l (one_more_below touched t held.0 held.1 held.2) e r
-
--- at most each touched tile once
-pub looks_few : (touched : List ℕ) (n : ℕ) (a b : TallyState) → RisesBy (looks_below false touched n) 0 a b → RisesBy (length touched) 0 a b
-looks_few touched n a b r = rises_within (looks_below false touched n) 0 (length touched) 0 a b (count_by-le-length (λ u. nat_lt u n) touched) (omega arith) r
