@@ -6,7 +6,7 @@ ghost use Rattle.friction_spread.specs.Costs.{values, net_of};
 ghost use Rattle.friction_spread.specs.Spots.{IsSpot};
 ghost use Rattle.least_costs.specs.Queue.{IsQueued, IsKept};
 ghost use Rattle.friction_spread.specs.Rows.{RowQueued, RoundQueued};
-ghost use Rattle.friction_spread.specs.Near.{AreSeen};
+ghost use Rattle.friction_spread.specs.Near.{AreMarked, AreSeen};
 
 use crate::costs::cost_at;
 use crate::equations::equation;
@@ -39,12 +39,38 @@ pub fn look<M: Tally>(
     Ok(())
 }
 
-/// The same where the place was not seen before. At most 21 picks.
-fn look_once<M: Tally>(
+/// The same where the place does not stand in a set of places that were looked at. At most 21 picks.
+fn look_unless_marked<M: Tally>(
     ground: &Ground<'_>,
     labels: &Working<'_>,
     queue: &mut Queue,
     seen: &mut PlaceSet,
+    at: Spot,
+    tally: &mut M,
+) -> Result<(), NoMemory>
+    requires size { labels.now.size ≡ ground.now.size }
+    requires spot { IsSpot ground.now.size at }
+    requires seen { AreMarked ground.now (values ground.now.limit labels.now.cells) queue.old seen.old }
+    ensures kept { OnOk result (IsKept queue.old queue.new) }
+    ensures queued { OnOk result (IsQueued (net_of ground.now) (values ground.now.limit labels.now.cells) queue.new at.at) }
+    ensures seen { OnOk result (AreMarked ground.now (values ground.now.limit labels.now.cells) queue.new seen.new) }
+    ensures len { OnOk result (length queue.new ≤ length queue.old + 1) }
+    ensures picks { RisesBy 0 21 (M.counts tally.old) (M.counts tally.new) }
+{
+    if seen.has(at.at) {
+        return Ok(());
+    }
+    look(ground, labels, queue, at, tally)?;
+    seen.add(at.at)?;
+    Ok(())
+}
+
+/// The same where it is not known that the place was looked at. At most 21 picks.
+fn look_once<M: Tally>(
+    ground: &Ground<'_>,
+    labels: &Working<'_>,
+    queue: &mut Queue,
+    seen: &mut Option<PlaceSet>,
     at: Spot,
     tally: &mut M,
 ) -> Result<(), NoMemory>
@@ -57,12 +83,10 @@ fn look_once<M: Tally>(
     ensures len { OnOk result (length queue.new ≤ length queue.old + 1) }
     ensures picks { RisesBy 0 21 (M.counts tally.old) (M.counts tally.new) }
 {
-    if seen.has(at.at) {
-        return Ok(());
+    match seen {
+        Some(places) => look_unless_marked(ground, labels, queue, places, at, tally),
+        None => look(ground, labels, queue, at, tally),
     }
-    look(ground, labels, queue, at, tally)?;
-    seen.add(at.at)?;
-    Ok(())
 }
 
 /// Those of a row next to a place. At most 63 picks.
@@ -70,7 +94,7 @@ fn look_row<M: Tally>(
     ground: &Ground<'_>,
     labels: &Working<'_>,
     queue: &mut Queue,
-    seen: &mut PlaceSet,
+    seen: &mut Option<PlaceSet>,
     from: Spot,
     row: u32,
     tally: &mut M,
@@ -99,7 +123,7 @@ pub fn look_round<M: Tally>(
     ground: &Ground<'_>,
     labels: &Working<'_>,
     queue: &mut Queue,
-    seen: &mut PlaceSet,
+    seen: &mut Option<PlaceSet>,
     from: Spot,
     tally: &mut M,
 ) -> Result<(), NoMemory>

@@ -1,5 +1,5 @@
 //! Least costs put right after a change.
-ghost use Rattle.std.specs.Prelude.{◌≡◌, ◌<◌, ◌≤◌, ◌≤ℤ◌, ◌+◌, ◌*◌, ◌∷◌, ℕ, pos, nat_abs, [], length, OnOk, IfOk, Some, slice_index_or, filter};
+ghost use Rattle.std.specs.Prelude.{◌≡◌, ◌<◌, ◌≤◌, ◌≤ℤ◌, List, ◌+◌, ◌*◌, ◌∷◌, ℕ, pos, nat_abs, [], length, OnOk, IfOk, Some, slice_index_or, filter};
 ghost use Rattle.std.specs.List.{All};
 ghost use Rattle.std.specs.Option.{option_copied};
 ghost use Rattle.map_nums.specs.Grids.{Cells, cells_in, places};
@@ -13,9 +13,9 @@ ghost use Rattle.layer_tiles.specs.Changes.{cells_before};
 ghost use Rattle.layer_tiles.specs.ChangeFacts.{HoldsNoUnchanged};
 ghost use Rattle.layer_tiles.specs.Patches.{patched};
 ghost use Rattle.tile_work.specs.Working.{before_of, base_of};
-ghost use Rattle.friction_spread.specs.Costs.{values, AreCosts, net_of};
+ghost use Rattle.friction_spread.specs.Costs.{GroundState, values, AreCosts, net_of};
 ghost use Rattle.friction_spread.specs.Rows.{RoundQueued};
-ghost use Rattle.friction_spread.specs.Near.{AgreeFar};
+ghost use Rattle.friction_spread.specs.Near.{AgreeFar, AreSeen};
 ghost use Rattle.friction_spread.specs.Repairs.{HoldsExactly, IsRightBefore, IsBaseFor, IsPatchFor};
 
 use crate::first::{Repair, first_costs};
@@ -23,10 +23,20 @@ use crate::ground::Ground;
 use crate::looks::look_round;
 use crate::settle::settle;
 use changed_cells::changed_places_of_both;
-use layer_tiles::{Change, Layer, NoMemory, Tally, Value};
+use layer_tiles::{Change, Extent, Layer, NoMemory, Tally, Value};
 use least_costs::Queue;
 use std::alloc::Global;
 use tile_work::{PlaceSet, Working};
+
+/// No place of a set of those that were looked at. One changed place alone wants no set, since none of the places round it comes twice.
+fn none_seen(alloc: Global, extent: Extent, changed: usize) -> Result<Option<PlaceSet>, NoMemory>
+    ensures { IfOk result (λ seen. (g : GroundState) (d : ℕ → ℕ) (entries : List (ℕ × ℕ)) → g.size ≡ extent → AreSeen g d entries seen) }
+{
+    if changed < 2 {
+        return Ok(None);
+    }
+    Ok(Some(PlaceSet::new(alloc, extent)?))
+}
 
 /// The places round each of some places come into the queue where they disagree.
 fn look_at_all<M: Tally>(
@@ -43,7 +53,7 @@ fn look_at_all<M: Tally>(
     ensures len { OnOk result (length queue.new ≤ length queue.old + 9 * length changed.now) }
     ensures picks { RisesBy 0 (189 * length changed.now) (M.counts tally.old) (M.counts tally.new) }
 {
-    let mut seen = PlaceSet::new(alloc, ground.extent())?;
+    let mut seen = none_seen(alloc, ground.extent(), changed.len())?;
     for at in changed {
         look_round(ground, labels, queue, &mut seen, ground.spot(*at), tally)?;
     }

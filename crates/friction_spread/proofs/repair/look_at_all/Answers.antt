@@ -1,9 +1,7 @@
 use Rattle.std.proofs.Common.{◌≡◌, ℕ, ◌+◌, ◌*◌, get_or, inl, inr, arith, subst, sym, ◌∙◌, ap}
 use Rattle.std.proofs.lemmas.Bool.{cases_lt}
-use Rattle.map_nums.specs.Grids.{cells_in}
 use Rattle.layer_tiles.proofs.Rising.{rises_none, rises_then, rises_within}
 use Rattle.friction_spread.specs.Costs.{values, net_of}
-use Rattle.friction_spread.proofs.Seen.{none_seen}
 use Rattle.friction_spread.proofs.repair.look_at_all.Goals as goal
 use Rattle.friction_spread.specs.Rows.{RoundQueued}
 
@@ -27,7 +25,7 @@ loop-at-init g c =
     let gr = c.args.ground.now in
     record {
       queued = λ k l. absurd (omega (arith, l));
-      seen = none_seen gr (values gr.limit c.args.labels.now.cells) c.args.queue.now c.extent.result (cells_in c.extent.result) c.in_ok-seen.seen c.extent.ensures.extent c.in_ok-seen.ensures;
+      seen = c.in_ok-seen.ensures gr (values gr.limit c.args.labels.now.cells) c.args.queue.now (sym c.extent.ensures.extent);
       len = omega arith;
       picks = rises_none _;
     }

@@ -1,7 +1,7 @@
 use Rattle.std.proofs.Common.{sym, ◌∙◌}
 use Rattle.friction_spread.specs.Costs.{values}
 use Rattle.friction_spread.proofs.Seen.{seen_next}
-use Rattle.friction_spread.proofs.looks.look_once.Goals as goal
+use Rattle.friction_spread.proofs.looks.look_unless_marked.Goals as goal
 
 pub returns-then-has-clause-queued : goal.returns-then-has-clause-queued
 returns-then-has-clause-queued g c = c.requires.seen.queued c.args.at.at (sym c.has.ensures ∙ c.if-has.true)
