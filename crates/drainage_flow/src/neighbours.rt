@@ -49,10 +49,10 @@ pub(crate) fn neighbour(extent: Extent, at: u32, k: u8) -> Option<u32>
     let rows = extent.rows();
     let columns = extent.columns();
     let (down, right) = offset(k);
-    let Some(row) = stepped(at / columns, down, rows) else {
+    let Some(row) = stepped(extent.row_of(at), down, rows) else {
         return None;
     };
-    let Some(column) = stepped(at % columns, right, columns) else {
+    let Some(column) = stepped(extent.column_of(at), right, columns) else {
         return None;
     };
     Some(row * columns + column)
