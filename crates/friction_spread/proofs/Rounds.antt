@@ -8,7 +8,7 @@ use Rattle.friction_spread.specs.Costs.{GroundState, net_of}
 use Rattle.friction_spread.specs.Spots.{IsSpot}
 use Rattle.friction_spread.proofs.Grounds.{leads}
 use Rattle.friction_spread.proofs.Least.{only_spot}
-use Rattle.least_costs.specs.Queue.{IsQueued, IsKept, IsOfferedBy, OfferedFrom, IsRisen}
+use Rattle.least_costs.specs.Queue.{IsQueued, IsKept, IsOfferedBy, OfferedFrom, IsRaised, IsRisen}
 use Rattle.least_costs.specs.Filling.{IsRelaxed}
 use Rattle.least_costs.proofs.Fills.{relaxed_still}
 use Rattle.friction_spread.specs.Rows.{RowQueuedTo, RowOffered, RowOfferedTo, RoundOffered, RoundOfferedTo, RowRisen, RowRisenTo, RoundRisen, RoundRisenTo, RowRelaxed, RowRelaxedTo, RoundRelaxedTo}
@@ -39,15 +39,18 @@ module _ (g : Net) (s : Size) (d : ℕ → ℕ) (entries entries' : List (ℕ ×
     | inr u ↦ row j l (omega (arith, m, u)) n
   ]
 
+  raised_still : (v i : ℕ) → IsRaised g v d entries c i → IsRaised g v d entries' c i
+  raised_still v i h = record { above = λ x y. kept _ (h.above x y); level = λ x. kept _ (h.level x) }
+
   pub row_risen_next : (v row k : ℕ) (p : Spot) → IsSpot s p → p.row ≡ row → p.column ≡ k → IsRisen g v d entries' c p.at → RowRisenTo g s v d entries c row k → RowRisenTo g s v d entries' c row (k + 1)
   row_risen_next v row k p h r e here near j l q n m = elim (cases_lt (column_of s j) k) as (λ _. IsRisen g v d entries' c j) [
-    | inl u ↦ (λ x y z. kept _ (near j l q n u x y z))
+    | inl u ↦ (λ x. raised_still v j (near j l q n u x))
     | inr u ↦ (let same : j ≡ p.at = only_spot s p j h (q ∙ sym r) (omega (arith, m, u, e)) in let P : ℕ → Type 0 = IsRisen g v d entries' c in subst P (sym same) here)
   ]
 
   pub round_risen_next : (v r : ℕ) → RowRisen g s v d entries' c r → RoundRisenTo g s v d entries c r → RoundRisenTo g s v d entries' c (r + 1)
   round_risen_next v r row near j l q n m = elim (cases_lt (row_of s j) r) as (λ _. IsRisen g v d entries' c j) [
-    | inl u ↦ (λ x y z. kept _ (near j l q n u x y z))
+    | inl u ↦ (λ x. raised_still v j (near j l q n u x))
     | inr u ↦ row j l (omega (arith, m, u)) n
   ]
 

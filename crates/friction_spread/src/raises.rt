@@ -16,7 +16,7 @@ use layer_tiles::{NoMemory, Tally};
 use least_costs::Queue;
 use tile_work::Working;
 
-/// A place near one whose cost was `value` comes into the queue if it disagrees, unless its own cost is below the cost through that place: then its equation did not rise, or stays above it. At most 23 picks.
+/// A place near one whose cost was `value`. Where it has the cost through that one, it may have stood on it, and comes into the queue under its own cost: its equation is computed when it is taken out. One above that cost comes into the queue if it disagrees; for one below, the equation did not rise, or stays above it. At most 23 picks.
 fn raise<M: Tally>(
     ground: &Ground<'_>,
     labels: &Working<'_>,
@@ -40,12 +40,20 @@ fn raise<M: Tally>(
     if from.at == to.at {
         return Ok(());
     }
+    let there = cost_at(ground, labels, to.at, tally);
+    if there <= value {
+        return Ok(());
+    }
     let friction = ground.friction(to.at, tally);
     if friction == 0 {
         return Ok(());
     }
-    let there = cost_at(ground, labels, to.at, tally);
-    if there < value + weigh(from, to, own, friction) {
+    let cost = value + weigh(from, to, own, friction);
+    if there < cost {
+        return Ok(());
+    }
+    if there == cost {
+        queue.push(there, to.at)?;
         return Ok(());
     }
     look(ground, labels, queue, to, tally)

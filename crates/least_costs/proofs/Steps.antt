@@ -9,7 +9,7 @@ use Rattle.std.proofs.lemmas.Bool.Decides.{nat_tests}
 use Rattle.map_defs.specs.Nets.{Net, HasCosts, IsClosed, IsWithin, IsLeastIn, equation}
 use Rattle.map_defs.proofs.Nets.{IsSettled, least_costs}
 use Rattle.least_costs.specs.Ranks.{ranks, changed}
-use Rattle.least_costs.specs.Queue.{IsQueued, IsKept, IsDue, next_value, IsOffered, IsSetTo, IsRise, IsStep, is_first}
+use Rattle.least_costs.specs.Queue.{IsQueued, IsKept, IsDue, next_value, IsOffered, IsSetTo, IsRaised, IsRise, IsStep, is_first}
 use Rattle.least_costs.specs.Best.{Ranked, IsRepairing, same}
 use Rattle.least_costs.proofs.Equations.{same_or, equation_kept, equation_fallen, equation_rises, equation_holds, outside, next_above, next_below, next_most}
 use Rattle.least_costs.proofs.Takes.{Taken, take_above, take_below, ranks_rise, ranks_most, ranks_changed, changed_moves, rank_left}
@@ -125,8 +125,8 @@ module _ (g : Net) (closed : IsClosed g) (costs : HasCosts g) (no_loop : HasNoLo
       offered_all h i = elim (cases_lt (g.step at i) g.top) as (λ _. IsOffered g d' entries' at i) [ inl l ↦ h i l | inr l ↦ (λ b. absurd (omega (arith, b, most' i))) ]
 
       -- a rise
-      apart_queued : IsKept left entries' → d at ≤ equation g d at → (i : ℕ) → i ≢ at → d' i < d at + g.step at i → IsQueued g d' entries' i
-      apart_queued kept below i n h m =
+      raised_queued : IsKept left entries' → d at ≤ equation g d at → (i : ℕ) → i ≢ at → IsRaised g (d at) d' entries' at i → IsQueued g d' entries' i
+      raised_queued kept below i n raised m =
           let e = equation g d i in
           let e' = equation g d' i in
           let v = set.other i n in
@@ -135,7 +135,13 @@ module _ (g : Net) (closed : IsClosed g) (costs : HasCosts g) (no_loop : HasNoLo
           elim (cases_lt e (d at + g.step at i)) as (λ _. Contains entries' (min (d' i) e', i)) [
             | inl l ↦ (let high : e' ≤ e = equation_holds g d d' at i now.within within' set.other l in
                 still_queued kept i n (λ x. m (omega (arith, v, x, low, high))) (omega (arith, v, low, high)))
-            | inr l ↦ still_queued kept i n (λ x. absurd (omega (arith, x, v, h, l))) (omega (arith, v, h, l, low))
+            | inr l ↦ elim (cases_lt (d' i) (d at + g.step at i)) as (λ _. Contains entries' (min (d' i) e', i)) [
+              | inl h ↦ still_queued kept i n (λ x. absurd (omega (arith, x, v, h, l))) (omega (arith, v, h, l, low))
+              | inr h ↦ elim (same_or (d at + g.step at i) (d' i)) as (λ _. Contains entries' (min (d' i) e', i)) [
+                | inr o ↦ raised.above (omega (arith, h, o)) m
+                | inl o ↦ (let P : ℕ → Type 0 = λ k. Contains entries' (k, i) in let k : d' i ≡ min (d' i) e' = omega (arith, o, l, low) in subst P k (raised.level o))
+              ]
+            ]
           ]
 
       risen_at : IsKept left entries' → IsRise g d d' entries' at → (i : ℕ) → IsQueued g d' entries' i
@@ -143,10 +149,7 @@ module _ (g : Net) (closed : IsClosed g) (costs : HasCosts g) (no_loop : HasNoLo
         | inl e ↦ (let P : ℕ → Type 0 = IsQueued g d' entries' in subst P (sym e) rise.here)
         | inr n ↦ elim (cases_lt (g.step at i) g.top) as (λ _. IsQueued g d' entries' i) [
           | inr l ↦ far_queued kept i n l
-          | inl l ↦ elim (cases_lt (d' i) (d at + g.step at i)) as (λ _. IsQueued g d' entries' i) [
-            | inl h ↦ apart_queued kept rise.below i n h
-            | inr h ↦ rise.risen i l h
-          ]
+          | inl l ↦ raised_queued kept rise.below i n (rise.risen i l)
         ]
       ]
 

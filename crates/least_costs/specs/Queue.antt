@@ -31,9 +31,14 @@ IsOfferedBy g d entries c i = g.step c i < g.top → IsOffered g d entries c i
 abbrev pub OfferedFrom : Net → (ℕ → ℕ) → List (ℕ × ℕ) → ℕ → Type 0
 OfferedFrom g d entries c = (i : ℕ) → IsOfferedBy g d entries c i
 
--- where a step leads from c, whose value was v: the place stands in the queue if it disagrees and its value is not below the cost through c
+-- the value of c was v: a place that stood on c stands in the queue under its own value, whatever its equation gives now; one above the cost through c stands there if it disagrees; one below did not need c
+pub record IsRaised (g : Net) (v : ℕ) (d : ℕ → ℕ) (entries : List (ℕ × ℕ)) (c i : ℕ) : Type 0 where
+  pub above : v + g.step c i < d i → IsQueued g d entries i
+  pub level : v + g.step c i ≡ d i → Contains entries (d i, i)
+
+-- where a step leads
 abbrev pub IsRisen : Net → ℕ → (ℕ → ℕ) → List (ℕ × ℕ) → ℕ → ℕ → Type 0
-IsRisen g v d entries c i = g.step c i < g.top → v + g.step c i ≤ d i → IsQueued g d entries i
+IsRisen g v d entries c i = g.step c i < g.top → IsRaised g v d entries c i
 
 -- one value was set
 pub record IsSetTo (d : ℕ → ℕ) (at v : ℕ) (d' : ℕ → ℕ) : Type 0 where
@@ -45,7 +50,7 @@ pub record IsFall (g : Net) (d d' : ℕ → ℕ) (entries' : List (ℕ × ℕ)) 
   pub above : equation g d at < d at
   pub fallen : OfferedFrom g d' entries' at
 
--- the value was below the equation's, and rose to `top`: the place, and those whose values are not below the cost through it, stand in the queue if they disagree
+-- the value was below the equation's, and rose to `top`: the place stands in the queue if it disagrees, and the others as their costs ask for it
 pub record IsRise (g : Net) (d d' : ℕ → ℕ) (entries' : List (ℕ × ℕ)) (at : ℕ) : Type 0 where
   pub below : d at ≤ equation g d at
   pub here : IsQueued g d' entries' at
