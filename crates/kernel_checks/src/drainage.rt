@@ -182,6 +182,17 @@ fn a_valley_and_its_middle_filled(rt: HostRuntime) -> Result<(), Fail> {
 }
 
 #[test]
+fn a_plain_and_one_cell(rt: HostRuntime) -> Result<(), Fail> {
+    let square = Extent::new(3, 3).ok_or("limits")?;
+    assert!(rt; drains(rt.alloc(), square, &[5; 9], &[0; 9])?);
+    assert!(rt; begins(rt.alloc(), square, &[5; 9], &[1; 9], &[1; 9], 18)?);
+    let least = Extent::new(1, 1).ok_or("limits")?;
+    assert!(rt; drains(rt.alloc(), least, &[7], &[0])?);
+    assert!(rt; begins(rt.alloc(), least, &[7], &[1], &[1], 2)?);
+    Ok(())
+}
+
+#[test]
 fn nulls(rt: HostRuntime) -> Result<(), Fail> {
     let row = Extent::new(1, 4).ok_or("limits")?;
     let slope = [4, 3, 2, 1];
