@@ -1,7 +1,7 @@
-//! Measures the Local kernel: so many times the sum of two layers of 1000 by 1000 cells, tile by tile, in memory.
+//! Measures the Local kernel: so many times a statistic of two layers of 1000 by 1000 cells, tile by tile, in memory.
 //!
-//! The first word is the number of rounds. With `copy` for the second, the tiles of the left layer are copied cell by cell
-//! instead, to compare with. What is printed is the sum of the first cells of all tiles of the last round, so that no round
+//! The first word is the number of rounds. The second names the statistic, `sum` or `maximum`, so that the compiler doesn't know it, as in the
+//! program; with `copy` the tiles of the left layer are copied cell by cell instead, to compare with. What is printed is the sum of the first cells of all tiles of the last round, so that no round
 //! can be left out. `bench/local` tells the time of a cell from two such runs.
 #![tactic(auto)]
 
@@ -22,7 +22,7 @@ const SIDE: u32 = 1000;
 /// What is measured.
 #[derive(Clone, Copy)]
 enum Work {
-    Sum,
+    Stat(Stat),
     Copy,
 }
 
@@ -43,9 +43,10 @@ fn waves(alloc: Global, extent: Extent, by_row: u32, by_column: u32) -> Result<L
     Layer::from_cells(alloc, extent, &cells, 1)
 }
 
-// A tile of the two layers' sum.
-fn sum(
+// A tile of a statistic of the two layers.
+fn both(
     alloc: Global,
+    stat: Stat,
     left: &Layer,
     right: &Layer,
     tile: u32,
@@ -57,7 +58,7 @@ fn sum(
     let mut operands = Operands::new();
     operands.push(Change::same(left));
     operands.push(Change::same(right));
-    local_tile(alloc, &LocalOp::Stat(Stat::Sum), &operands, tile, tally)
+    local_tile(alloc, &LocalOp::Stat(stat), &operands, tile, tally)
 }
 
 // A copy of a tile of a layer.
@@ -103,7 +104,7 @@ fn corner(
     requires within { tile < tiles_in left.now.size }
 {
     let made = match work {
-        Work::Sum => sum(alloc, left, right, tile, tally)?,
+        Work::Stat(stat) => both(alloc, stat, left, right, tile, tally)?,
         Work::Copy => copy(alloc, left, tile, tally)?,
     };
     let first = made.row(0).first();
@@ -150,13 +151,14 @@ fn task(rt: &HostRuntime) -> io::Result<(u32, Work)> {
     };
     let work = match words.next() {
         Some(word) if word.as_str() == "copy" => Work::Copy,
-        _ => Work::Sum,
+        Some(word) if word.as_str() == "maximum" => Work::Stat(Stat::Maximum),
+        _ => Work::Stat(Stat::Sum),
     };
     Ok((count, work))
 }
 
 fn main(rt: HostRuntime) -> ExitCode {
-    let (count, work) = task(&rt).unwrap_or((1, Work::Sum));
+    let (count, work) = task(&rt).unwrap_or((1, Work::Stat(Stat::Sum)));
     match rounds(rt.alloc(), work, count) {
         Ok(total) => match println!(&rt; "{total}") {
             Ok(()) => ExitCode::from(0),

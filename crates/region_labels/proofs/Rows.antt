@@ -125,3 +125,7 @@ region_begun s cells z root extent marks cleared f n has new c e =
 
 pub region_done : (s : Size) (cells : Cells) (z : ℤ) (root head : ℕ) (before : List Bool) (f : FloodState) → IsFlooding s cells z root before f → IsRoundTo s cells z head f → length f.found ≤ head → IsFlooded s cells z root before f
 region_done s cells z root head before f h round l = record { flooding = h; round = λ k m. round k (omega (arith, m, l)) }
+
+-- a row next to row x comes before the end of the rows round it
+pub in_round : (x y n h r : ℕ) → h ≡ min (x + 2) n → h ≤ r → gap x y ≤ 1 → y < n → y < r
+in_round x y n h r e l g m = omega arith

@@ -1,5 +1,5 @@
 //! A region that is reached place by place.
-ghost use Rattle.std.specs.Prelude.{◌≡◌, ◌<◌, ◌≤◌, ◌+◌, ◌-◌, ◌*◌, ◌++◌, ◌∷◌, [], length, replicate, false, true, slice_set, slice_index_or, IfOk, OnOk, OnErr, IsSome, Some, ℕ, ℤ};
+ghost use Rattle.std.specs.Prelude.{◌≡◌, ◌<◌, ◌≤◌, ◌+◌, ◌-◌, ◌*◌, ◌^◌, ◌++◌, ◌∷◌, [], length, replicate, false, true, slice_set, slice_index_or, IfOk, OnOk, OnErr, IsSome, Some, ℕ, ℤ};
 ghost use Rattle.map_nums.specs.Grids.{IsSize, cells_in, cell_at, row_of, column_of, gap};
 ghost use Rattle.layer_tiles.specs.Tallies.{RisesBy};
 ghost use Rattle.region_labels.specs.Flood.{is_marked, marks_in, reached, IsGrown, IsRowMarked, IsAllMarked, IsFurther, IsAfter, IsFlooded, IsJoined};
@@ -181,13 +181,13 @@ fn reach_row<M: Tally>(
     Ok(())
 }
 
-/// The first column next to a place whose places are to be reached; `after` where the place on its left was worked on.
-fn first_column(extent: Extent, from: u32, after: bool) -> u32
-    ensures least { column_of extent from ≤ result + 1 }
-    ensures most { result ≤ column_of extent from + 1 }
-    ensures further { (x : ℕ) → gap (column_of extent from) x ≤ 1 → IsFurther after (column_of extent from) x → result ≤ x }
+/// The first column next to a place in this one whose places are to be reached; `after` where the place on its left was worked on.
+fn first_column(column: u32, after: bool) -> u32
+    requires { column < 2 ^ 31 }
+    ensures least { column ≤ result + 1 }
+    ensures most { result ≤ column + 1 }
+    ensures further { (x : ℕ) → gap column x ≤ 1 → IsFurther after column x → result ≤ x }
 {
-    let column = from % extent.columns();
     if after && column > 0 {
         return column + 1;
     }
@@ -212,9 +212,9 @@ fn reach_all<M: Tally>(
     ensures picks { RisesBy 0 9 (M.counts tally.old) (M.counts tally.new) }
 {
     let extent = of.extent();
-    let row = from / extent.columns();
-    let column = from % extent.columns();
-    let first = first_column(extent, from, after);
+    let row = extent.row_of(from);
+    let column = extent.column_of(from);
+    let first = first_column(column, after);
     let low = row.saturating_sub(1);
     let high = (row + 2).min(extent.rows());
     for r in low..high {

@@ -120,8 +120,9 @@ fn label_row<M: Tally>(
     ensures picks { OnOk result (RisesBy (copies labels.new.copied - copies labels.old.copied) (3 + 10 * (marks_in flood.new.marks - marks_in flood.old.marks)) (M.counts tally.old) (M.counts tally.new)) }
     ensures wanted { OnErr result (RisesBy (copies labels.new.copied - copies labels.old.copied + 1) (3 + 10 * (marks_in flood.new.marks - marks_in flood.old.marks)) (M.counts tally.old) (M.counts tally.new)) }
 {
-    let columns = of.extent().columns();
-    let column = from % columns;
+    let extent = of.extent();
+    let columns = extent.columns();
+    let column = extent.column_of(from);
     let low = column.saturating_sub(1);
     let high = (column + 2).min(columns);
     for c in low..high {
@@ -154,7 +155,7 @@ pub fn label_round<M: Tally>(
     ensures wanted { OnErr result (RisesBy (copies labels.new.copied - copies labels.old.copied + 1) (9 + 10 * (marks_in flood.new.marks - marks_in flood.old.marks)) (M.counts tally.old) (M.counts tally.new)) }
 {
     let extent = of.extent();
-    let row = from / extent.columns();
+    let row = extent.row_of(from);
     let low = row.saturating_sub(1);
     let high = (row + 2).min(extent.rows());
     for r in low..high {

@@ -1,7 +1,7 @@
 -- Rows that are made cell by cell, and tiles that are made row by row.
-use Rattle.std.proofs.Common.{◌≡◌, ◌≢◌, ℕ, ◌+◌, ◌-◌, ◌*◌, ◌<◌, ◌≤◌, length, get_or, set, IsTrue, IsFalse, Option, None, ℤ, Result, Ok, Err, IfOk, refl, sym, ◌∙◌, ap, subst, arith, below_more, ⊎_elim, inl, Bool, ◌&&◌}
-use Rattle.std.specs.Result.{is_ok}
-use Rattle.std.proofs.lemmas.Bool.{cases_lt, and_parts}
+use Rattle.std.proofs.Common.{◌≡◌, ◌≢◌, ℕ, ◌+◌, ◌-◌, ◌*◌, ◌<◌, ◌≤◌, length, get_or, set, IsTrue, IsFalse, Option, None, ℤ, Result, Ok, Err, IfOk, refl, sym, ◌∙◌, ap, subst, arith, below_more, ⊎_elim, inl, Bool, true, false, min, if◌then◌else◌}
+use Rattle.std.specs.Result.{is_err}
+use Rattle.std.proofs.lemmas.Bool.{cases_lt}
 use Rattle.std.proofs.lemmas.List.{get_or-set_same, get_or-set_other, length-set}
 use Rattle.std.proofs.lemmas.Nat.{mul-add-lt, div-mul-add, mod-mul-add}
 use Rattle.map_nums.specs.Answers.{is_wide}
@@ -65,7 +65,7 @@ row_set value width r row old new w set same ranged =
     }
 
 -- one more cell of a list
-pub cells_more : (value : ℕ → Option ℤ) (c : ℕ) (cells : Cells) (cell : Option ℤ) → AreCellsOf value c cells → c < length cells → cell ≡ value c → IsFalse (is_wide (value c)) → AreCellsOf value (c + 1) (set cells c cell)
+cells_more : (value : ℕ → Option ℤ) (c : ℕ) (cells : Cells) (cell : Option ℤ) → AreCellsOf value c cells → c < length cells → cell ≡ value c → IsFalse (is_wide (value c)) → AreCellsOf value (c + 1) (set cells c cell)
 cells_more value c cells cell a l is ranged = record {
   same = below_more _ _
       (λ j b. let other : j ≢ c = omega arith in get_or-set_other cells c j cell None other ∙ a.same j b)
@@ -73,19 +73,69 @@ cells_more value c cells cell a l is ranged = record {
   in_range = below_more _ _ a.in_range ranged;
 }
 
--- the answer of one more cell, where those before are in range
-pub cells_go_on : (value : ℕ → Option ℤ) (c : ℕ) (cells : Cells) (answer : Result (Option ℤ) Wide) (before ok : Bool) (cell : Option ℤ) → (IsTrue before → AreCellsOf value c cells) → c < length cells → IsExact (value c) answer → IfOk answer (λ v. cell ≡ v) → ok ≡ is_ok answer → IsTrue (before && ok) → AreCellsOf value (c + 1) (set cells c cell)
-cells_go_on value c cells (Ok v) before ok cell a l x is k t = cells_more value c cells cell (a (and_parts before ok t).0) l (is ∙ x.0) x.1
-cells_go_on value c cells (Err wide) before ok cell a l x is k t = let both = and_parts before ok t in cc
+-- a cell behind the first n
+cells_beyond : (value : ℕ → Option ℤ) (n c : ℕ) (cells : Cells) (cell : Option ℤ) → AreCellsOf value n cells → n ≤ c → AreCellsOf value n (set cells c cell)
+cells_beyond value n c cells cell a l = record {
+  same = λ j b. let other : j ≢ c = omega arith in get_or-set_other cells c j cell None other ∙ a.same j b;
+  in_range = a.in_range;
+}
 
-first_wide : (value : ℕ → Option ℤ) (s : Size) (t r c at : ℕ) (old made : Block) → IsRowMade value (tile_width s t) r c old made → c < tile_width s t → at ≡ (tile_top s t + r) * s.columns + tile_left s t + c → IsTrue (is_wide (value c)) → IsFirstWide value s t r at
+-- c columns of a row are made, and `end` is the first of them whose value is out of range, or the width
+pub record AreMadeTo (value : ℕ → Option ℤ) (width c end : ℕ) (cells : Cells) : Type 0 where
+  pub most : end ≤ width
+  pub made : AreCellsOf value (min c end) cells
+  pub wide : end < width → (end < c) × IsTrue (is_wide (value end))
+
+-- one more column
+pub made_more : (value : ℕ → Option ℤ) (width c end : ℕ) (cells : Cells) (answer : Result (Option ℤ) Wide) (cell : Option ℤ) → AreMadeTo value width c end cells → c < width → c < length cells → IsExact (value c) answer → IfOk answer (λ v. cell ≡ v) → AreMadeTo value width (c + 1) (if is_err answer then min end c else end) (set cells c cell)
+made_more value width c end cells answer cell m within l x is = ⊎_elim (λ (b : c < end). before answer b x is) (λ (b : end ≤ c). behind answer b) (cases_lt c end)
+  where
+    TO : ℕ → Type 0
+    TO n = AreMadeTo value width (c + 1) n (set cells c cell)
+    before : (answer : Result (Option ℤ) Wide) → c < end → IsExact (value c) answer → IfOk answer (λ v. cell ≡ v) → TO (if is_err answer then min end c else end)
+    before (Ok v) b x is =
+        let whole : min c end ≡ c = omega arith in
+        let more : min (c + 1) end ≡ c + 1 = omega arith in
+        let all : end ≡ width = ⊎_elim (λ (w : end < width). absurd (omega (arith, (m.wide w).0))) (λ (w : width ≤ end). omega (arith, m.most)) (cases_lt end width) in
+        record {
+          most = m.most;
+          made = subst (λ n. AreCellsOf value n (set cells c cell)) (sym more) (cells_more value c cells cell (subst (λ n. AreCellsOf value n cells) whole m.made) l (is ∙ x.0) x.1);
+          wide = λ w. absurd (omega (arith, all, w));
+        }
+    before (Err e) b x is =
+        let whole : min c end ≡ c = omega arith in
+        let same : min end c ≡ c = omega arith in
+        let end_at : min (c + 1) (min end c) ≡ c = omega arith in
+        record {
+          most = omega (arith, same, within);
+          made = subst (λ n. AreCellsOf value n (set cells c cell)) (sym end_at) (cells_beyond value c c cells cell (subst (λ n. AreCellsOf value n cells) whole m.made) (omega arith));
+          wide = λ w. (omega (arith, same), subst (λ n. IsTrue (is_wide (value n))) (sym same) x);
+        }
+    behind : (answer : Result (Option ℤ) Wide) → end ≤ c → TO (if is_err answer then min end c else end)
+    behind answer b =
+        let kept : (if is_err answer then min end c else end) ≡ end = same_end (is_err answer) in
+        let whole : min c end ≡ end = omega arith in
+        let more : min (c + 1) end ≡ end = omega arith in
+        subst TO (sym kept)
+        record {
+          most = m.most;
+          made = subst (λ n. AreCellsOf value n (set cells c cell)) (sym more) (cells_beyond value end c cells cell (subst (λ n. AreCellsOf value n cells) whole m.made) b);
+          wide = λ w. (omega (arith, b), (m.wide w).1);
+        }
+      where
+        same_end : (d : Bool) → (if d then min end c else end) ≡ end
+        same_end true = omega (arith, b)
+        same_end false = refl
+
+-- the first column whose value is out of range
+pub first_wide : (value : ℕ → Option ℤ) (s : Size) (t r c at : ℕ) → ((k : ℕ) → k < c → IsFalse (is_wide (value k))) → c < tile_width s t → at ≡ (tile_top s t + r) * s.columns + tile_left s t + c → IsTrue (is_wide (value c)) → IsFirstWide value s t r at
 unfolding tile_start
-first_wide value s t r c at old made m q l w = record { column = c; within = q; is_at = omega (arith, l); wide = w; first = m.in_range }
+first_wide value s t r c at before q l w = record { column = c; within = q; is_at = omega (arith, l); wide = w; first = before }
 
 -- or why the row has none
 pub row_refused : (value : ℕ → Option ℤ) (s : Size) (t r c at : ℕ) (old made : Block) (answer : Result (Option ℤ) Wide) (e : KernelRefusal) → IsRowMade value (tile_width s t) r c old made → c < tile_width s t → at ≡ (tile_top s t + r) * s.columns + tile_left s t + c → IsExact (value c) answer → refused_at at answer ≡ Err e → IsRowRefusal value s t r e
 row_refused value s t r c at old made (Ok cell) e m q l a x = cc
-row_refused value s t r c at old made (Err wide) (Overflow place) m q l a x = let same : place ≡ at = cc in first_wide value s t r c place old made m q (same ∙ l) a
+row_refused value s t r c at old made (Err wide) (Overflow place) m q l a x = let same : place ≡ at = cc in first_wide value s t r c place m.in_range q (same ∙ l) a
 row_refused value s t r c at old made (Err wide) refusal.NoMemory m q l a x = tt
 
 -- the same values by another name

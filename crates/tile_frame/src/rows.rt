@@ -1,9 +1,10 @@
 //! A row of a tile, cell by cell.
 ghost use Rattle.std.specs.Prelude.{◌≡◌, ◌<◌, ◌≤◌, ℕ, IsTrue};
 ghost use Rattle.layer_tiles.specs.Tiles.{tiles_in, tile_height, tile_width, IsBlockOf};
+ghost use Rattle.map_nums.specs.Answers.{is_wide};
 ghost use Rattle.tile_frame.specs.Frames.{IsRowAnswer, AreCellsOf};
 
-use crate::places::{cell_or_null, put};
+use crate::places::cell_or_null;
 use layer_tiles::{Cell, Extent, KernelRefusal, Tile, Value};
 use map_nums::Wide;
 
@@ -24,43 +25,24 @@ pub trait RowMaker {
         ensures { IsExact (value self.now c) result };
 }
 
-/// Makes the cells of a row, and tells whether all their values are in range. It goes on to the end where one is not: so a simple
-/// operation's loop has no exit.
-fn make_cells<R: RowMaker>(row: &R, width: u32, cells: &mut [Cell; 32]) -> bool
+/// Makes the cells of a row, and gives the first column whose value is out of range; the width where there is none. It goes on to
+/// the end in any case: so a simple operation's loop has no exit.
+fn make_cells<R: RowMaker>(row: &R, width: u32, cells: &mut [Cell; 32]) -> u32
     requires columns { (c : ℕ) → c < width → R.has row.now c }
     requires most { width ≤ 32 }
-    ensures { IsTrue result → AreCellsOf (R.value row.now) width cells.new }
+    ensures most { result ≤ width }
+    ensures made { AreCellsOf (R.value row.now) result cells.new }
+    ensures wide { result < width → IsTrue (is_wide (R.value row.now result)) }
 {
-    let mut in_range = true;
+    let mut end = width;
     for c in 0..width {
         let answer = row.value_at(c);
-        in_range = in_range & answer.is_ok();
+        if answer.is_err() {
+            end = end.min(c);
+        }
         cells[c as usize] = cell_or_null(answer);
     }
-    in_range
-}
-
-/// Makes row `r` of a tile, cell by cell up to one whose value is out of range.
-fn put_cells<R: RowMaker>(
-    row: &R,
-    extent: Extent,
-    tile: u32,
-    r: u32,
-    made: &mut Tile,
-) -> Result<(), KernelRefusal>
-    requires columns { (c : ℕ) → c < tile_width extent tile → R.has row.now c }
-    requires within { tile < tiles_in extent }
-    requires row { r < tile_height extent tile }
-    requires size { IsBlockOf extent tile made.old }
-    ensures { IsRowAnswer (R.value row.now) extent tile r made.old made.new result }
-{
-    let place = extent.place(tile);
-    let start = (place.top + r) * extent.columns() + place.left;
-    for c in 0..place.width {
-        let answer = row.value_at(c);
-        put(made, r, c, start + c, answer)?;
-    }
-    Ok(())
+    end
 }
 
 /// Makes row `r` of a tile.
@@ -81,11 +63,13 @@ pub fn make_row<R: RowMaker>(
     requires size { IsBlockOf extent tile made.old }
     ensures { IsRowAnswer (R.value row.now) extent tile r made.old made.new result }
 {
-    let width = extent.place(tile).width;
+    let place = extent.place(tile);
     let mut cells = [Cell::null(); 32];
-    if make_cells(row, width, &mut cells) {
-        made.set_row(r, &cells[..width as usize]);
-        return Ok(());
+    let end = make_cells(row, place.width, &mut cells);
+    if end < place.width {
+        let start = (place.top + r) * extent.columns() + place.left;
+        return Err(KernelRefusal::Overflow(start + end));
     }
-    put_cells(row, extent, tile, r, made)
+    made.set_row(r, &cells[..place.width as usize]);
+    Ok(())
 }

@@ -1,4 +1,4 @@
-use Rattle.std.proofs.Common.{◌≡◌, ◌⊎◌, inl, inr, ℕ, ◌+◌, ◌-◌, ◌*◌, ◌/◌, ◌<◌, ◌≤◌, Bool, true, min, ap, arith, length, sym, ◌∙◌, refl}
+use Rattle.std.proofs.Common.{◌≡◌, ◌⊎◌, inl, inr, ℕ, ◌+◌, ◌-◌, ◌*◌, ◌<◌, ◌≤◌, Bool, true, min, ap, arith, length, sym, ◌∙◌, refl}
 use Rattle.std.proofs.lemmas.Bool.{cases_lt}
 use Rattle.map_nums.specs.Grids.{Size, cells_in, column_of, row_of, gap, is_neighbour}
 use Rattle.layer_tiles.proofs.Rising.{rises_then, rises_within}
@@ -7,7 +7,7 @@ use Rattle.region_labels.specs.Flood.{is_marked, marks_in}
 use Rattle.region_labels.specs.Touched.{IsMarkedFor, IsReachedFrom}
 use Rattle.region_labels.proofs.Causes.{marked_then}
 use Rattle.region_labels.proofs.Walks.{near_is}
-use Rattle.region_labels.proofs.Rows.{row_lt}
+use Rattle.region_labels.proofs.Rows.{row_lt, in_round}
 use Rattle.region_labels.proofs.Labelling.{same_then, step_then}
 use Rattle.std.proofs.lemmas.Result.{MatchResult-from_err}
 use Rattle.region_labels.specs.Copies.{IsWitness, CopiesWith}
@@ -72,17 +72,14 @@ beside : (s : Size) (from j : ℕ) → (j ≡ from) ⊎ (is_neighbour s from j �
 beside s from j (inl e) = rw (e) record { rows = self_gap (row_of s from); columns = self_gap (column_of s from) }
 beside s from j (inr n) = let d = near_is s from j n in record { rows = d.rows; columns = d.columns }
 
-last : (x y n h r : ℕ) → h ≡ min (x + 2) n → h ≤ r → gap x y ≤ 1 → y < n → y < r
-last x y n h r e l g m = omega arith
-
 pub returns-clause-handled : goal.returns-clause-handled
 returns-clause-handled g c = λ j l n some.
     let s = c.args.of.now.size in
     let b = beside s c.args.from j n in
-    let columns : c.columns.result ≡ s.columns = c.columns.ensures.columns ∙ ap (λ (z : Size). z.columns) c.extent-extent.ensures.extent in
+    let row : c.row_of-row.result ≡ row_of s c.args.from = c.row_of-row.ensures.row ∙ ap (λ (z : Size). row_of z c.args.from) c.extent-extent.ensures.extent in
     let rows : c.rows.result ≡ s.rows = c.rows.ensures.rows ∙ ap (λ (z : Size). z.rows) c.extent-extent.ensures.extent in
-    let high : c.min-high.result ≡ min (row_of s c.args.from + 2) s.rows = c.min-high.ensures ∙ rw (columns, rows) refl in
-    c.loop-r.invariant.handled j l b.rows b.columns (last (row_of s c.args.from) (row_of s j) s.rows c.min-high.result c.loop-r.r high c.loop-r-test.false b.rows (row_lt s j c.extent-extent.ensures.size l)) some
+    let high : c.min-high.result ≡ min (row_of s c.args.from + 2) s.rows = c.min-high.ensures ∙ rw (row, rows) refl in
+    c.loop-r.invariant.handled j l b.rows b.columns (in_round (row_of s c.args.from) (row_of s j) s.rows c.min-high.result c.loop-r.r high c.loop-r-test.false b.rows (row_lt s j c.extent-extent.ensures.size l)) some
 
 pub label_row-requires-clause-extent : goal.label_row-requires-clause-extent
 label_row-requires-clause-extent g c = c.loop-r.invariant.extent ∙ c.requires.extent
@@ -115,5 +112,5 @@ returns-in_err-label_row-clause-wanted g c =
     let mc = c.label_row.new.flood.marks in
     let a = c.loop-r.invariant in
     MatchResult-from_err c.from_residual.result _ _ c.from_residual.ensures.0
-    (λ _. rises_within (copies lb.copied - copies la.copied + (copies lc.copied - copies lb.copied + 1)) (3 * (c.loop-r.r - c.saturating_sub-low.result) + 10 * (marks_in mb - marks_in ma) + (3 + 10 * (marks_in mc - marks_in mb))) (copies lc.copied - copies la.copied + 1) (9 + 10 * (marks_in mc - marks_in ma)) _ _ (omega (arith, a.more, c.label_row.ensures.more)) (omega (arith, a.step.more, c.label_row.ensures.grows, few (c.args.from / c.columns.result) c.rows.result c.saturating_sub-low.result c.min-high.result c.loop-r.r c.saturating_sub-low.ensures c.min-high.ensures c.loop-r-test.true))
+    (λ _. rises_within (copies lb.copied - copies la.copied + (copies lc.copied - copies lb.copied + 1)) (3 * (c.loop-r.r - c.saturating_sub-low.result) + 10 * (marks_in mb - marks_in ma) + (3 + 10 * (marks_in mc - marks_in mb))) (copies lc.copied - copies la.copied + 1) (9 + 10 * (marks_in mc - marks_in ma)) _ _ (omega (arith, a.more, c.label_row.ensures.more)) (omega (arith, a.step.more, c.label_row.ensures.grows, few c.row_of-row.result c.rows.result c.saturating_sub-low.result c.min-high.result c.loop-r.r c.saturating_sub-low.ensures c.min-high.ensures c.loop-r-test.true))
     (rises_then (copies lb.copied - copies la.copied) (3 * (c.loop-r.r - c.saturating_sub-low.result) + 10 * (marks_in mb - marks_in ma)) (copies lc.copied - copies lb.copied + 1) (3 + 10 * (marks_in mc - marks_in mb)) _ _ _ a.picks c.in_err-label_row.ensures.wanted))

@@ -1,4 +1,4 @@
-use Rattle.std.proofs.Common.{◌≡◌, ℕ, ◌+◌, ◌-◌, ◌*◌, ◌%◌, ◌<◌, ◌≤◌, min, ap, arith, length, sym, ◌∙◌, refl, ℤ}
+use Rattle.std.proofs.Common.{◌≡◌, ℕ, ◌+◌, ◌-◌, ◌*◌, ◌<◌, ◌≤◌, min, ap, arith, length, sym, ◌∙◌, refl, ℤ, subst}
 use Rattle.map_nums.specs.Grids.{cells_in, column_of, row_of, gap}
 use Rattle.layer_tiles.proofs.Rising.{rises_then, rises_within}
 use Rattle.tile_work.specs.Working.{copies}
@@ -31,11 +31,13 @@ caused_on g c =
     let mc = c.label_region.new.flood.marks in
     marked_then (IsReachedFrom c.args.of.now.size c.args.of.now.cells c.args.from) c.args.flood.now.marks mb mc c.loop-c.invariant.caused
     (let n = c.columns-columns.result in
-    let e : n ≡ s.columns = c.columns-columns.ensures.columns ∙ ap (λ z. z.columns) c.extent.ensures.extent in
+    let e : n ≡ s.columns = c.columns-columns.ensures.columns ∙ ap (λ z. z.columns) c.extent-extent.ensures.extent in
+    let x = c.column_of-column.result in
+    let at : x ≡ column_of s c.args.from = c.column_of-column.ensures.column ∙ ap (λ z. column_of z c.args.from) c.extent-extent.ensures.extent in
     let k = c.loop-c.c in
     let j = c.args.row * n + k in
-    let p : IsPlace s c.args.row k j = place_of s c.args.row k n e c.requires.row (rw (← e) (below (c.args.from % n) n c.min-high.result k c.min-high.ensures c.loop-c-test.true)) in
-    let q : gap (column_of s c.args.from) k ≤ 1 = rw (← e) (beside (c.args.from % n) n c.saturating_sub-low.result c.min-high.result k c.saturating_sub-low.ensures c.min-high.ensures c.loop-c.auto.c c.loop-c-test.true) in
+    let p : IsPlace s c.args.row k j = place_of s c.args.row k n e c.requires.row (rw (← e) (below x n c.min-high.result k c.min-high.ensures c.loop-c-test.true)) in
+    let q : gap (column_of s c.args.from) k ≤ 1 = subst (λ d. gap d k ≤ 1) at (beside x n c.saturating_sub-low.result c.min-high.result k c.saturating_sub-low.ensures c.min-high.ensures c.loop-c.auto.c c.loop-c-test.true) in
     marked_wider (λ i. (y : ℤ) × IsJoined s cells y j i) (IsReachedFrom s cells c.args.from) mb mc (λ i w. reached_beside s cells c.args.from c.args.row k j i p c.requires.close q w) c.label_region.ensures.caused)
 
 copied_on : (g : Over) (c : After-label_region g) → CopiesWith c.args.of.now.size c.args.of.now.cells c.args.labels.now.cells c.args.flood.now.marks c.args.labels.now.copied c.label_region.new.labels.copied
@@ -47,11 +49,13 @@ loop-c-preserved g c =
     let s = c.args.of.now.size in
     let cells = c.args.of.now.cells in
     let n = c.columns-columns.result in
-    let e : n ≡ s.columns = c.columns-columns.ensures.columns ∙ ap (λ z. z.columns) c.extent.ensures.extent in
+    let e : n ≡ s.columns = c.columns-columns.ensures.columns ∙ ap (λ z. z.columns) c.extent-extent.ensures.extent in
+    let x = c.column_of-column.result in
+    let at : x ≡ column_of s c.args.from = c.column_of-column.ensures.column ∙ ap (λ z. column_of z c.args.from) c.extent-extent.ensures.extent in
     let k = c.loop-c.c in
     let j = c.args.row * n + k in
-    let p : IsPlace s c.args.row k j = place_of s c.args.row k n e c.requires.row (rw (← e) (below (c.args.from % n) n c.min-high.result k c.min-high.ensures c.loop-c-test.true)) in
-    let q : gap (column_of s c.args.from) k ≤ 1 = rw (← e) (beside (c.args.from % n) n c.saturating_sub-low.result c.min-high.result k c.saturating_sub-low.ensures c.min-high.ensures c.loop-c.auto.c c.loop-c-test.true) in
+    let p : IsPlace s c.args.row k j = place_of s c.args.row k n e c.requires.row (rw (← e) (below x n c.min-high.result k c.min-high.ensures c.loop-c-test.true)) in
+    let q : gap (column_of s c.args.from) k ≤ 1 = subst (λ d. gap d k ≤ 1) at (beside x n c.saturating_sub-low.result c.min-high.result k c.saturating_sub-low.ensures c.min-high.ensures c.loop-c.auto.c c.loop-c-test.true) in
     let a = c.loop-c.invariant in
     let b = c.label_region.ensures in
     let ok = c.in_ok-label_region.ensures.ok in
@@ -104,5 +108,5 @@ returns-in_err-label_region-clause-wanted g c =
     let mc = c.label_region.new.flood.marks in
     let a = c.loop-c.invariant in
     MatchResult-from_err c.from_residual.result _ _ c.from_residual.ensures.0
-    (λ _. rises_within (copies lb.copied - copies la.copied + (copies lc.copied - copies lb.copied + 1)) ((c.loop-c.c - c.saturating_sub-low.result) + 10 * (marks_in mb - marks_in ma) + (1 + 10 * (marks_in mc - marks_in mb))) (copies lc.copied - copies la.copied + 1) (3 + 10 * (marks_in mc - marks_in ma)) _ _ (omega (arith, a.more, c.label_region.ensures.more)) (omega (arith, a.step.more, c.label_region.ensures.grows, few (c.args.from % c.columns-columns.result) c.columns-columns.result c.saturating_sub-low.result c.min-high.result c.loop-c.c c.saturating_sub-low.ensures c.min-high.ensures c.loop-c-test.true))
+    (λ _. rises_within (copies lb.copied - copies la.copied + (copies lc.copied - copies lb.copied + 1)) ((c.loop-c.c - c.saturating_sub-low.result) + 10 * (marks_in mb - marks_in ma) + (1 + 10 * (marks_in mc - marks_in mb))) (copies lc.copied - copies la.copied + 1) (3 + 10 * (marks_in mc - marks_in ma)) _ _ (omega (arith, a.more, c.label_region.ensures.more)) (omega (arith, a.step.more, c.label_region.ensures.grows, few c.column_of-column.result c.columns-columns.result c.saturating_sub-low.result c.min-high.result c.loop-c.c c.saturating_sub-low.ensures c.min-high.ensures c.loop-c-test.true))
     (rises_then (copies lb.copied - copies la.copied) ((c.loop-c.c - c.saturating_sub-low.result) + 10 * (marks_in mb - marks_in ma)) (copies lc.copied - copies lb.copied + 1) (1 + 10 * (marks_in mc - marks_in mb)) _ _ _ a.picks c.in_err-label_region.ensures.wanted))
