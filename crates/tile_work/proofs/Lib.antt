@@ -1,4 +1,5 @@
 pub mod Slots
+mod Boxes
 pub mod Numbers
 pub mod Pushing
 pub mod Copies

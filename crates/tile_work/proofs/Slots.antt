@@ -3,7 +3,7 @@ use Rattle.std.proofs.Common.{◌≡◌, ◌≢◌, ◌⊎◌, inl, inr, ℕ, ze
 use Rattle.std.specs.Prelude.{slice_set, is_some, IfSome}
 use Rattle.std.proofs.lemmas.Bool.{cases_eq, cases_lt}
 use Rattle.std.proofs.lemmas.Nat.{div-mul-add, mod-mul-add, mul-add-lt}
-use Rattle.std.proofs.lemmas.List.{get_or_default, get_or_past, get_or-set_same, get_or-set_other, length-set, set-get_or, map-set, get_or-map, get_or-replicate, length-replicate, replicate-append-replicate, ext_get_or}
+use Rattle.std.proofs.lemmas.List.{get_or_past, get_or-set_same, get_or-set_other, length-set, set-get_or, map-set, get_or-map, get_or-replicate, length-replicate, replicate-append-replicate, ext_get_or}
 use Rattle.std.proofs.lemmas.List.Folds.{sum_by-replicate}
 use Rattle.std.proofs.lemmas.List.Sums.{sum_by-set}
 use Rattle.std.proofs.lemmas.List.FromFn.{get_or-map-range_with_len, length-map-range_with_len}
@@ -22,10 +22,6 @@ length-work s base slots = length-map-range_with_len (work_cell s base slots) 0 
 pub work_at : (s : Size) (base : Cells) (slots : List (Option Block)) (at : ℕ) → at < cells_in s → cell_at (work_cells s base slots) at ≡ work_cell s base slots at
 unfolding work_cells
 work_at s base slots at l = get_or-map-range_with_len (work_cell s base slots) 0 (cells_in s) at at None l (omega arith)
-
--- what an index of the slots gives
-pub slot_is : (s : Size) (slots : List (Option Block)) (t n : ℕ) (o : Option Block) → o ≡ get_or slots t o → t ≡ n → t < length slots → slot_at slots n ≡ o
-slot_is s slots t n o e q l = ap (slot_at slots) (sym q) ∙ get_or_default slots t None o l ∙ sym e
 
 pub work_here : (s : Size) (base : Cells) (slots : List (Option Block)) (at : ℕ) (o : Option Block) → at < cells_in s → slot_at slots (tile_of s at) ≡ o → cell_at (work_cells s base slots) at ≡ cell_or o (place_in s at) (cell_at base at)
 work_here s base slots at o l e = work_at s base slots at l ∙ ap (λ (x : Option Block). cell_or x (place_in s at) (cell_at base at)) e

@@ -1,5 +1,6 @@
 -- What a working layer shows.
-use Rattle.std.specs.Prelude.{◌≡◌, ◌≢◌, ◌⊎◌, ◌↔◌, IsSome, ◌∷◌, ◌++◌, ℕ, ◌<◌, ◌≤◌, List, [], length, map, slice_index, slice_index_or, slice_set, ℤ, Bool, true, false, Option, Some, None, is_some, unwrap_or, if◌then◌else◌}
+use Rattle.std.specs.Prelude.{◌≡◌, ◌≢◌, ◌⊎◌, ◌↔◌, IsSome, ◌∷◌, ◌++◌, ℕ, ◌<◌, ◌≤◌, List, [], length, map, slice_index, slice_index_or, slice_set, ℤ, Bool, true, false, Option, Some, None, Box, is_some, option_map, unwrap_or, if◌then◌else◌}
+use Rattle.std.specs.declared.alloc.Global.{Global}
 use Rattle.std.specs.List.{sum_by, Contains, insert}
 use Rattle.std.specs.List.Sorted.{IsStrictlyIncreasing}
 use Rattle.map_nums.specs.Grids.{Size, IsSize, Cells, cell_at, places}
@@ -21,6 +22,13 @@ base_of before = unwrap_or before []
 abbrev pub before_of : Option LayerState → Option (List (Option ℤ))
 before_of None = None
 before_of (Some l) = Some l.cells
+
+-- the tile in a slot's box
+abbrev pub tile_in_slot : Option (Box Block Global) → Option Block
+tile_in_slot slot = option_map (λ b. b.value) slot
+
+abbrev pub tiles_in_slots : List (Option (Box Block Global)) → List (Option Block)
+tiles_in_slots slots = map tile_in_slot slots
 
 abbrev pub slot_at : List (Option Block) → ℕ → Option Block
 slot_at slots t = slice_index_or slots t None

@@ -4,7 +4,7 @@ ghost use Rattle.map_nums.specs.Grids.{IsSize, cells_in, cell_at};
 ghost use Rattle.layer_tiles.specs.Tiles.{tiles_in, tile_of, place_in, tile_block, IsBlockOf};
 ghost use Rattle.layer_tiles.specs.Tallies.{RisesBy};
 ghost use Rattle.layer_tiles.specs.Patches.{IsAboveLast};
-ghost use Rattle.tile_work.specs.Working.{IsOld, IsWork, AreCopied, IsInserted, before_of, base_of, begun_cells, work_cells, copies, written, IsSameWork, IsCopiedFor, IsPushed, IsPatchTo, one_slot};
+ghost use Rattle.tile_work.specs.Working.{IsOld, IsWork, AreCopied, IsInserted, before_of, base_of, begun_cells, work_cells, copies, written, IsSameWork, IsCopiedFor, IsPushed, IsPatchTo, one_slot, tile_in_slot, tiles_in_slots};
 ghost use Rattle.std.specs.Option.{option_copied};
 ghost use Rattle.std.specs.List.Sorted.{IsStrictlyIncreasing};
 
@@ -18,8 +18,8 @@ pub struct Working<'a> {
     alloc: Global,
     extent: Extent,
     base: Option<&'a Layer>,
-    /// The copy of each tile, once it was written.
-    slots: Vec<Option<Tile>>,
+    /// The copy of each tile, once it was written. Boxed, since most slots stay empty.
+    slots: Vec<Option<Box<Tile>>>,
     /// The numbers of the copied tiles, in ascending order.
     numbers: Vec<u32>,
 }
@@ -27,13 +27,13 @@ pub struct Working<'a> {
 impl<'a> Model for Working<'a> {
     ghost use Rattle.std.specs.Prelude.{map, is_some};
     ghost use Rattle.std.specs.Option.{option_copied};
-    ghost use Rattle.tile_work.specs.Working.{WorkState, IsWork, AreCopied, before_of, base_of, work_cells};
+    ghost use Rattle.tile_work.specs.Working.{WorkState, IsWork, AreCopied, before_of, base_of, work_cells, tiles_in_slots};
 
     ghost Value = { WorkState };
 
-    ghost view = { λ w. record { size = w.extent; before = before_of (option_copied w.base); cells = work_cells w.extent (base_of (before_of (option_copied w.base))) w.slots.items; copied = map is_some w.slots.items } };
+    ghost view = { λ w. record { size = w.extent; before = before_of (option_copied w.base); cells = work_cells w.extent (base_of (before_of (option_copied w.base))) (tiles_in_slots w.slots.items); copied = map is_some (tiles_in_slots w.slots.items) } };
 
-    ghost invariant = { λ w. IsWork w.extent (option_copied w.base) w.slots.items × AreCopied w.slots.items w.numbers.items };
+    ghost invariant = { λ w. IsWork w.extent (option_copied w.base) (tiles_in_slots w.slots.items) × AreCopied (tiles_in_slots w.slots.items) w.numbers.items };
 }
 
 impl<'a> Working<'a> {
@@ -166,8 +166,9 @@ impl<'a> Working<'a> {
             return Ok(());
         }
         let copy = self.old_tile(tile, tally)?;
+        let boxed = Box::new(self.alloc, copy)?;
         add_number(&mut self.numbers, tile)?;
-        self.slots[tile as usize] = Some(copy);
+        self.slots[tile as usize] = Some(boxed);
         Ok(())
     }
 
@@ -224,36 +225,50 @@ fn set_in(extent: Extent, tile: &mut Tile, at: u32, cell: Cell)
 fn changed_tiles<M: Tally>(
     alloc: Global,
     layer: &Layer,
-    mut slots: Vec<Option<Tile>>,
+    mut slots: Vec<Option<Box<Tile>>>,
     numbers: &[u32],
     tally: &mut M,
 ) -> Result<Patch, NoMemory>
-    requires work { IsWork layer.now.size (Some layer.now) slots.items }
-    requires numbers { AreCopied slots.items numbers.now }
+    requires work { IsWork layer.now.size (Some layer.now) (tiles_in_slots slots.items) }
+    requires numbers { AreCopied (tiles_in_slots slots.items) numbers.now }
     ensures size { IfOk result (λ patch. patch.size ≡ layer.now.size) }
-    ensures patch { IfOk result (λ patch. IsPatchTo layer.now.size (Some layer.now.cells) (work_cells layer.now.size layer.now.cells slots.items) patch.tiles) }
+    ensures patch { IfOk result (λ patch. IsPatchTo layer.now.size (Some layer.now.cells) (work_cells layer.now.size layer.now.cells (tiles_in_slots slots.items)) patch.tiles) }
     ensures looks { RisesBy (length numbers.now) 0 (M.counts tally.old) (M.counts tally.new) }
 {
     let mut patch = Patch::new(alloc, layer.extent());
     for number in numbers {
-        let slot = slots[*number as usize].take();
+        let slot = take_tile(&mut slots[*number as usize]);
         push_changed(layer, *number, slot, &mut patch, tally)?;
     }
     Ok(patch)
 }
 
 /// All tiles, null everywhere where they were not written.
-fn all_tiles(alloc: Global, extent: Extent, mut slots: Vec<Option<Tile>>) -> Result<Patch, NoMemory>
-    requires { IsWork extent None slots.items }
+fn all_tiles(
+    alloc: Global,
+    extent: Extent,
+    mut slots: Vec<Option<Box<Tile>>>,
+) -> Result<Patch, NoMemory>
+    requires { IsWork extent None (tiles_in_slots slots.items) }
     ensures size { IfOk result (λ patch. patch.size ≡ extent) }
-    ensures patch { IfOk result (λ patch. IsPatchTo extent None (work_cells extent [] slots.items) patch.tiles) }
+    ensures patch { IfOk result (λ patch. IsPatchTo extent None (work_cells extent [] (tiles_in_slots slots.items)) patch.tiles) }
 {
     let mut patch = Patch::new(alloc, extent);
     for tile in 0..extent.tiles() {
-        let slot = slots[tile as usize].take();
+        let slot = take_tile(&mut slots[tile as usize]);
         push_any(alloc, extent, tile, slot, &mut patch)?;
     }
     Ok(patch)
+}
+
+/// Takes the tile out of a slot.
+fn take_tile(slot: &mut Option<Box<Tile>>) -> Option<Tile>
+    ensures { result ≡ tile_in_slot slot.old }
+{
+    match slot.take() {
+        Some(tile) => Some(Box::into_inner(tile)),
+        None => None,
+    }
 }
 
 /// Adds a tile where it is not that of the layer.
