@@ -1,41 +1,16 @@
-//! The program: words, files and session bytes in, replies out.
-//!
-//! [`run`] does all that the program does, over any shelf, source, sink and tally. `main` hands it the arguments, the
-//! system's files, the standard streams and a tally, and ends with the code of the [`Status`] that it answers. A run
-//! loads the files that its words name and plays its model file (`words`, `workers`, `opening`, `loads`, `model`), and then
-//! answers the session's lines (`session`, `lines`), of which `piece` keeps the one that no line feed has ended yet; a run
-//! over the sample has grids and lines of its own (`sample`). Each part answers what it came to, or by a `Stop` why the run
-//! stops. What is written is proved to be the text of the map machine, and the tally to rise by no more than the machine
-//! allows for it.
+//! The program: it hands [`run`] the arguments, the system's files, the standard streams and a tally, and ends with the code of the
+//! [`Status`] that it answers.
 #![tactic(auto)]
 
 ghost use Rattle.std.specs.Prelude.{◌≡◌, ◌↔◌, IsNone};
 ghost use Rattle.map_machine.specs.Words.{form_of};
 
-mod forms;
-mod lines;
-mod loads;
-mod model;
-mod opening;
-mod piece;
-mod sample;
-mod session;
-mod setup;
-mod status;
-mod stop;
-#[cfg(test)]
-mod tests;
-mod top;
-mod words;
-mod workers;
-
 use map_outside::{Counts, FileShelf, ReadSource, WriteSink};
-pub use status::Status;
+use map_run::{Status, run};
 use std::process::ExitCode;
 use std::thread::Threads;
 use std::{env, io};
 use tile_workers::NoGate;
-pub use top::run;
 
 // The words after the program's name.
 fn arguments(rt: &HostRuntime) -> io::Result<Vec<String>> {

@@ -1,5 +1,5 @@
 use Rattle.map_machine.specs.Words.{form_of}
-use Rattle.map_cli.proofs.WordLemmas.{all_served}
+use Rattle.map_run.proofs.WordLemmas.{all_served}
 use Rattle.map_cli.proofs.run_here.Goals as goal
 
 pub run-requires-clause-serves : goal.run-requires-clause-serves

@@ -1,5 +1,0 @@
-use Rattle.std.proofs.Common.{length}
-use Rattle.map_cli.proofs.sample.+load_grids.Given as goal
-
-abbrev pub decreases-load_grids : goal.decreases-load_grids
-decreases-load_grids g l = length l.grids.now

@@ -1,0 +1,154 @@
+//! The model file: its lines are played before the session.
+ghost use Rattle.std.specs.Prelude.{◌≡◌, ℕ, IfOk, IsTrue};
+ghost use Rattle.map_machine.specs.Lines.{lines_of, last_line};
+ghost use Rattle.map_machine.specs.ModelFiles.{long_model_reply};
+ghost use Rattle.layer_tiles.specs.Tallies.{KeepsParts};
+ghost use Rattle.map_run.specs.FaultCounts.{RunCounts};
+ghost use Rattle.map_machine.specs.Loads.{turned_away};
+ghost use Rattle.map_run.specs.Loads.{Loads, LoadsAs, model_lines_stage, model_file_stage};
+ghost use Rattle.map_run.specs.Models.{ModelGoes};
+ghost use Rattle.map_run.specs.Progress.{IsUndivided};
+ghost use Rattle.map_run.specs.Stages.{Comes};
+ghost use Rattle.map_run.specs.Stops.{status_of};
+
+use crate::lines::{Fed, cut_line, put_reply};
+use crate::loads::refuse;
+use crate::piece::without_return;
+use crate::setup::Setup;
+use crate::stop::Stop;
+use itoa::Buffer;
+use layer_tiles::Tally;
+use map_machine::Kind;
+use map_nums::NoMemory;
+use map_outside::{FetchFault, Shelf, Sink};
+use map_session::Session;
+use std::alloc::Global;
+use std::thread::Threads;
+use tile_workers::Gate;
+
+#[tactic(auto, unfolding(map_machine::specs::ModelFiles::long_model_reply))]
+fn long_model_text(alloc: Global, most: u64) -> Result<Vec<u8>, NoMemory>
+    ensures { IfOk result (λ text. text.items ≡ long_model_reply most) }
+{
+    let mut text = Vec::from_slice(alloc, b"refused model long ")?;
+    text.extend_from_slice(Buffer::new().format(most).as_bytes())?;
+    text.push(b'\n')?;
+    Ok(text)
+}
+
+// Answers a line of the file. A refused one stops the run.
+fn play_line<K: Sink, M: Tally + Send, G: Gate + Sync, R: Threads + Sync>(
+    setup: &Setup<'_, G, R>,
+    session: &mut Session,
+    line: &[u8],
+    sink: &mut K,
+    tally: &mut M,
+) -> Result<Fed, Stop>
+    requires whole { IsUndivided (M.counts tally.old) }
+    ensures counts { (shelf source : ℕ) → RunCounts shelf shelf source source (K.faults sink.old) (K.faults sink.new) (status_of result) }
+    ensures parts { KeepsParts (M.counts tally.old) (M.counts tally.new) }
+    ensures goes { ModelGoes session.old session.new line.now
+        (record { held = K.held sink.old; faults = K.faults sink.old; tally = M.counts tally.old })
+        (record { held = K.held sink.new; faults = K.faults sink.new; tally = M.counts tally.new }) result }
+{
+    let reply = session.step(
+        setup.rt,
+        setup.alloc,
+        line,
+        setup.workers.count,
+        setup.gate,
+        tally,
+    )?;
+    match reply.kind {
+        Kind::Quit => Ok(Fed::Quit),
+        Kind::Refused => {
+            put_reply(sink, &reply.bytes)?;
+            Err(Stop::Load)
+        }
+        _ => {
+            put_reply(sink, &reply.bytes)?;
+            Ok(Fed::More)
+        }
+    }
+}
+
+// Answers what stands after the last line feed.
+fn play_last<K: Sink, M: Tally + Send, G: Gate + Sync, R: Threads + Sync>(
+    setup: &Setup<'_, G, R>,
+    mut session: Session,
+    bytes: &[u8],
+    sink: &mut K,
+    tally: &mut M,
+) -> Result<Session, Stop>
+    requires whole { IsUndivided (M.counts tally.old) }
+    ensures counts { (shelf source : ℕ) → RunCounts shelf shelf source source (K.faults sink.old) (K.faults sink.new) (status_of result) }
+    ensures parts { KeepsParts (M.counts tally.old) (M.counts tally.new) }
+    ensures loads { Comes (model_lines_stage session (last_line bytes.now))
+        (record { held = K.held sink.old; faults = K.faults sink.old; tally = M.counts tally.old })
+        (record { held = K.held sink.new; faults = K.faults sink.new; tally = M.counts tally.new }) result }
+{
+    if bytes.is_empty() {
+        return Ok(session);
+    }
+    play_line(setup, &mut session, bytes, sink, tally)?;
+    Ok(session)
+}
+
+// Plays the lines of the file, up to one that is refused or ends the file's part.
+fn play_lines<K: Sink, M: Tally + Send, G: Gate + Sync, R: Threads + Sync>(
+    setup: &Setup<'_, G, R>,
+    mut session: Session,
+    bytes: &[u8],
+    sink: &mut K,
+    tally: &mut M,
+) -> Result<Session, Stop>
+    requires whole { IsUndivided (M.counts tally.old) }
+    ensures counts { (shelf source : ℕ) → RunCounts shelf shelf source source (K.faults sink.old) (K.faults sink.new) (status_of result) }
+    ensures parts { KeepsParts (M.counts tally.old) (M.counts tally.new) }
+    ensures loads { Comes (model_lines_stage session (lines_of bytes.now))
+        (record { held = K.held sink.old; faults = K.faults sink.old; tally = M.counts tally.old })
+        (record { held = K.held sink.new; faults = K.faults sink.new; tally = M.counts tally.new }) result }
+{
+    let mut rest = bytes;
+    while let Some((line, further)) = cut_line(rest) {
+        match play_line(setup, &mut session, without_return(line), sink, tally)? {
+            Fed::More => rest = further,
+            Fed::Quit => return Ok(session),
+        }
+    }
+    play_last(setup, session, rest, sink, tally)
+}
+
+// Refuses a file that is too long.
+fn refuse_long<K: Sink>(alloc: Global, most: u64, sink: &mut K) -> Result<Session, Stop>
+    ensures counts { (shelf source : ℕ) → RunCounts shelf shelf source source (K.faults sink.old) (K.faults sink.new) (status_of result) }
+    ensures loads { LoadsAs (turned_away (long_model_reply most)) (K.held sink.old) (K.held sink.new) result }
+{
+    let text = long_model_text(alloc, most)?;
+    refuse(sink, &text)
+}
+
+/// Fetches the model file and plays its lines, up to one that is refused or ends the file's part.
+pub fn load_model<F: Shelf, K: Sink, M: Tally + Send, G: Gate + Sync, R: Threads + Sync>(
+    setup: &Setup<'_, G, R>,
+    session: Session,
+    file: &str,
+    shelf: &mut F,
+    sink: &mut K,
+    tally: &mut M,
+) -> Result<Session, Stop>
+    requires serves { IsTrue (F.serves shelf.old file.now) }
+    requires whole { IsUndivided (M.counts tally.old) }
+    ensures counts { (source : ℕ) → RunCounts (F.faults shelf.old) (F.faults shelf.new) source source (K.faults sink.old) (K.faults sink.new) (status_of result) }
+    ensures parts { KeepsParts (M.counts tally.old) (M.counts tally.new) }
+    ensures loads { Loads (F.files shelf.old) (λ f. model_file_stage setup.now.limits.file (f file.now) session)
+        (record { held = K.held sink.old; faults = K.faults sink.old; tally = M.counts tally.old })
+        (record { held = K.held sink.new; faults = K.faults sink.new; tally = M.counts tally.new }) result }
+{
+    match shelf.fetch(setup.alloc, file, setup.limits.file) {
+        Ok(bytes) => play_lines(setup, session, &bytes, sink, tally),
+        Err(FetchFault::Long) => refuse_long(setup.alloc, setup.limits.file, sink),
+        Err(FetchFault::Failed) => Err(Stop::ShelfFault),
+        Err(FetchFault::NoMemory) => Err(Stop::NoMemory),
+    }
+}

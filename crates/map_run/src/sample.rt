@@ -1,0 +1,148 @@
+//! The sample: its grids are made in memory and loaded, and then its lines are answered.
+ghost use Rattle.std.specs.Prelude.{◌≡◌, ◌≤◌, ℕ, map};
+ghost use Rattle.layer_tiles.specs.Tallies.{KeepsParts};
+ghost use Rattle.map_machine.specs.Loads.{grid_load};
+ghost use Rattle.map_machine.specs.LoadReads.{grid_load_reads};
+ghost use Rattle.map_machine.specs.SampleGrids.{by_place, sample_grids};
+ghost use Rattle.map_machine.specs.SampleLines.{sample_lines};
+ghost use Rattle.map_machine.specs.Samples.{sample_state};
+ghost use Rattle.map_sample.specs.Grids.{cell_in, name_of, named_grid};
+ghost use Rattle.map_run.specs.Answered.{Answered};
+ghost use Rattle.map_run.specs.FaultCounts.{RunCounts};
+ghost use Rattle.map_run.specs.Loads.{opened_stage, grids_stage};
+ghost use Rattle.map_run.specs.Progress.{IsUndivided};
+ghost use Rattle.map_run.specs.Sampled.{Sampled};
+ghost use Rattle.map_run.specs.Stages.{Comes};
+ghost use Rattle.map_run.specs.Stops.{status_of};
+
+use crate::lines::{Fed, answer_line};
+use crate::loads::{accept, plain_name, refuse};
+use crate::setup::Setup;
+use crate::stop::Stop;
+use crate::workers::Side;
+use layer_tiles::Tally;
+use map_machine::Kind;
+use map_outside::Sink;
+use map_sample::{SAMPLE_GRIDS, SAMPLE_LINES, SampleGrid, sample_layer, sample_line};
+use map_session::Session;
+use std::thread::Threads;
+use tile_workers::Gate;
+
+// Makes a grid, loads it and puts the reply.
+fn load_grid<K: Sink, M: Tally + Send, G: Gate + Sync, R: Threads + Sync>(
+    setup: &Setup<'_, G, R>,
+    mut session: Session,
+    side: Side,
+    grid: SampleGrid,
+    sink: &mut K,
+    tally: &mut M,
+) -> Result<Session, Stop>
+    requires whole { IsUndivided (M.counts tally.old) }
+    ensures counts { (shelf source : ℕ) → RunCounts shelf shelf source source (K.faults sink.old) (K.faults sink.new) (status_of result) }
+    ensures parts { KeepsParts (M.counts tally.old) (M.counts tally.new) }
+    ensures loads { Comes (opened_stage (grid_load_reads session (name_of grid) (by_place side.count (cell_in grid))) (grid_load session (name_of grid) (by_place side.count (cell_in grid))))
+        (record { held = K.held sink.old; faults = K.faults sink.old; tally = M.counts tally.old })
+        (record { held = K.held sink.new; faults = K.faults sink.new; tally = M.counts tally.new }) result }
+{
+    let name = plain_name(setup.alloc, grid.name())?;
+    let layer = sample_layer(setup.alloc, side.count, grid)?;
+    let reply = session.load_layer(
+        setup.rt,
+        setup.alloc,
+        name,
+        layer,
+        setup.workers.count,
+        setup.gate,
+        tally,
+    )?;
+    match reply.kind {
+        Kind::Accepted => accept(session, sink, &reply.bytes),
+        _ => refuse(sink, &reply.bytes),
+    }
+}
+
+// Loads grids into a session, in order.
+fn load_grids<K: Sink, M: Tally + Send, G: Gate + Sync, R: Threads + Sync>(
+    setup: &Setup<'_, G, R>,
+    session: Session,
+    side: Side,
+    grids: &[SampleGrid],
+    sink: &mut K,
+    tally: &mut M,
+) -> Result<Session, Stop>
+    requires whole { IsUndivided (M.counts tally.old) }
+    ensures counts { (shelf source : ℕ) → RunCounts shelf shelf source source (K.faults sink.old) (K.faults sink.new) (status_of result) }
+    ensures parts { KeepsParts (M.counts tally.old) (M.counts tally.new) }
+    ensures loads { Comes (grids_stage session (map (named_grid side.count) grids.now))
+        (record { held = K.held sink.old; faults = K.faults sink.old; tally = M.counts tally.old })
+        (record { held = K.held sink.new; faults = K.faults sink.new; tally = M.counts tally.new }) result }
+{
+    match grids.split_first() {
+        None => Ok(session),
+        Some((grid, rest)) => {
+            let session = load_grid(setup, session, side, *grid, sink, tally)?;
+            load_grids(setup, session, side, rest, sink, tally)
+        }
+    }
+}
+
+// Loads all grids of the sample.
+fn load_sample<K: Sink, M: Tally + Send, G: Gate + Sync, R: Threads + Sync>(
+    setup: &Setup<'_, G, R>,
+    side: Side,
+    sink: &mut K,
+    tally: &mut M,
+) -> Result<Session, Stop>
+    requires whole { IsUndivided (M.counts tally.old) }
+    ensures counts { (shelf source : ℕ) → RunCounts shelf shelf source source (K.faults sink.old) (K.faults sink.new) (status_of result) }
+    ensures parts { KeepsParts (M.counts tally.old) (M.counts tally.new) }
+    ensures loads { Comes (grids_stage (sample_state side.count) (sample_grids side.count))
+        (record { held = K.held sink.old; faults = K.faults sink.old; tally = M.counts tally.old })
+        (record { held = K.held sink.new; faults = K.faults sink.new; tally = M.counts tally.new }) result }
+{
+    let session = Session::sample(setup.alloc, side.count)?;
+    load_grids(setup, session, side, &SAMPLE_GRIDS, sink, tally)
+}
+
+// Answers all lines of the sample.
+fn play_sample<K: Sink, M: Tally + Send, G: Gate + Sync, R: Threads + Sync>(
+    setup: &Setup<'_, G, R>,
+    session: &mut Session,
+    side: Side,
+    sink: &mut K,
+    tally: &mut M,
+) -> Result<Fed, Stop>
+    requires whole { IsUndivided (M.counts tally.old) }
+    ensures parts { KeepsParts (M.counts tally.old) (M.counts tally.new) }
+    ensures answered { Answered session.old session.new (sample_lines side.count)
+        (record { held = K.held sink.old; faults = K.faults sink.old; tally = M.counts tally.old })
+        (record { held = K.held sink.new; faults = K.faults sink.new; tally = M.counts tally.new }) result }
+{
+    for k in 0..SAMPLE_LINES {
+        let line = sample_line(setup.alloc, side.count, k)?;
+        match answer_line(setup, session, sink, tally, &line)? {
+            Fed::More => {}
+            Fed::Quit => return Ok(Fed::Quit),
+        }
+    }
+    Ok(Fed::More)
+}
+
+/// A run over the sample of this size.
+pub fn run_sample<K: Sink, M: Tally + Send, G: Gate + Sync, R: Threads + Sync>(
+    setup: &Setup<'_, G, R>,
+    side: Side,
+    sink: &mut K,
+    tally: &mut M,
+) -> Result<(), Stop>
+    requires whole { IsUndivided (M.counts tally.old) }
+    ensures counts { (shelf source : ℕ) → RunCounts shelf shelf source source (K.faults sink.old) (K.faults sink.new) (status_of result) }
+    ensures parts { KeepsParts (M.counts tally.old) (M.counts tally.new) }
+    ensures sampled { Sampled side.count
+        (record { held = K.held sink.old; faults = K.faults sink.old; tally = M.counts tally.old })
+        (record { held = K.held sink.new; faults = K.faults sink.new; tally = M.counts tally.new }) (status_of result) }
+{
+    let mut session = load_sample(setup, side, sink, tally)?;
+    play_sample(setup, &mut session, side, sink, tally)?;
+    Ok(())
+}
