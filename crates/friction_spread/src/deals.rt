@@ -70,7 +70,8 @@ pub fn deal<M: Tally>(
     if value < key {
         return Ok(passed);
     }
-    let other = equation(ground, labels, spot, tally);
+    let own = ground.friction(at, tally);
+    let other = equation(ground, labels, spot, own, tally);
     if value == other || value.min(other) != key {
         return Ok(passed);
     }
@@ -78,11 +79,11 @@ pub fn deal<M: Tally>(
     let top = ground.top();
     if other < value {
         write(ground, labels, at, other, tally)?;
-        offer_round(ground, labels, queue, spot, other, tally)?;
+        offer_round(ground, labels, queue, spot, other, own, tally)?;
     } else {
         write(ground, labels, at, top, tally)?;
         offer_cost(queue, other, top, at)?;
-        raise_round(ground, labels, queue, spot, value, tally)?;
+        raise_round(ground, labels, queue, spot, value, own, tally)?;
     }
     Ok(Dealt { taken: true, first })
 }

@@ -97,16 +97,22 @@ fn by_row<M: Tally>(
     least
 }
 
-/// What the equation of a place gives. At most twenty picks.
-pub fn equation<M: Tally>(ground: &Ground<'_>, labels: &Working<'_>, to: Spot, tally: &mut M) -> u64
+/// What the equation of a place of friction `own` gives. At most 19 picks.
+pub fn equation<M: Tally>(
+    ground: &Ground<'_>,
+    labels: &Working<'_>,
+    to: Spot,
+    own: u64,
+    tally: &mut M,
+) -> u64
     requires size { labels.now.size ≡ ground.now.size }
     requires count { length labels.now.cells ≡ cells_in ground.now.size }
     requires spot { IsSpot ground.now.size to }
+    requires own { (own ≡ friction_at ground.now.friction to.at) × (own < 2 ^ 31) }
     ensures value { result ≡ equation (net_of ground.now) (values ground.now.limit labels.now.cells) to.at }
     ensures most { result ≤ suc ground.now.limit }
-    ensures picks { RisesBy 0 20 (M.counts tally.old) (M.counts tally.new) }
+    ensures picks { RisesBy 0 19 (M.counts tally.old) (M.counts tally.new) }
 {
-    let own = ground.friction(to.at, tally);
     if own == 0 {
         return ground.top();
     }

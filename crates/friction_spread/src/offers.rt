@@ -97,25 +97,26 @@ fn offer_row<M: Tally>(
     Ok(())
 }
 
-/// The costs through a place come into the queue where they are below the neighbours' values. At most 19 picks.
+/// The costs through a place come into the queue where they are below the neighbours' values. At most 18 picks.
 pub fn offer_round<M: Tally>(
     ground: &Ground<'_>,
     labels: &Working<'_>,
     queue: &mut Queue,
     from: Spot,
     value: u64,
+    own: u64,
     tally: &mut M,
 ) -> Result<(), NoMemory>
     requires size { labels.now.size ≡ ground.now.size }
     requires spot { IsSpot ground.now.size from }
     requires value { value ≡ values ground.now.limit labels.now.cells from.at }
     requires low { value ≤ suc ground.now.limit }
+    requires own { (own ≡ friction_at ground.now.friction from.at) × (own < 2147483648) }
     ensures kept { OnOk result (IsKept queue.old queue.new) }
     ensures offered { OnOk result (RoundOffered (net_of ground.now) ground.now.size (values ground.now.limit labels.now.cells) queue.new from.at) }
     ensures len { OnOk result (length queue.new ≤ length queue.old + 9) }
-    ensures picks { RisesBy 0 19 (M.counts tally.old) (M.counts tally.new) }
+    ensures picks { RisesBy 0 18 (M.counts tally.old) (M.counts tally.new) }
 {
-    let own = ground.friction(from.at, tally);
     if own == 0 {
         return Ok(());
     }

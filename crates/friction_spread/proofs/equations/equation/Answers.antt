@@ -8,12 +8,12 @@ use Rattle.friction_spread.proofs.equations.equation.Goals as goal
 pub returns-then-own-eq0-clause-value : goal.returns-then-own-eq0-clause-value
 returns-then-own-eq0-clause-value g c =
     let w = values_within c.args.ground.now c.args.labels.now.cells c.requires.count in
-    c.top.ensures.top ∙ equation_barrier c.args.ground.now (values c.args.ground.now.limit c.args.labels.now.cells) c.args.to.at w (sym c.friction-own.ensures.value ∙ c.if-own-eq0.true)
+    c.top.ensures.top ∙ equation_barrier c.args.ground.now (values c.args.ground.now.limit c.args.labels.now.cells) c.args.to.at w (sym c.requires.own.0 ∙ c.if-own-eq0.true)
 
 pub returns-then-is_source-clause-value : goal.returns-then-is_source-clause-value
 returns-then-is_source-clause-value g c =
     let w = values_within c.args.ground.now c.args.labels.now.cells c.requires.count in
-    equation_source c.args.ground.now (values c.args.ground.now.limit c.args.labels.now.cells) c.args.to.at w c.requires.spot.within (omega (arith, c.friction-own.ensures.value, c.if-own-eq0.false)) (sym c.is_source.ensures.value ∙ c.if-is_source.true)
+    equation_source c.args.ground.now (values c.args.ground.now.limit c.args.labels.now.cells) c.args.to.at w c.requires.spot.within (omega (arith, c.requires.own.0, c.if-own-eq0.false)) (sym c.is_source.ensures.value ∙ c.if-is_source.true)
 
 below : (a b n h : ℕ) → gap a b ≤ 1 → b < n → h ≡ min (a + 2) n → b < h
 below a b n h g l e = omega arith
