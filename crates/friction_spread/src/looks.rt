@@ -32,7 +32,7 @@ pub fn look<M: Tally>(
 {
     let value = cost_at(ground, labels, at.at, tally);
     let own = ground.friction(at.at, tally);
-    let other = equation(ground, labels, at, own, tally);
+    let other = equation(ground, labels, at, own, 0, tally);
     if value == other {
         return Ok(());
     }

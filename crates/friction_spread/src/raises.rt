@@ -9,7 +9,7 @@ ghost use Rattle.friction_spread.specs.Spots.{IsSpot, AreNear};
 ghost use Rattle.friction_spread.specs.Rows.{RowRisen, RoundRisen};
 
 use crate::costs::cost_at;
-use crate::equations::weigh;
+use crate::equations::{least_step, weigh};
 use crate::ground::{Ground, Spot};
 use crate::looks::look;
 use layer_tiles::{NoMemory, Tally};
@@ -41,7 +41,7 @@ fn raise<M: Tally>(
         return Ok(());
     }
     let there = cost_at(ground, labels, to.at, tally);
-    if there <= value {
+    if there < value + least_step(own) {
         return Ok(());
     }
     let friction = ground.friction(to.at, tally);
