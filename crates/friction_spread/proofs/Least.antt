@@ -1,11 +1,11 @@
 -- The places near a place give its equation.
-use Rattle.std.proofs.Common.{◌≡◌, ◌≢◌, ◌⊎◌, inl, inr, ℕ, suc, ◌+◌, ◌*◌, ◌/◌, ◌%◌, ◌<◌, ◌≤◌, true, false, refl, sym, ◌∙◌, ap, subst, arith}
-use Rattle.std.specs.Prelude.{is_some}
-use Rattle.std.proofs.lemmas.Bool.{cases_lt}
+use Rattle.std.proofs.Common.{◌≡◌, ◌≢◌, ◌⊎◌, inl, inr, ℕ, suc, ◌+◌, ◌*◌, ◌/◌, ◌%◌, ◌<◌, ◌≤◌, Bool, true, false, refl, sym, ◌∙◌, ap, subst, arith}
+use Rattle.std.specs.Prelude.{is_some, if◌then◌else◌}
+use Rattle.std.proofs.lemmas.Bool.{cases_lt, cases_Bool}
 use Rattle.std.proofs.lemmas.Nat.{div-add-mod', div_below}
 use Rattle.map_nums.specs.Grids.{Size, IsSize, cell_at, cells_in, row_of, column_of, gap}
 use Rattle.map_defs.specs.Nets.{IsWithin, equation}
-use Rattle.map_defs.specs.Spread.{friction_at, step_cost}
+use Rattle.map_defs.specs.Spread.{friction_at, step_cost, is_straight_step}
 use Rattle.map_defs.proofs.Nets.{equation_is, equation_only}
 use Rattle.friction_spread.specs.declared.ground.Spot.{Spot}
 use Rattle.friction_spread.specs.Costs.{GroundState, base_of, step_of, net_of}
@@ -37,6 +37,22 @@ cost_weighed g p q a b = rw (a.row, a.column, b.row, b.column) refl
 pub step_weighed : (g : GroundState) (p q : Spot) → IsSpot g.size p → IsSpot g.size q → AreNear q p → p.at ≢ q.at → 0 < friction_at g.friction p.at → 0 < friction_at g.friction q.at → step_of g p.at q.at ≡ weighed p q (friction_at g.friction p.at) (friction_at g.friction q.at)
 step_weighed g p q a b n d o u = step_joined g p.at q.at (spots_joined g p q a b n d o u) ∙ cost_weighed g p q a b
 
+-- no step from or to a place costs less than five times its friction and 1
+
+five_times : (straight : Bool) (n c : ℕ) → c ≡ (if straight then 5 else 7) * n → 5 * n ≤ c
+five_times true n c e = omega (arith, e)
+five_times false n c e = omega (arith, e)
+
+pub step_least : (g : GroundState) (j i : ℕ) → step_of g j i < suc g.limit → (5 * (friction_at g.friction j + 1) ≤ step_of g j i) × (5 * (friction_at g.friction i + 1) ≤ step_of g j i)
+unfolding step_cost
+step_least g j i l =
+    let h = leads g j i l in
+    let m = five_times (is_straight_step g.size j i) (friction_at g.friction j + friction_at g.friction i) (step_of g j i) (step_joined g j i h) in
+    (omega (arith, m, h.to_open), omega (arith, m, h.from_open))
+
+pub too_far : (g : GroundState) (j i own value best : ℕ) → own ≡ friction_at g.friction i → best ≤ suc g.limit → best ≤ value + 5 * (own + 1) → best ≤ value + step_of g j i
+too_far g j i own value best e m far = elim (cases_lt (step_of g j i) (suc g.limit)) as (λ _. best ≤ value + step_of g j i) [ inl l ↦ omega (arith, far, e, (step_least g j i l).1) | inr l ↦ omega (arith, l, m) ]
+
 -- ---- places by row and column
 
 pub only_spot : (s : Size) (p : Spot) (i : ℕ) → IsSpot s p → row_of s i ≡ p.row → column_of s i ≡ p.column → i ≡ p.at
@@ -59,6 +75,9 @@ equation_source g d i w l o e =
     equation_only (net_of g) d i _ _
     (record { capped = omega arith; begun = omega arith; stepped = λ j. omega arith; attained = inr (inl (sym (base_source g i l o e))) })
     (equation_is (net_of g) d w i)
+
+pub not_source : (g : GroundState) (d : ℕ → ℕ) (i : ℕ) → IsWithin (net_of g) d → i < cells_in g.size → 0 < friction_at g.friction i → 0 < equation (net_of g) d i → is_some (cell_at g.sources i) ≡ false
+not_source g d i w l o m = elim (cases_Bool (is_some (cell_at g.sources i))) as (λ _. is_some (cell_at g.sources i) ≡ false) [ inl e ↦ absurd (omega (arith, m, equation_source g d i w l o e)) | inr e ↦ e ]
 
 pub equation_near : (g : GroundState) (d : ℕ → ℕ) (i high e : ℕ) → IsWithin (net_of g) d → is_some (cell_at g.sources i) ≡ false → IsLowered (net_of g) d i (suc g.limit) e → RoundLoweredTo (net_of g) g.size d i high e → ((j : ℕ) → j < cells_in g.size → gap (row_of g.size i) (row_of g.size j) ≤ 1 → row_of g.size j < high) → e ≡ equation (net_of g) d i
 equation_near g d i high e w s lowered near all =

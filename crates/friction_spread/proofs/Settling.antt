@@ -1,13 +1,16 @@
 -- What one entry does to the working layer.
-use Rattle.std.proofs.Common.{◌≡◌, inl, inr, ℕ, ◌+◌, ◌-◌, ◌*◌, ◌<◌, ◌≤◌, List, ◌∷◌, Option, ℤ, sym, ◌∙◌, ap, subst, arith}
+use Rattle.std.proofs.Common.{◌≡◌, inl, inr, ℕ, ◌+◌, ◌-◌, ◌*◌, ◌<◌, ◌≤◌, min, List, ◌∷◌, Option, ℤ, sym, ◌∙◌, ap, subst, arith}
 use Rattle.std.specs.Prelude.{Result, Ok, Err, OnErr}
 use Rattle.std.specs.List.{All}
 use Rattle.std.specs.List.Sorted.{IsPermutation}
 use Rattle.map_nums.specs.Grids.{Size, cells_in}
+use Rattle.map_defs.specs.Nets.{Net, equation}
 use Rattle.layer_tiles.specs.Tiles.{tile_of}
 use Rattle.tile_work.specs.Working.{WorkState, IsSameWork, base_of}
 use Rattle.least_costs.specs.Best.{IsRepairing}
-use Rattle.least_costs.specs.Queue.{IsDue}
+use Rattle.least_costs.specs.Queue.{IsDue, IsQueued}
+use Rattle.least_costs.proofs.Equations.{same_or}
+use Rattle.least_costs.proofs.Queues.{key_least}
 use Rattle.least_costs.proofs.Steps.{due_moves}
 use Rattle.friction_spread.specs.Costs.{GroundState, values, net_of}
 use Rattle.friction_spread.specs.Copied.{IsCopiedWhere, IsMoved, IsCaused}
@@ -15,6 +18,13 @@ use Rattle.friction_spread.proofs.Grounds.{net_closed, net_costs, no_loop}
 
 pub same_then : (a b c : WorkState) → IsSameWork a b → IsSameWork b c → IsSameWork a c
 same_then a b c p q = record { size = q.size ∙ p.size; before = q.before ∙ p.before; count = q.count ∙ p.count }
+
+-- no place that disagrees has a lesser key, so an equation gives no less than the least one, where its value is not below that
+pub key_below : (g : Net) (d : ℕ → ℕ) (entries : List (ℕ × ℕ)) (key at : ℕ) → IsQueued g d entries at → All (λ (y : ℕ × ℕ). key ≤ y.0) entries → key ≤ d at → key ≤ equation g d at
+key_below g d entries key at queued all l = elim (same_or (d at) (equation g d at)) as (λ _. key ≤ equation g d at) [
+  | inl e ↦ omega (arith, l, e)
+  | inr n ↦ omega (arith, key_least key (min (d at) (equation g d at), at) entries all (queued n))
+]
 
 -- a place whose entry is due has another least cost than before
 pub due_moved : (g : GroundState) (before : Option (List (Option ℤ))) (d : ℕ → ℕ) (entries left : List (ℕ × ℕ)) (moved key at : ℕ) → IsRepairing (net_of g) (values g.limit (base_of before)) d entries moved → IsPermutation entries ((key, at) ∷ left) → All (λ (y : ℕ × ℕ). key ≤ y.0) entries → IsDue (net_of g) d key at → (at < cells_in g.size) × IsMoved g before at

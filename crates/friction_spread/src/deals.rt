@@ -3,6 +3,7 @@ ghost use Rattle.std.specs.Prelude.{◌≡◌, ◌^◌, ◌<◌, ◌≤◌, ◌+
 ghost use Rattle.std.specs.List.{Contains};
 ghost use Rattle.std.specs.Int.{from_bool};
 ghost use Rattle.layer_tiles.specs.Tallies.{RisesBy};
+ghost use Rattle.map_defs.specs.Nets.{equation};
 ghost use Rattle.tile_work.specs.Working.{IsSameWork, base_of, copies};
 ghost use Rattle.least_costs.specs.Queue.{IsStep, IsDue, IsKept, is_first};
 ghost use Rattle.friction_spread.specs.Costs.{values, AreCosts, net_of};
@@ -48,6 +49,7 @@ pub fn deal<M: Tally>(
 ) -> Result<Dealt, NoMemory>
     requires size { labels.old.size ≡ ground.now.size }
     requires costs { AreCosts ground.now.limit labels.old.cells }
+    requires least { key ≤ values ground.now.limit labels.old.cells at → key ≤ equation (net_of ground.now) (values ground.now.limit labels.old.cells) at }
     ensures same { IsSameWork labels.old labels.new }
     ensures did { IfOk result (λ dealt. IsStep (net_of ground.now) (values ground.now.limit labels.old.cells) queue.old key at (values ground.now.limit labels.new.cells) queue.new dealt.taken) }
     ensures first { IfOk result (λ dealt. dealt.first ≡ is_first (values ground.now.limit (base_of labels.old.before)) (values ground.now.limit labels.old.cells) at dealt.taken) }
@@ -70,7 +72,8 @@ pub fn deal<M: Tally>(
     if value < key {
         return Ok(passed);
     }
-    let other = equation(ground, labels, spot, tally);
+    let own = ground.friction(at, tally);
+    let other = equation(ground, labels, spot, own, key, tally);
     if value == other || value.min(other) != key {
         return Ok(passed);
     }
@@ -78,11 +81,11 @@ pub fn deal<M: Tally>(
     let top = ground.top();
     if other < value {
         write(ground, labels, at, other, tally)?;
-        offer_round(ground, labels, queue, spot, other, tally)?;
+        offer_round(ground, labels, queue, spot, other, own, tally)?;
     } else {
         write(ground, labels, at, top, tally)?;
         offer_cost(queue, other, top, at)?;
-        raise_round(ground, labels, queue, spot, value, tally)?;
+        raise_round(ground, labels, queue, spot, value, own, tally)?;
     }
     Ok(Dealt { taken: true, first })
 }

@@ -13,6 +13,14 @@ use crate::ground::{Ground, Spot};
 use layer_tiles::Tally;
 use tile_work::Working;
 
+/// No step from or to a place of this friction costs less.
+pub fn least_step(friction: u64) -> u64
+    requires { friction < 2 ^ 31 }
+    ensures { result ≡ 5 * (friction + 1) }
+{
+    5 * (friction + 1)
+}
+
 /// What a step between neighbours of two frictions costs.
 pub fn weigh(from: Spot, to: Spot, friction: u64, own: u64) -> u64
     requires { (friction < 2 ^ 31) × (own < 2 ^ 31) }
@@ -27,12 +35,13 @@ pub fn weigh(from: Spot, to: Spot, friction: u64, own: u64) -> u64
     }
 }
 
-/// The lesser of `best` and the cost by a step from a place near. At most two picks.
+/// The lesser of `best` and the cost by a step from a place near, which is not read where `best` is least already. At most two picks.
 fn by_place<M: Tally>(
     ground: &Ground<'_>,
     labels: &Working<'_>,
     to: Spot,
     own: u64,
+    floor: u64,
     from: Spot,
     best: u64,
     tally: &mut M,
@@ -40,16 +49,20 @@ fn by_place<M: Tally>(
     requires size { labels.now.size ≡ ground.now.size }
     requires spots { IsSpot ground.now.size to × IsSpot ground.now.size from }
     requires near { AreNear to from }
+    requires floor { (j : ℕ) → floor ≤ values ground.now.limit labels.now.cells j + step_of ground.now j to.at }
     requires own { (own ≡ friction_at ground.now.friction to.at) × (0 < own) × (own < 2 ^ 31) }
     requires best { best ≤ suc ground.now.limit }
     ensures value { result ≡ min best (values ground.now.limit labels.now.cells from.at + step_of ground.now from.at to.at) }
     ensures picks { RisesBy 0 2 (M.counts tally.old) (M.counts tally.new) }
 {
+    if best <= floor {
+        return best;
+    }
     if from.at == to.at {
         return best;
     }
     let value = cost_at(ground, labels, from.at, tally);
-    if value >= best {
+    if value + least_step(own) >= best {
         return best;
     }
     let friction = ground.friction(from.at, tally);
@@ -65,6 +78,7 @@ fn by_row<M: Tally>(
     labels: &Working<'_>,
     to: Spot,
     own: u64,
+    floor: u64,
     row: u32,
     best: u64,
     tally: &mut M,
@@ -73,6 +87,7 @@ fn by_row<M: Tally>(
     requires spot { IsSpot ground.now.size to }
     requires row { row < ground.now.size.rows }
     requires close { gap to.row row ≤ 1 }
+    requires floor { (j : ℕ) → floor ≤ values ground.now.limit labels.now.cells j + step_of ground.now j to.at }
     requires own { (own ≡ friction_at ground.now.friction to.at) × (0 < own) × (own < 2 ^ 31) }
     requires best { best ≤ suc ground.now.limit }
     ensures lowered { IsLowered (net_of ground.now) (values ground.now.limit labels.now.cells) to.at best result }
@@ -89,6 +104,7 @@ fn by_row<M: Tally>(
             labels,
             to,
             own,
+            floor,
             ground.spot_at(row, c),
             least,
             tally,
@@ -97,20 +113,28 @@ fn by_row<M: Tally>(
     least
 }
 
-/// What the equation of a place gives. At most twenty picks.
-pub fn equation<M: Tally>(ground: &Ground<'_>, labels: &Working<'_>, to: Spot, tally: &mut M) -> u64
+/// What the equation of a place of friction `own` gives, where that is known to be `floor` or above. At most 19 picks.
+pub fn equation<M: Tally>(
+    ground: &Ground<'_>,
+    labels: &Working<'_>,
+    to: Spot,
+    own: u64,
+    floor: u64,
+    tally: &mut M,
+) -> u64
     requires size { labels.now.size ≡ ground.now.size }
     requires count { length labels.now.cells ≡ cells_in ground.now.size }
     requires spot { IsSpot ground.now.size to }
+    requires own { (own ≡ friction_at ground.now.friction to.at) × (own < 2 ^ 31) }
+    requires floor { floor ≤ equation (net_of ground.now) (values ground.now.limit labels.now.cells) to.at }
     ensures value { result ≡ equation (net_of ground.now) (values ground.now.limit labels.now.cells) to.at }
     ensures most { result ≤ suc ground.now.limit }
-    ensures picks { RisesBy 0 20 (M.counts tally.old) (M.counts tally.new) }
+    ensures picks { RisesBy 0 19 (M.counts tally.old) (M.counts tally.new) }
 {
-    let own = ground.friction(to.at, tally);
     if own == 0 {
         return ground.top();
     }
-    if ground.is_source(to.at, tally) {
+    if floor == 0 && ground.is_source(to.at, tally) {
         return 0;
     }
     let rows = ground.extent().rows();
@@ -118,7 +142,7 @@ pub fn equation<M: Tally>(ground: &Ground<'_>, labels: &Working<'_>, to: Spot, t
     let high = (to.row + 2).min(rows);
     let mut least = ground.top();
     for r in low..high {
-        least = by_row(ground, labels, to, own, r, least, tally);
+        least = by_row(ground, labels, to, own, floor, r, least, tally);
     }
     least
 }

@@ -31,7 +31,8 @@ pub fn look<M: Tally>(
     ensures picks { RisesBy 0 21 (M.counts tally.old) (M.counts tally.new) }
 {
     let value = cost_at(ground, labels, at.at, tally);
-    let other = equation(ground, labels, at, tally);
+    let own = ground.friction(at.at, tally);
+    let other = equation(ground, labels, at, own, 0, tally);
     if value == other {
         return Ok(());
     }

@@ -1,5 +1,5 @@
 //! Costs through a place come into the queue, where they are below its neighbours'.
-ghost use Rattle.std.specs.Prelude.{◌≡◌, ◌<◌, ◌≤◌, ◌+◌, ◌*◌, ℕ, suc, length, OnOk};
+ghost use Rattle.std.specs.Prelude.{◌≡◌, ◌<◌, ◌≤◌, ◌+◌, ◌*◌, ◌^◌, ℕ, length, OnOk};
 ghost use Rattle.map_nums.specs.Grids.{cells_in, gap};
 ghost use Rattle.map_defs.specs.Spread.{friction_at};
 ghost use Rattle.layer_tiles.specs.Tallies.{RisesBy};
@@ -9,7 +9,7 @@ ghost use Rattle.friction_spread.specs.Spots.{IsSpot, AreNear};
 ghost use Rattle.friction_spread.specs.Rows.{RowOffered, RoundOffered};
 
 use crate::costs::cost_at;
-use crate::equations::weigh;
+use crate::equations::{least_step, weigh};
 use crate::ground::{Ground, Spot};
 use layer_tiles::{NoMemory, Tally};
 use least_costs::Queue;
@@ -30,7 +30,7 @@ fn offer<M: Tally>(
     requires spots { IsSpot ground.now.size from × IsSpot ground.now.size to }
     requires near { AreNear to from }
     requires value { value ≡ values ground.now.limit labels.now.cells from.at }
-    requires low { value ≤ suc ground.now.limit }
+    requires low { value ≤ 2 ^ 31 }
     requires own { (own ≡ friction_at ground.now.friction from.at) × (0 < own) × (own < 2147483648) }
     ensures kept { OnOk result (IsKept queue.old queue.new) }
     ensures offered { OnOk result (IsOfferedBy (net_of ground.now) (values ground.now.limit labels.now.cells) queue.new from.at to.at) }
@@ -41,7 +41,7 @@ fn offer<M: Tally>(
         return Ok(());
     }
     let there = cost_at(ground, labels, to.at, tally);
-    if there <= value {
+    if there <= value + least_step(own) {
         return Ok(());
     }
     let friction = ground.friction(to.at, tally);
@@ -72,7 +72,7 @@ fn offer_row<M: Tally>(
     requires row { row < ground.now.size.rows }
     requires close { gap row from.row ≤ 1 }
     requires value { value ≡ values ground.now.limit labels.now.cells from.at }
-    requires low { value ≤ suc ground.now.limit }
+    requires low { value ≤ 2 ^ 31 }
     requires own { (own ≡ friction_at ground.now.friction from.at) × (0 < own) × (own < 2147483648) }
     ensures kept { OnOk result (IsKept queue.old queue.new) }
     ensures offered { OnOk result (RowOffered (net_of ground.now) ground.now.size (values ground.now.limit labels.now.cells) queue.new from.at row) }
@@ -97,25 +97,26 @@ fn offer_row<M: Tally>(
     Ok(())
 }
 
-/// The costs through a place come into the queue where they are below the neighbours' values. At most 19 picks.
+/// The costs through a place come into the queue where they are below the neighbours' values. At most 18 picks.
 pub fn offer_round<M: Tally>(
     ground: &Ground<'_>,
     labels: &Working<'_>,
     queue: &mut Queue,
     from: Spot,
     value: u64,
+    own: u64,
     tally: &mut M,
 ) -> Result<(), NoMemory>
     requires size { labels.now.size ≡ ground.now.size }
     requires spot { IsSpot ground.now.size from }
     requires value { value ≡ values ground.now.limit labels.now.cells from.at }
-    requires low { value ≤ suc ground.now.limit }
+    requires low { value ≤ 2 ^ 31 }
+    requires own { (own ≡ friction_at ground.now.friction from.at) × (own < 2147483648) }
     ensures kept { OnOk result (IsKept queue.old queue.new) }
     ensures offered { OnOk result (RoundOffered (net_of ground.now) ground.now.size (values ground.now.limit labels.now.cells) queue.new from.at) }
     ensures len { OnOk result (length queue.new ≤ length queue.old + 9) }
-    ensures picks { RisesBy 0 19 (M.counts tally.old) (M.counts tally.new) }
+    ensures picks { RisesBy 0 18 (M.counts tally.old) (M.counts tally.new) }
 {
-    let own = ground.friction(from.at, tally);
     if own == 0 {
         return Ok(());
     }

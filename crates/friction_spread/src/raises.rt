@@ -9,7 +9,7 @@ ghost use Rattle.friction_spread.specs.Spots.{IsSpot, AreNear};
 ghost use Rattle.friction_spread.specs.Rows.{RowRisen, RoundRisen};
 
 use crate::costs::cost_at;
-use crate::equations::weigh;
+use crate::equations::{least_step, weigh};
 use crate::ground::{Ground, Spot};
 use crate::looks::look;
 use layer_tiles::{NoMemory, Tally};
@@ -41,7 +41,7 @@ fn raise<M: Tally>(
         return Ok(());
     }
     let there = cost_at(ground, labels, to.at, tally);
-    if there <= value {
+    if there < value + least_step(own) {
         return Ok(());
     }
     let friction = ground.friction(to.at, tally);
@@ -99,24 +99,25 @@ fn raise_row<M: Tally>(
     Ok(())
 }
 
-/// The neighbours of a place whose cost was `value` come into the queue, where its loss may make them disagree. At most 208 picks.
+/// The neighbours of a place whose cost was `value` come into the queue, where its loss may make them disagree. At most 207 picks.
 pub fn raise_round<M: Tally>(
     ground: &Ground<'_>,
     labels: &Working<'_>,
     queue: &mut Queue,
     from: Spot,
     value: u64,
+    own: u64,
     tally: &mut M,
 ) -> Result<(), NoMemory>
     requires size { labels.now.size ≡ ground.now.size }
     requires spot { IsSpot ground.now.size from }
     requires low { value ≤ 2 ^ 31 }
+    requires own { (own ≡ friction_at ground.now.friction from.at) × (own < 2147483648) }
     ensures kept { OnOk result (IsKept queue.old queue.new) }
     ensures risen { OnOk result (RoundRisen (net_of ground.now) ground.now.size value (values ground.now.limit labels.now.cells) queue.new from.at) }
     ensures len { OnOk result (length queue.new ≤ length queue.old + 9) }
-    ensures picks { RisesBy 0 208 (M.counts tally.old) (M.counts tally.new) }
+    ensures picks { RisesBy 0 207 (M.counts tally.old) (M.counts tally.new) }
 {
-    let own = ground.friction(from.at, tally);
     if own == 0 {
         return Ok(());
     }

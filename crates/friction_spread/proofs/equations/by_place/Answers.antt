@@ -2,11 +2,16 @@ use Rattle.std.proofs.Common.{◌≡◌, ◌<◌, arith, ap, sym, ◌∙◌}
 use Rattle.map_defs.specs.Spread.{friction_at}
 use Rattle.friction_spread.specs.Costs.{values, step_of}
 use Rattle.friction_spread.specs.Spots.{weighed}
-use Rattle.friction_spread.proofs.Least.{step_same, step_barrier, step_weighed}
+use Rattle.friction_spread.proofs.Least.{step_same, step_barrier, step_weighed, too_far}
 use Rattle.friction_spread.proofs.equations.by_place.Goals as goal
 
 pub returns-then-from-to-clause-value : goal.returns-then-from-to-clause-value
 returns-then-from-to-clause-value g c = omega (arith, step_same c.args.ground.now c.args.from.at c.args.to.at c.if-from-to.true, c.requires.best)
+
+pub returns-then-value-least_step-clause-value : goal.returns-then-value-least_step-clause-value
+returns-then-value-least_step-clause-value g c =
+    let l = too_far c.args.ground.now c.args.from.at c.args.to.at c.args.own c.cost_at-value.result c.args.best c.requires.own.0 c.requires.best (omega (arith, c.if-value-least_step.true, c.least_step.ensures)) in
+    omega (arith, l, c.cost_at-value.ensures.value)
 
 pub returns-then-friction-eq0-clause-value : goal.returns-then-friction-eq0-clause-value
 returns-then-friction-eq0-clause-value g c = omega (arith, step_barrier c.args.ground.now c.args.from.at c.args.to.at (sym c.friction-friction.ensures.value ∙ c.if-friction-eq0.true), c.requires.best)

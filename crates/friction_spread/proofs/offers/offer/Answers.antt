@@ -3,11 +3,14 @@ use Rattle.std.specs.List.{Contains}
 use Rattle.map_defs.specs.Spread.{friction_at}
 use Rattle.friction_spread.specs.Costs.{values, step_of}
 use Rattle.friction_spread.specs.Spots.{weighed}
-use Rattle.friction_spread.proofs.Least.{step_to_barrier, step_weighed}
+use Rattle.friction_spread.proofs.Least.{step_least, step_to_barrier, step_weighed}
 use Rattle.friction_spread.proofs.offers.offer.Given.{Over}
 use Rattle.friction_spread.proofs.offers.offer.Goals as goal
 use Rattle.friction_spread.proofs.offers.offer.Goals.{After-weigh}
 use Rattle.least_costs.proofs.Queues.{pushed_kept, pushed_there, pushed_length}
+
+pub returns-then-there-value-clause-offered : goal.returns-then-there-value-clause-offered
+returns-then-there-value-clause-offered g c = λ l m. absurd (omega (arith, m, (step_least c.args.ground.now c.args.from.at c.args.to.at l).0, c.requires.own.0, c.requires.value, c.cost_at-there.ensures.value, c.least_step.ensures, c.if-there-value.true))
 
 pub returns-then-friction-eq0-clause-offered : goal.returns-then-friction-eq0-clause-offered
 returns-then-friction-eq0-clause-offered g c = λ l. absurd (omega (arith, l, step_to_barrier c.args.ground.now c.args.from.at c.args.to.at (sym c.friction-friction.ensures.value ∙ c.if-friction-eq0.true)))

@@ -7,7 +7,7 @@ use Rattle.friction_spread.proofs.Rounds.{below, kept_then, round_offered_next}
 use Rattle.friction_spread.proofs.offers.offer_round.Goals as goal
 
 pub returns-then-own-eq0-clause-offered : goal.returns-then-own-eq0-clause-offered
-returns-then-own-eq0-clause-offered g c = λ j l q k m. absurd (omega (arith, m, step_barrier c.args.ground.now c.args.from.at j (sym c.friction-own.ensures.value ∙ c.if-own-eq0.true)))
+returns-then-own-eq0-clause-offered g c = λ j l q k m. absurd (omega (arith, m, step_barrier c.args.ground.now c.args.from.at j (sym c.requires.own.0 ∙ c.if-own-eq0.true)))
 
 pub returns-clause-offered : goal.returns-clause-offered
 returns-clause-offered g c =

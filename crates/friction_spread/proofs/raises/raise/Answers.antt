@@ -4,8 +4,7 @@ use Rattle.std.proofs.lemmas.Result.{on_ok_weaker}
 use Rattle.map_defs.specs.Spread.{friction_at}
 use Rattle.friction_spread.specs.Costs.{values, step_of}
 use Rattle.friction_spread.specs.Spots.{weighed}
-use Rattle.friction_spread.proofs.Grounds.{net_costs}
-use Rattle.friction_spread.proofs.Least.{step_same, step_to_barrier, step_weighed}
+use Rattle.friction_spread.proofs.Least.{step_least, step_same, step_to_barrier, step_weighed}
 use Rattle.friction_spread.proofs.raises.raise.Given.{Over}
 use Rattle.friction_spread.proofs.raises.raise.Goals as goal
 use Rattle.friction_spread.proofs.raises.raise.Goals.{After-weigh}
@@ -16,9 +15,10 @@ returns-then-from-to-clause-risen g c = λ l. absurd (omega (arith, l, step_same
 
 pub returns-then-there-value-clause-risen : goal.returns-then-there-value-clause-risen
 returns-then-there-value-clause-risen g c = λ l.
-    let s = net_costs c.args.ground.now c.args.from.at c.args.to.at in
+    let s = (step_least c.args.ground.now c.args.from.at c.args.to.at l).0 in
     let v = c.cost_at-there.ensures.value in
-    record { above = λ m. absurd (omega (arith, m, v, c.if-there-value.true)); level = λ m. absurd (omega (arith, m, s, v, c.if-there-value.true)) }
+    let k : c.cost_at-there.result < c.args.value + step_of c.args.ground.now c.args.from.at c.args.to.at = omega (arith, s, c.requires.own.0, c.least_step.ensures, c.if-there-value.true) in
+    record { above = λ m. absurd (omega (arith, m, k, v)); level = λ m. absurd (omega (arith, m, k, v)) }
 
 pub returns-then-friction-eq0-clause-risen : goal.returns-then-friction-eq0-clause-risen
 returns-then-friction-eq0-clause-risen g c = λ l. absurd (omega (arith, l, step_to_barrier c.args.ground.now c.args.from.at c.args.to.at (sym c.friction-friction.ensures.value ∙ c.if-friction-eq0.true)))

@@ -7,7 +7,7 @@ use Rattle.friction_spread.proofs.Rounds.{below, kept_then, round_risen_next}
 use Rattle.friction_spread.proofs.raises.raise_round.Goals as goal
 
 pub returns-then-own-eq0-clause-risen : goal.returns-then-own-eq0-clause-risen
-returns-then-own-eq0-clause-risen g c = λ j l q k m. absurd (omega (arith, m, step_barrier c.args.ground.now c.args.from.at j (sym c.friction-own.ensures.value ∙ c.if-own-eq0.true)))
+returns-then-own-eq0-clause-risen g c = λ j l q k m. absurd (omega (arith, m, step_barrier c.args.ground.now c.args.from.at j (sym c.requires.own.0 ∙ c.if-own-eq0.true)))
 
 pub returns-clause-risen : goal.returns-clause-risen
 returns-clause-risen g c =

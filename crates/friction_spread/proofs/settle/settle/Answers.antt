@@ -9,7 +9,7 @@ use Rattle.least_costs.proofs.Takes.{changed_most}
 use Rattle.least_costs.proofs.Steps.{Went, went, all_least, due_ranks, ranks_least}
 use Rattle.friction_spread.specs.Costs.{values, net_of}
 use Rattle.friction_spread.proofs.Grounds.{net_closed, net_costs, no_loop}
-use Rattle.friction_spread.proofs.Settling.{same_then, moved_same, due_moved, caused_then, picks_next, enough_next, picks_last, on_err}
+use Rattle.friction_spread.proofs.Settling.{key_below, same_then, moved_same, due_moved, caused_then, picks_next, enough_next, picks_last, on_err}
 use Rattle.friction_spread.proofs.settle.settle.Given.{Over}
 use Rattle.friction_spread.proofs.settle.settle.Goals as goal
 use Rattle.friction_spread.proofs.settle.settle.Goals.{After-from-moved}
@@ -26,6 +26,9 @@ went_here g c =
     let P : ℕ → Type 0 = λ n. Went (net_of gr) old d c.loop-key.queue d' c.deal.new.queue (c.loop-key.moved + n) (from_bool c.in_ok-dealt.dealt.taken) in
     subst P (sym e)
     (went (net_of gr) (net_closed gr) (net_costs gr) (no_loop gr) old d c.loop-key.queue c.pop.new.self c.loop-key.moved c.in-Some.key c.in-Some.at c.loop-key.invariant.repairing c.in-Some.ensures.entry c.in-Some.ensures.least d' c.deal.new.queue c.in_ok-dealt.dealt.taken (c.in_ok-dealt.ensures.did))
+
+pub deal-requires-clause-least : goal.deal-requires-clause-least
+deal-requires-clause-least g c = let gr = c.args.ground.now in key_below (net_of gr) (values gr.limit c.loop-key.labels.cells) c.loop-key.queue c.in-Some.key c.in-Some.at (c.loop-key.invariant.repairing.queued c.in-Some.at) c.in-Some.ensures.least
 
 pub overflow_add-moved : goal.overflow_add-moved
 overflow_add-moved g c =
