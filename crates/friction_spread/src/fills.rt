@@ -9,7 +9,7 @@ ghost use Rattle.friction_spread.specs.Flat.{costs_of, AreAllFrictions};
 ghost use Rattle.friction_spread.specs.Rows.{RowRelaxed};
 ghost use Rattle.friction_spread.specs.Spots.{IsSpot, AreNear};
 
-use crate::equations::weigh;
+use crate::equations::{least_step, weigh};
 use crate::ground::{Ground, Spot};
 use layer_tiles::NoMemory;
 use least_costs::Queue;
@@ -39,7 +39,7 @@ fn offer(
         return Ok(());
     }
     let there = costs[to.at as usize] as u64;
-    if there <= value {
+    if there <= value + least_step(own) {
         return Ok(());
     }
     let beyond = friction[to.at as usize] as u64;

@@ -5,7 +5,7 @@ use Rattle.friction_spread.specs.Costs.{net_of, step_of}
 use Rattle.friction_spread.specs.Flat.{costs_of}
 use Rattle.friction_spread.specs.Spots.{weighed}
 use Rattle.friction_spread.proofs.Flats.{cost_read, cost_set}
-use Rattle.friction_spread.proofs.Least.{step_same, step_to_barrier, step_weighed}
+use Rattle.friction_spread.proofs.Least.{step_least, step_same, step_to_barrier, step_weighed}
 use Rattle.friction_spread.proofs.fills.offer.Goals as goal
 use Rattle.friction_spread.proofs.fills.offer.Goals.{After-weigh}
 
@@ -19,7 +19,7 @@ pub returns-then-there-value-clause-offered : goal.returns-then-there-value-clau
 returns-then-there-value-clause-offered c = offered_none (net_of c.args.ground.now) c.args.value c.args.from.at (costs_of c.args.ground.now c.args.costs.now) c.args.queue.now
 
 pub returns-then-there-value-clause-relaxed : goal.returns-then-there-value-clause-relaxed
-returns-then-there-value-clause-relaxed c = λ l. omega (arith, cost_read c.args.ground.now c.args.costs.now c.args.to.at (omega (arith, c.requires.count, c.requires.spots.1.within)), c.if-there-value.true, c.requires.value)
+returns-then-there-value-clause-relaxed c = λ l. omega (arith, cost_read c.args.ground.now c.args.costs.now c.args.to.at (omega (arith, c.requires.count, c.requires.spots.1.within)), c.if-there-value.true, c.requires.value, c.requires.own.0, c.least_step.ensures, (step_least c.args.ground.now c.args.from.at c.args.to.at l).0)
 
 pub returns-then-beyond-eq0-clause-offered : goal.returns-then-beyond-eq0-clause-offered
 returns-then-beyond-eq0-clause-offered c = offered_none (net_of c.args.ground.now) c.args.value c.args.from.at (costs_of c.args.ground.now c.args.costs.now) c.args.queue.now
