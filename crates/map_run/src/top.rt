@@ -108,15 +108,8 @@ fn run_form<F: Shelf, S: Source, K: Sink, M: Tally + Send, G: Gate + Sync, R: Th
     }
 }
 
-/// A run with these limits: all that [`run`] does, which has the program's own.
-pub fn run_within<
-    F: Shelf,
-    S: Source,
-    K: Sink,
-    M: Tally + Send,
-    G: Gate + Sync,
-    R: Threads + Sync,
->(
+/// A run with these limits; [`run`] is that with the program's own.
+pub fn run_within<F: Shelf, S: Source, K: Sink, M: Tally + Send, G: Gate + Sync, R: Threads + Sync>(
     rt: &R,
     alloc: Global,
     words: &[String],

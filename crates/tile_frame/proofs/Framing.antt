@@ -92,6 +92,7 @@ made_more value width c end cells answer cell m within l x is = ⊎_elim (λ (b 
   where
     TO : ℕ → Type 0
     TO n = AreMadeTo value width (c + 1) n (set cells c cell)
+
     before : (answer : Result (Option ℤ) Wide) → c < end → IsExact (value c) answer → IfOk answer (λ v. cell ≡ v) → TO (if is_err answer then min end c else end)
     before (Ok v) b x is =
         let whole : min c end ≡ c = omega arith in
@@ -111,6 +112,7 @@ made_more value width c end cells answer cell m within l x is = ⊎_elim (λ (b 
           made = subst (λ n. AreCellsOf value n (set cells c cell)) (sym end_at) (cells_beyond value c c cells cell (subst (λ n. AreCellsOf value n cells) whole m.made) (omega arith));
           wide = λ w. (omega (arith, same), subst (λ n. IsTrue (is_wide (value n))) (sym same) x);
         }
+
     behind : (answer : Result (Option ℤ) Wide) → end ≤ c → TO (if is_err answer then min end c else end)
     behind answer b =
         let kept : (if is_err answer then min end c else end) ≡ end = same_end (is_err answer) in
