@@ -1,8 +1,9 @@
 //! Measures the Local kernel: so many times a statistic of two layers of 1000 by 1000 cells, tile by tile, in memory.
 //!
-//! The first word is the number of rounds. The second names the statistic, `sum` or `maximum`, so that the compiler doesn't know it, as in the
-//! program; with `copy` the tiles of the left layer are copied cell by cell instead, to compare with. What is printed is the sum of the first cells of all tiles of the last round, so that no round
-//! can be left out. `bench/local` tells the time of a cell from two such runs.
+//! The first word is the number of rounds. The second names the statistic, `sum` or `maximum`, so that the compiler doesn't know
+//! it, as in the program; with `copy` the tiles of the left layer are copied cell by cell instead, to compare with. What is printed
+//! is the sum of the first cells of all tiles of the last round, so that no round can be left out. `bench/local` tells the time of a
+//! cell from two such runs.
 #![tactic(auto)]
 
 ghost use Rattle.std.specs.Prelude.{◌≡◌, ◌<◌, length, IfOk};
