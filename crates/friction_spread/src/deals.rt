@@ -38,7 +38,8 @@ fn offer_cost(queue: &mut Queue, cost: u64, top: u64, at: u32) -> Result<(), NoM
     Ok(())
 }
 
-/// Deals with an entry that was taken out of the queue. Where the place disagrees and this is its key, a value above its equation's becomes it, and a value below becomes none.
+/// Deals with an entry that was taken out of the queue. Where the place disagrees and this is its key, a value above its equation's
+/// becomes it, and a value below becomes none.
 pub fn deal<M: Tally>(
     ground: &Ground<'_>,
     labels: &mut Working<'_>,

@@ -16,7 +16,9 @@ use layer_tiles::{NoMemory, Tally};
 use least_costs::Queue;
 use tile_work::Working;
 
-/// A place near one whose cost was `value`. Where it has the cost through that one, it may have stood on it, and comes into the queue under its own cost: its equation is computed when it is taken out. One above that cost comes into the queue if it disagrees; for one below, the equation did not rise, or stays above it. At most 23 picks.
+/// A place near one whose cost was `value`. Where it has the cost through that one, it may have stood on it, and comes into the
+/// queue under its own cost: its equation is computed when it is taken out. One above that cost comes into the queue if it
+/// disagrees; for one below, the equation did not rise, or stays above it. At most 23 picks.
 fn raise<M: Tally>(
     ground: &Ground<'_>,
     labels: &Working<'_>,

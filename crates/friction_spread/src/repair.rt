@@ -126,7 +126,8 @@ fn limit_of(limit: Value) -> u32
     limit as u32
 }
 
-/// The least costs of spreading: all of them where there were none, else those that were right before put right. The limit is the greatest cost that counts, of 0 to 2,000,000,000.
+/// The least costs of spreading: all of them where there were none, else those that were right before put right. The limit is the
+/// greatest cost that counts, of 0 to 2,000,000,000.
 pub fn spread_repair<M: Tally>(
     alloc: Global,
     base: Option<&Layer>,
