@@ -1,4 +1,4 @@
-//! Tests of what the public calls of grids' texts, graphs, sessions and the outside do, with values from other programs.
+//! Tests of what the public calls of grids' texts, graphs, sessions, the outside and whole runs do, with values from other programs.
 //!
 //! Those of lines stand in `line_checks`, of the engine in `engine_checks`, of layers and kernels in `kernel_checks`.
 #![tactic(auto)]
@@ -11,6 +11,8 @@ mod grids;
 mod plays;
 #[cfg(test)]
 mod refused_grids;
+#[cfg(test)]
+mod runs;
 #[cfg(test)]
 mod sessions;
 #[cfg(test)]

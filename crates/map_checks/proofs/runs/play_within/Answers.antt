@@ -1,6 +1,6 @@
 use Rattle.map_machine.specs.Words.{form_of}
 use Rattle.map_run.proofs.WordLemmas.{all_served}
-use Rattle.run_checks.proofs.runs.play_within.Goals as goal
+use Rattle.map_checks.proofs.runs.play_within.Goals as goal
 
 pub run_within-status-requires-clause-serves : goal.run_within-status-requires-clause-serves
 run_within-status-requires-clause-serves g c κs within = all_served (form_of c.deref.result.now)
