@@ -11,10 +11,132 @@ use crate::values::{difference, kept, ratio};
 use layer_tiles::{Cell, Value};
 use map_nums::{Stat, Wide};
 
+/// An operation on two values as a type: so the loop over a row has none to choose.
+pub(crate) trait Pairing {
+    ghost use Rattle.std.specs.Prelude.{[], ◌∷◌};
+    ghost use Rattle.map_nums.specs.Exact.{IsExact};
+    ghost use Rattle.map_defs.specs.Local.{LocalOp, of_numbers};
+
+    /// The operation.
+    ghost op: { Self → LocalOp };
+
+    /// It takes two operands.
+    ghost takes: { Self → Type 0 };
+
+    /// Its value of two values.
+    fn of(&self, left: Value, right: Value) -> Result<Option<Value>, Wide>
+        requires { takes self.now }
+        ensures { IsExact (of_numbers (op self.now) (left ∷ right ∷ [])) result };
+}
+
+/// The sum.
+#[derive(Drop)]
+pub(crate) struct Sums;
+
+/// The product.
+#[derive(Drop)]
+pub(crate) struct Products;
+
+/// The greater value.
+#[derive(Drop)]
+pub(crate) struct Maxima;
+
+/// The lesser value.
+#[derive(Drop)]
+pub(crate) struct Minima;
+
+/// The first value minus the second.
+#[derive(Drop)]
+pub(crate) struct Differences;
+
+/// Any operation, chosen anew for each pair.
+#[derive(Drop)]
+pub(crate) struct AnyPairs<'a>(pub(crate) &'a LocalOp);
+
+impl Pairing for Sums {
+    ghost use Rattle.map_defs.specs.Local.{of_stat};
+    ghost use Rattle.map_nums.specs.declared.Stat.TheVariants.{Sum};
+
+    ghost op = { λ _. of_stat Sum };
+
+    ghost takes = { λ _. Unit {0} };
+
+    fn of(&self, left: Value, right: Value) -> Result<Option<Value>, Wide> {
+        kept(total(left, right))
+    }
+}
+
+impl Pairing for Products {
+    ghost use Rattle.map_defs.specs.Local.{of_stat};
+    ghost use Rattle.map_nums.specs.declared.Stat.TheVariants.{Product};
+
+    ghost op = { λ _. of_stat Product };
+
+    ghost takes = { λ _. Unit {0} };
+
+    fn of(&self, left: Value, right: Value) -> Result<Option<Value>, Wide> {
+        kept(product(left, right))
+    }
+}
+
+impl Pairing for Maxima {
+    ghost use Rattle.map_defs.specs.Local.{of_stat};
+    ghost use Rattle.map_nums.specs.declared.Stat.TheVariants.{Maximum};
+
+    ghost op = { λ _. of_stat Maximum };
+
+    ghost takes = { λ _. Unit {0} };
+
+    fn of(&self, left: Value, right: Value) -> Result<Option<Value>, Wide> {
+        kept(greater(left, right) as i64)
+    }
+}
+
+impl Pairing for Minima {
+    ghost use Rattle.map_defs.specs.Local.{of_stat};
+    ghost use Rattle.map_nums.specs.declared.Stat.TheVariants.{Minimum};
+
+    ghost op = { λ _. of_stat Minimum };
+
+    ghost takes = { λ _. Unit {0} };
+
+    fn of(&self, left: Value, right: Value) -> Result<Option<Value>, Wide> {
+        kept(lesser(left, right) as i64)
+    }
+}
+
+impl Pairing for Differences {
+    ghost use Rattle.map_defs.specs.Local.{difference};
+
+    ghost op = { λ _. difference };
+
+    ghost takes = { λ _. Unit {0} };
+
+    fn of(&self, left: Value, right: Value) -> Result<Option<Value>, Wide> {
+        difference(left, right)
+    }
+}
+
+impl<'a> Pairing for AnyPairs<'a> {
+    ghost use Rattle.local_ops.specs.Operations.{op_of, Takes};
+
+    ghost op = { λ m. op_of m.0.now };
+
+    ghost takes = { λ m. Takes (op_of m.0.now) 2 };
+
+    fn of(&self, left: Value, right: Value) -> Result<Option<Value>, Wide> {
+        of_pair(self.0, left, right)
+    }
+}
+
 /// The operation's value of two cells, null where one is null.
-pub(crate) fn of_two(op: &LocalOp, left: Cell, right: Cell) -> Result<Option<Value>, Wide>
-    requires { Takes (op_of op.now) 2 }
-    ensures { IsExact (local_cell (op_of op.now) (left ∷ right ∷ [])) result }
+pub(crate) fn of_two<P: Pairing>(
+    pairing: &P,
+    left: Cell,
+    right: Cell,
+) -> Result<Option<Value>, Wide>
+    requires { P.takes pairing.now }
+    ensures { IsExact (local_cell (P.op pairing.now) (left ∷ right ∷ [])) result }
 {
     let Some(first) = left.get() else {
         return Ok(None);
@@ -22,7 +144,7 @@ pub(crate) fn of_two(op: &LocalOp, left: Cell, right: Cell) -> Result<Option<Val
     let Some(second) = right.get() else {
         return Ok(None);
     };
-    of_pair(op, first, second)
+    pairing.of(first, second)
 }
 
 /// The operation's value of two values.

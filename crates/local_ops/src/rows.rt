@@ -10,10 +10,10 @@ ghost use Rattle.local_ops.specs.Operations.{op_of, Takes};
 ghost use Rattle.local_ops.specs.Operands.{cell_by, HaveSize};
 
 use crate::ops::LocalOp;
-use crate::pairs::of_two;
+use crate::pairs::{AnyPairs, Differences, Maxima, Minima, Pairing, Products, Sums, of_two};
 use crate::values::value_of;
 use layer_tiles::{Cell, Extent, KernelRefusal, Tile, TileView, Value};
-use map_nums::Wide;
+use map_nums::{Stat, Wide};
 use tile_frame::{RowMaker, TileMaker, make_row};
 
 /// An operation, and the tiles of its operands.
@@ -35,32 +35,31 @@ impl<'a, 'b> TileMaker for LocalTile<'a, 'b> {
 
     fn row(&self, extent: Extent, tile: u32, r: u32, made: &mut Tile) -> Result<(), KernelRefusal> {
         if self.views.len() == 2 {
-            return row_of_two(self.op, self.views, extent, tile, r, made);
+            return row_of_pair(self.op, self.views, extent, tile, r, made);
         }
         row_of_any(self.op, self.views, extent, tile, r, made)
     }
 }
 
-/// An operation, and a row of each of two operands.
+/// An operation on two values, and a row of each of two operands.
 #[derive(Drop)]
-struct RowOfTwo<'a> {
-    op: &'a LocalOp,
+struct RowOfTwo<'a, P> {
+    pairing: &'a P,
     left: &'a [Cell],
     right: &'a [Cell],
 }
 
-impl<'a> RowMaker for RowOfTwo<'a> {
+impl<'a, P: Pairing> RowMaker for RowOfTwo<'a, P> {
     ghost use Rattle.std.specs.Prelude.{◌<◌, [], ◌∷◌, length};
     ghost use Rattle.map_nums.specs.Grids.{cell_at};
     ghost use Rattle.map_defs.specs.Local.{local_cell};
-    ghost use Rattle.local_ops.specs.Operations.{op_of, Takes};
 
-    ghost value = { λ m c. local_cell (op_of m.op.now) (cell_at m.left.now c ∷ cell_at m.right.now c ∷ []) };
+    ghost value = { λ m c. local_cell (P.op m.pairing.now) (cell_at m.left.now c ∷ cell_at m.right.now c ∷ []) };
 
-    ghost has = { λ m c. Takes (op_of m.op.now) 2 × (c < length m.left.now) × (c < length m.right.now) };
+    ghost has = { λ m c. P.takes m.pairing.now × (c < length m.left.now) × (c < length m.right.now) };
 
     fn value_at(&self, c: u32) -> Result<Option<Value>, Wide> {
-        of_two(self.op, self.left[c as usize], self.right[c as usize])
+        of_two(self.pairing, self.left[c as usize], self.right[c as usize])
     }
 }
 
@@ -88,7 +87,34 @@ impl<'a, 'b> RowMaker for RowOfAny<'a, 'b> {
 }
 
 /// A row of a tile of two operands.
-fn row_of_two(
+fn row_of_two<P: Pairing>(
+    pairing: &P,
+    views: &[TileView<'_>],
+    extent: Extent,
+    tile: u32,
+    r: u32,
+    made: &mut Tile,
+) -> Result<(), KernelRefusal>
+    requires two { length views.now ≡ 2 }
+    requires takes { P.takes pairing.now }
+    requires within { tile < tiles_in extent }
+    requires sizes { HaveSize (tile_height extent tile) (tile_width extent tile) views.now }
+    requires row { r < tile_height extent tile }
+    requires size { IsBlockOf extent tile made.old }
+    ensures { IsRowAnswer (cell_by (P.op pairing.now) views.now r) extent tile r made.old made.new result }
+{
+    let left = views[0].row(r);
+    let right = views[1].row(r);
+    let maker = RowOfTwo {
+        pairing,
+        left,
+        right,
+    };
+    make_row(&maker, extent, tile, r, made)
+}
+
+/// The same for any operation: each of the simple ones has a loop of its own.
+fn row_of_pair(
     op: &LocalOp,
     views: &[TileView<'_>],
     extent: Extent,
@@ -104,10 +130,14 @@ fn row_of_two(
     requires size { IsBlockOf extent tile made.old }
     ensures { IsRowAnswer (cell_by (op_of op.now) views.now r) extent tile r made.old made.new result }
 {
-    let left = views[0].row(r);
-    let right = views[1].row(r);
-    let maker = RowOfTwo { op, left, right };
-    make_row(&maker, extent, tile, r, made)
+    match op {
+        LocalOp::Stat(Stat::Sum) => row_of_two(&Sums, views, extent, tile, r, made),
+        LocalOp::Stat(Stat::Product) => row_of_two(&Products, views, extent, tile, r, made),
+        LocalOp::Stat(Stat::Maximum) => row_of_two(&Maxima, views, extent, tile, r, made),
+        LocalOp::Stat(Stat::Minimum) => row_of_two(&Minima, views, extent, tile, r, made),
+        LocalOp::Difference => row_of_two(&Differences, views, extent, tile, r, made),
+        _ => row_of_two(&AnyPairs(op), views, extent, tile, r, made),
+    }
 }
 
 /// A row of a tile of any operands.
