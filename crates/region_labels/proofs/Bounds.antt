@@ -1,7 +1,6 @@
 -- How many places and tiles a repair can have worked on, by the labels that it comes to.
-use Rattle.std.proofs.Common.{◌≡◌, ◌≢◌, ◌⊎◌, inl, inr, ℕ, zero, suc, ◌+◌, ◌*◌, ◌<◌, ◌≤◌, min, Bool, true, false, cond, List, [], ◌∷◌, length, get_or, replicate, Option, Some, None, IsSome, refl, sym, ◌∙◌, ap, subst, arith, ℤ}
-use Rattle.std.specs.Prelude.{◌||◌, filter, is_some}
-use Rattle.std.specs.List.{Contains}
+use Rattle.std.proofs.Common.{◌≡◌, inl, inr, ℕ, ◌+◌, ◌*◌, ◌<◌, ◌≤◌, min, Bool, true, false, List, [], ◌∷◌, length, get_or, replicate, Some, None, IsSome, sym, ◌∙◌, ap, subst, arith}
+use Rattle.std.specs.Prelude.{filter}
 use Rattle.std.proofs.lemmas.Bool.{cases_lt, cases_Bool, both_ways, or_left, or_right}
 use Rattle.map_nums.specs.Grids.{Size, IsSize, Cells, cell_at, cells_in, places}
 use Rattle.map_nums.specs.Tiles.{tiles}
@@ -9,7 +8,7 @@ use Rattle.map_defs.specs.Differences.{differs, has_changed, tile_has, square_ha
 use Rattle.map_defs.specs.Damage.{op_damage, is_damaged}
 use Rattle.map_defs.specs.Ops.{Term, region_op}
 use Rattle.map_defs.specs.Regions.{AreRegions}
-use Rattle.map_defs.specs.Work.{is_touched, first_work, op_work}
+use Rattle.map_defs.specs.Work.{is_touched}
 use Rattle.map_defs.proofs.Squares.{reach_nought}
 use Rattle.layer_tiles.specs.Tiles.{tiles_in, tile_of, tile_start}
 use Rattle.layer_tiles.specs.Layers.{IsChangedTile}
@@ -19,20 +18,18 @@ use Rattle.layer_tiles.proofs.ChangeLaws.{untouched_place, Contains-or}
 use Rattle.layer_tiles.proofs.Rounds.{here, back}
 use Rattle.layer_tiles.proofs.Strides.{same_tile}
 use Rattle.std.proofs.lemmas.Nat.{mul-le}
-use Rattle.std.proofs.lemmas.List.{get_or_past}
 use Rattle.std.proofs.lemmas.List.FromFn.{length-range_with_len}
 use Rattle.tile_work.specs.Working.{WorkState, copies, begun_cells}
 use Rattle.tile_work.proofs.Copies.{copies_few}
 use Rattle.changed_cells.specs.Changed.{AreChanged}
-use Rattle.changed_cells.proofs.Joining.{differs_not, fewer, filter_most}
+use Rattle.changed_cells.proofs.Joining.{differs_not, fewer}
 use Rattle.changed_cells.proofs.Touching.{has_so, touched_few}
-use Rattle.region_labels.specs.Flood.{is_marked, marks_in, Holds, FloodState}
+use Rattle.region_labels.specs.Flood.{is_marked, marks_in, FloodState}
 use Rattle.region_labels.specs.Repairs.{IsLabelling, IsCleared}
 use Rattle.region_labels.specs.Copies.{IsWitness, IsCopiedWith, CopiesWith}
 use Rattle.region_labels.specs.Touched.{IsMarkedFor, IsTouchedBy}
 use Rattle.region_labels.proofs.Results.{no_marks, labelling_begun, begun_same}
 use Rattle.region_labels.proofs.Walks.{ends}
-use Rattle.region_labels.proofs.Works.{label_some}
 use Rattle.region_labels.proofs.Copying.{from_then, from_wider, copied_few, witness_lt, witness_has, witness_old}
 use Rattle.region_labels.proofs.Touched.{touched_so}
 
@@ -93,12 +90,6 @@ first_damage s before after labels t h = omega (arith, some_tile s h, length-ran
 pub few_copied : (s : Size) (now old labels : Cells) (begun copied : List Bool) → IsSize s → AreRegions s now labels → copies begun ≡ 0 → IsCopiedWith s now old begun copied → copies copied ≤ length (filter (tile_has s (differs old labels)) (tiles s))
 few_copied s now old labels begun copied h r none from = copied_few s (IsWitness s now old) (tile_has s (differs old labels)) begun copied none from (λ t w. (witness_lt s now old t h w, witness_has s now old labels t r w))
 
-pub all_copied : (s : Size) (now old : Cells) (begun copied : List Bool) → IsSize s → copies begun ≡ 0 → IsCopiedWith s now old begun copied → copies copied ≤ tiles_in s
-all_copied s now old begun copied h none from =
-    let p : ℕ → Bool = λ t. true in
-    let a = copied_few s (IsWitness s now old) p begun copied none from (λ t w. (witness_lt s now old t h w, refl)) in
-    omega (arith, a, filter_most p (tiles s), length-range_with_len 0 (tiles_in s))
-
 module _ (s extent : Size) (now old : Cells) (changed : List ℕ) (la lb : WorkState) (full : length old ≡ cells_in s) (e : extent ≡ s) (cells : la.cells ≡ begun_cells extent (Some old)) where
   begun_is : la.cells ≡ old
   begun_is = cells ∙ ap (λ (z : Size). begun_cells z (Some old)) e ∙ begun_same s old full
@@ -120,16 +111,3 @@ few_touched s now labels changed fa extent n marks r flood caused =
     marks_few s marks (is_touched s labels changed)
     (λ i m. let t : IsTouchedBy s now changed i = elim (caused i m) as (λ _. IsTouchedBy s now changed i) [ inl h ↦ absurd (both_ways (is_marked fa.marks i) (ap (λ (f : FloodState). is_marked f.marks i) flood ∙ no_marks n i) h) | inr t ↦ t ] in
     ((ends s now t.from.number t.from.root i t.from.joined.0 t.from.joined.1).0, touched_so s now labels r changed i t))
-
-pub few_labelled : (s : Size) (now labels : Cells) (fa : FloodState) (extent : Size) (n : ℕ) (marks : List Bool) → length now ≡ cells_in s → AreRegions s now labels → fa ≡ record { size = extent; marks = replicate n false; found = [] } → IsMarkedFor (λ i. IsSome (cell_at now i)) fa.marks marks → marks_in marks ≤ length (filter (λ i. is_some (cell_at labels i)) (places s))
-few_labelled s now labels fa extent n marks full r flood caused =
-    marks_few s marks (λ i. is_some (cell_at labels i))
-    (λ i m. let some : IsSome (cell_at now i) = elim (caused i m) as (λ _. IsSome (cell_at now i)) [ inl h ↦ absurd (both_ways (is_marked fa.marks i) (ap (λ (f : FloodState). is_marked f.marks i) flood ∙ no_marks n i) h) | inr t ↦ t ] in
-    let l : i < cells_in s = within i some in
-    (l, label_some s now i (cell_at labels i) (cell_at now i) refl some (r.each i l)))
-  where
-    within : (i : ℕ) → IsSome (cell_at now i) → i < cells_in s
-    within i some = elim (cases_lt i (length now)) as (λ _. i < cells_in s) [
-      | inl l ↦ omega (arith, l, full)
-      | inr l ↦ absurd (both_ways (is_some (cell_at now i)) (ap is_some (get_or_past now i None l)) some)
-    ]

@@ -1,10 +1,9 @@
 -- What is known of each copied tile.
 use Rattle.std.proofs.Common.{◌≡◌, ◌≢◌, ◌⊎◌, inl, inr, ℕ, zero, suc, ◌+◌, ◌<◌, ◌≤◌, Bool, true, false, cond, List, [], ◌∷◌, length, get_or, take, Option, Some, None, IsSome, refl, sym, ◌∙◌, ap, subst, arith, ℤ, pos}
-use Rattle.std.specs.Prelude.{filter, slice_set}
-use Rattle.std.specs.List.{range_with_len}
-use Rattle.std.proofs.lemmas.Bool.{both_ways, false_from_ne_true}
+use Rattle.std.specs.Prelude.{filter}
+use Rattle.std.proofs.lemmas.Bool.{both_ways}
 use Rattle.std.proofs.lemmas.List.Sums.{sum_by-cons}
-use Rattle.map_nums.specs.Grids.{Size, IsSize, Cells, cell_at, cells_in, places}
+use Rattle.map_nums.specs.Grids.{Size, IsSize, Cells, cell_at, cells_in}
 use Rattle.map_nums.specs.Tiles.{tiles}
 use Rattle.map_defs.specs.Differences.{differs, tile_has}
 use Rattle.map_defs.specs.Regions.{IsLabelOf, IsRegionLabel, AreRegions}

@@ -1,5 +1,5 @@
 -- A region is reached place by place, each once, and has its label when no place of it has a further neighbour.
-use Rattle.std.proofs.Common.{◌≡◌, ◌≢◌, ◌⊎◌, inl, inr, ℕ, zero, suc, ◌+◌, ◌-◌, ◌<◌, ◌≤◌, Bool, true, false, List, [], ◌∷◌, ◌++◌, length, get_or, Option, Some, None, refl, sym, ◌∙◌, ap, subst, arith, ℤ, pos, cond}
+use Rattle.std.proofs.Common.{◌≡◌, ◌⊎◌, inl, inr, ℕ, suc, ◌+◌, ◌<◌, ◌≤◌, Bool, true, false, List, [], ◌∷◌, ◌++◌, length, get_or, Option, Some, None, refl, sym, ◌∙◌, subst, arith, ℤ, pos, cond}
 use Rattle.std.specs.Prelude.{slice_set}
 use Rattle.std.proofs.lemmas.Bool.{cases_lt, cases_eq, cases_Bool, cond_both, false_from_ne_true, both_ways}
 use Rattle.std.proofs.lemmas.List.{get_or_append_left, get_or_push, length_push, length-set, get_or-set_same, get_or-set_other}
@@ -8,8 +8,8 @@ use Rattle.map_nums.specs.Grids.{Size, Cells, cell_at, cells_in, row_of, column_
 use Rattle.map_defs.specs.Cells.{same_cell}
 use Rattle.map_defs.specs.Regions.{Has, WalkTo, IsFirstJoined, IsRegionLabel, IsLabelOf}
 use Rattle.map_defs.proofs.RegionCells.{same_is, same_so}
-use Rattle.region_labels.specs.Flood.{IsJoined, is_marked, one_if, marks_in, Holds, FloodState, reached, IsFound, IsFlooding, IsRound, AreWhole, IsGrown, IsFlooded}
-use Rattle.region_labels.proofs.Walks.{IsNear, near_so, near_sym, joined_self, joined_more, joined_then, joined_back, short, ends}
+use Rattle.region_labels.specs.Flood.{is_marked, one_if, marks_in, Holds, FloodState, reached, IsFound, IsFlooding, IsRound, AreWhole, IsGrown, IsFlooded}
+use Rattle.region_labels.proofs.Walks.{near_so, near_sym, joined_self, joined_more, joined_then, joined_back, short, ends}
 
 -- ---- marks
 
@@ -89,7 +89,7 @@ module _ (s : Size) (cells : Cells) (z : ℤ) (root : ℕ) (before : List Bool) 
 
 -- ---- what a step leaves
 
-holds_kept : (old new : List ℕ) (i : ℕ) → length old ≤ length new → ((k : ℕ) → k < length old → get_or new k 0 ≡ get_or old k 0) → Holds old i → Holds new i
+pub holds_kept : (old new : List ℕ) (i : ℕ) → length old ≤ length new → ((k : ℕ) → k < length old → get_or new k 0 ≡ get_or old k 0) → Holds old i → Holds new i
 holds_kept old new i n same h = (h.0, omega (arith, h.1), same h.0 h.1 ∙ h.2)
 
 pub grown_then : (s : Size) (cells : Cells) (value : Option ℤ) (from : ℕ) (a b c : FloodState) → IsGrown s cells value from a b → IsGrown s cells value from b c → IsGrown s cells value from a c

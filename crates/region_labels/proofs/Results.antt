@@ -1,17 +1,17 @@
 -- After all steps the labels are the regions.
-use Rattle.std.proofs.Common.{◌≡◌, ◌⊎◌, inl, inr, ℕ, zero, suc, ◌+◌, ◌<◌, ◌≤◌, Bool, true, false, List, [], ◌∷◌, length, get_or, take, map, replicate, Option, Some, None, IsSome, refl, sym, ◌∙◌, ap, subst, arith, ℤ}
-use Rattle.std.proofs.lemmas.Bool.{cases_lt, cases_Bool, cases_eq, both_ways, false_from_ne_true}
+use Rattle.std.proofs.Common.{◌≡◌, ◌⊎◌, inl, inr, ℕ, zero, suc, ◌+◌, ◌<◌, ◌≤◌, Bool, false, List, length, get_or, take, map, replicate, Option, Some, None, IsSome, refl, sym, ◌∙◌, ap, subst, arith, ℤ}
+use Rattle.std.proofs.lemmas.Bool.{cases_lt, cases_Bool, cases_eq, both_ways}
 use Rattle.std.proofs.lemmas.List.{get_or-replicate, length-replicate, get_or_past, ext_get_or}
 use Rattle.std.proofs.lemmas.List.FromFn.{get_or-map-range_with_len, length-map-range_with_len}
-use Rattle.map_nums.specs.Grids.{Size, Cells, cell_at, cells_in, places, is_neighbour}
+use Rattle.map_nums.specs.Grids.{Size, Cells, cell_at, cells_in, places}
 use Rattle.map_defs.specs.Cells.{same_cell}
-use Rattle.map_defs.specs.Regions.{Has, IsLabelOf, IsRegionLabel, AreRegions}
+use Rattle.map_defs.specs.Regions.{IsLabelOf, IsRegionLabel, AreRegions}
 use Rattle.map_defs.proofs.RegionCells.{same_is, same_so}
 use Rattle.layer_tiles.specs.Tiles.{Block}
 use Rattle.layer_tiles.specs.Patches.{patched}
-use Rattle.tile_work.specs.Working.{WorkState, IsSameWork, IsPatchTo, base_of, begun_cells}
-use Rattle.region_labels.specs.Flood.{is_marked, AreWhole, Holds, FloodState}
-use Rattle.region_labels.specs.Repairs.{IsLabelling, IsLabelStep, IsHandled, AreHandledRound, IsClearedAt, IsCleared, HoldsChanged}
+use Rattle.tile_work.specs.Working.{base_of, begun_cells}
+use Rattle.region_labels.specs.Flood.{is_marked, Holds}
+use Rattle.region_labels.specs.Repairs.{IsLabelling, IsHandled, AreHandledRound, IsClearedAt, IsCleared, HoldsChanged}
 use Rattle.region_labels.proofs.Repairs.{label_kept}
 use Rattle.region_labels.proofs.Labelling.{take_holds, holds_take, take_last}
 
@@ -126,22 +126,5 @@ begun_same s cells n =
     ext_get_or None (map (cell_at cells) (places s)) cells (length-map-range_with_len (cell_at cells) 0 (cells_in s) ∙ sym n)
     (λ i l. let m : i < cells_in s = omega (arith, l, length-map-range_with_len (cell_at cells) 0 (cells_in s)) in get_or-map-range_with_len (cell_at cells) 0 (cells_in s) i i None m (omega arith))
 
-pub begun_null : (s : Size) (i : ℕ) → i < cells_in s → cell_at (begun_cells s None) i ≡ None
-unfolding begun_cells
-begun_null s i l = get_or-map-range_with_len (cell_at []) 0 (cells_in s) i i None l (omega arith)
-
-pub begun_count : (s : Size) (before : Option (List (Option ℤ))) → length (begun_cells s before) ≡ cells_in s
-unfolding begun_cells
-begun_count s before = length-map-range_with_len (cell_at (base_of before)) 0 (cells_in s)
-
 pub made : (s z : Size) (before : Option (List (Option ℤ))) (base cells : Cells) (tiles : List (ℕ × Block)) → z ≡ s → base_of before ≡ base → patched z (base_of before) tiles ≡ cells → patched s base tiles ≡ cells
 made s z before base cells tiles e f m = ap (λ (x : Size). patched x base tiles) (sym e) ∙ ap (λ (xs : Cells). patched z xs tiles) (sym f) ∙ m
-
--- the patch of a first labelling
-pub first_made : (s extent : Size) (now : Cells) (la lb : WorkState) (fa fb : FloodState) (tiles : List (ℕ × Block)) (n : ℕ) → extent ≡ s → la.size ≡ extent → la.before ≡ None → la.cells ≡ begun_cells extent None → fa ≡ record { size = extent; marks = replicate n false; found = [] } → n ≡ cells_in extent → IsSameWork la lb → IsLabelStep s now la.cells fa.marks lb.cells fb.marks → ((i : ℕ) → i < cells_in s → IsHandled now fb.marks i) → IsPatchTo lb.size lb.before lb.cells tiles → AreRegions s now (patched s [] tiles)
-first_made s extent now la lb fa fb tiles n e size before cells flood count same step handled patch =
-    let c : la.cells ≡ begun_cells s None = cells ∙ ap (λ (z : Size). begun_cells z None) e in
-    let begun : IsLabelling s now la.cells la.cells fa.marks = subst (λ (f : FloodState). IsLabelling s now la.cells la.cells f.marks) (sym flood) (labelling_begun s now la.cells n (count ∙ ap cells_in e)) in
-    let regions : AreRegions s now lb.cells =
-    first_now s now la.cells lb.cells fb.marks (λ i l. ap (λ (xs : Cells). cell_at xs i) c ∙ begun_null s i l) (step.keeps la.cells begun) handled (same.count ∙ ap length c ∙ begun_count s None) in
-    subst (AreRegions s now) (sym (made s lb.size lb.before [] lb.cells tiles (same.size ∙ size ∙ e) (ap base_of (same.before ∙ before)) patch.makes)) regions

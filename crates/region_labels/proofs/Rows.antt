@@ -1,12 +1,12 @@
 -- Places by row and column, and what is reached round one of them.
-use Rattle.std.proofs.Common.{◌≡◌, ◌⊎◌, inl, inr, ℕ, suc, ◌+◌, ◌-◌, ◌*◌, ◌/◌, ◌%◌, ◌<◌, ◌≤◌, Bool, true, false, List, [], ◌∷◌, ◌++◌, length, get_or, min, Option, Some, None, IsSome, refl, sym, ◌∙◌, ap, subst, arith, ℤ}
+use Rattle.std.proofs.Common.{◌≡◌, inl, inr, ℕ, ◌+◌, ◌-◌, ◌*◌, ◌/◌, ◌%◌, ◌<◌, ◌≤◌, Bool, true, false, List, [], ◌∷◌, ◌++◌, length, get_or, min, Option, Some, None, IsSome, refl, sym, ◌∙◌, ap, subst, arith, ℤ}
 use Rattle.std.specs.Prelude.{slice_set}
 use Rattle.std.proofs.lemmas.Bool.{cases_lt, cases_eq, both_ways}
 use Rattle.std.proofs.lemmas.List.Sums.{sum_by-cons}
 use Rattle.std.proofs.lemmas.Nat.{div-mul-add, mod-mul-add, mul-add-lt, div-add-mod', div_below, mod_below}
 use Rattle.map_nums.specs.Grids.{Size, IsSize, Cells, cell_at, cells_in, row_of, column_of, gap, is_neighbour}
 use Rattle.map_defs.specs.Regions.{Has}
-use Rattle.region_labels.specs.Flood.{is_marked, one_if, marks_in, Holds, FloodState, reached, IsFlooding, IsFlooded, IsRound, IsRoundTo, IsGrown, IsRowMarked, IsRowPart, IsAllMarked, IsAllPart, IsAfter}
+use Rattle.region_labels.specs.Flood.{is_marked, one_if, marks_in, FloodState, reached, IsFlooding, IsFlooded, IsRoundTo, IsGrown, IsRowPart, IsAllMarked, IsAfter}
 use Rattle.region_labels.proofs.Walks.{IsNear, near_is, near_so}
 use Rattle.region_labels.proofs.Flooding.{grown_then, grown_reached, reached_marked, flood_root}
 
@@ -129,3 +129,7 @@ region_done s cells z root head before f h round l = record { flooding = h; roun
 -- a row next to row x comes before the end of the rows round it
 pub in_round : (x y n h r : ℕ) → h ≡ min (x + 2) n → h ≤ r → gap x y ≤ 1 → y < n → y < r
 in_round x y n h r e l g m = omega arith
+
+-- fewer places are left
+pub less : (n h k f : ℕ) → 0 < k → h < f → f ≤ n → n - (h + k) < n - h
+less n h k f p l m = omega arith

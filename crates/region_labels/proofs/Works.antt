@@ -1,25 +1,25 @@
 -- The work of a repair.
-use Rattle.std.proofs.Common.{◌≡◌, ◌⊎◌, inl, inr, ℕ, ◌+◌, ◌<◌, Bool, true, false, List, [], length, get_or, replicate, Option, Some, refl, sym, ◌∙◌, ap, subst, arith, ℤ, None, IsSome, ◌≤◌}
-use Rattle.std.specs.Prelude.{filter, is_some, ◌==◌}
+use Rattle.std.proofs.Common.{◌≡◌, inl, inr, ℕ, ◌<◌, Bool, true, false, List, [], length, get_or, replicate, Some, refl, sym, ◌∙◌, ap, subst, arith, ◌≤◌}
+use Rattle.std.specs.Prelude.{filter, ◌==◌}
 use Rattle.std.specs.List.{All}
 use Rattle.std.proofs.lemmas.Bool.{both_ways, eqb-true}
 use Rattle.std.proofs.lemmas.Bool.Decides.{Decides-eqb}
-use Rattle.std.proofs.lemmas.List.{length-replicate, get_or_default}
+use Rattle.std.proofs.lemmas.List.{get_or_default}
 use Rattle.std.proofs.lemmas.List.Elements.{All-from_get_or}
 use Rattle.std.proofs.lemmas.Map.Made.{IsDistinct-from_AllPairs}
 use Rattle.std.proofs.lemmas.Map.Steps.{length-le_from_distinct_below}
 use Rattle.changed_cells.specs.Changed.{AreChanged}
-use Rattle.map_nums.specs.Grids.{Size, Cells, cell_at, cells_in, places}
-use Rattle.map_defs.specs.Regions.{AreRegions, IsRegionLabel, IsLabelOf}
-use Rattle.map_defs.specs.Work.{is_touched, first_work}
+use Rattle.map_nums.specs.Grids.{Size, Cells, cells_in, places}
+use Rattle.map_defs.specs.Regions.{AreRegions}
+use Rattle.map_defs.specs.Work.{is_touched}
 use Rattle.layer_tiles.specs.Tiles.{Block}
 use Rattle.layer_tiles.specs.Patches.{patched}
 use Rattle.tile_work.specs.Working.{WorkState, IsSameWork, IsPatchTo, base_of, begun_cells}
 use Rattle.region_labels.specs.Flood.{is_marked, marks_in, FloodState}
-use Rattle.region_labels.specs.Repairs.{IsLabelling, IsLabelStep, IsHandled, AreHandledRound, IsCleared, HoldsChanged}
+use Rattle.region_labels.specs.Repairs.{IsLabelling, IsLabelStep, AreHandledRound, IsCleared, HoldsChanged}
 use Rattle.region_labels.specs.Touched.{IsTouchedBy, IsMarkedFor}
-use Rattle.region_labels.proofs.Results.{no_marks, labelling_begun, begun_same, regions_now, made, first_made}
-use Rattle.region_labels.proofs.Touched.{work_counted, marks_filter, any_found}
+use Rattle.region_labels.proofs.Results.{no_marks, labelling_begun, begun_same, regions_now, made}
+use Rattle.region_labels.proofs.Touched.{work_counted, any_found}
 
 -- what a repair leaves
 pub record IsRepairedBy (s : Size) (now old : Cells) (changed : List ℕ) (marks : List Bool) (tiles : List (ℕ × Block)) : Type 0 where
@@ -43,37 +43,10 @@ repaired_by s extent was now old changed la lb lc fa fb tiles n right all e size
           ∙ ap (λ (xs : Cells). length (filter (is_touched s xs changed) (places s))) (sym is);
     }
 
--- ---- the first labelling
-
 pub same_test : (a b : Bool) → (a ≡ true → b ≡ true) → (b ≡ true → a ≡ true) → a ≡ b
 same_test true b f h = sym (f refl)
 same_test false true f h = h refl
 same_test false false f h = refl
-
-pub label_some : (s : Size) (now : Cells) (i : ℕ) (label : Option ℤ) → (c : Option ℤ) → cell_at now i ≡ c → IsSome c → IsRegionLabel s now i label → is_some label ≡ true
-label_some s now i label None e some r = absurd (both_ways false refl some)
-label_some s now i label (Some z) e some r = let P : Option ℤ → Type 0 = λ c. IsLabelOf s now i c label in let r' : IsLabelOf s now i (Some z) label = subst P e r in ap is_some r'.1
-
-some_label : (s : Size) (now : Cells) (i : ℕ) (label : Option ℤ) → (c : Option ℤ) → cell_at now i ≡ c → IsRegionLabel s now i label → is_some label ≡ true → IsSome c
-some_label s now i label None e r some = let P : Option ℤ → Type 0 = λ c. IsLabelOf s now i c label in let r' : label ≡ None = subst P e r in absurd (both_ways false refl (ap is_some (sym r') ∙ some))
-some_label s now i label (Some z) e r some = refl
-
-pub record IsFirstBy (s : Size) (now : Cells) (marks : List Bool) (tiles : List (ℕ × Block)) : Type 0 where
-  pub regions : AreRegions s now (patched s [] tiles)
-  pub work : cells_in s + marks_in marks ≡ first_work s (patched s [] tiles)
-
-pub first_by : (s extent : Size) (now : Cells) (la lb : WorkState) (fa fb : FloodState) (tiles : List (ℕ × Block)) (n : ℕ) → extent ≡ s → la.size ≡ extent → la.before ≡ None → la.cells ≡ begun_cells extent None → fa ≡ record { size = extent; marks = replicate n false; found = [] } → n ≡ cells_in extent → IsSameWork la lb → IsLabelStep s now la.cells fa.marks lb.cells fb.marks → ((i : ℕ) → i < cells_in s → IsHandled now fb.marks i) → IsMarkedFor (λ i. IsSome (cell_at now i)) fa.marks fb.marks → IsPatchTo lb.size lb.before lb.cells tiles → IsFirstBy s now fb.marks tiles
-first_by s extent now la lb fa fb tiles n e size before cells flood count same step handled caused patch =
-    let regions = first_made s extent now la lb fa fb tiles n e size before cells flood count same step handled patch in
-    let labels = patched s [] tiles in
-    let none : (i : ℕ) → is_marked fa.marks i ≡ false = λ i. ap (λ (f : FloodState). is_marked f.marks i) flood ∙ no_marks n i in
-    let full : length fb.marks ≡ cells_in s = step.size ∙ ap (λ (f : FloodState). length f.marks) flood ∙ length-replicate n false ∙ count ∙ ap cells_in e in
-    let work : marks_in fb.marks ≡ length (filter (λ i. is_some (cell_at labels i)) (places s)) =
-    marks_filter s (λ i. is_some (cell_at labels i)) fb.marks full
-    (λ i l. same_test (is_marked fb.marks i) (is_some (cell_at labels i))
-    (λ m. label_some s now i (cell_at labels i) (cell_at now i) refl (elim (caused i m) as (λ _. IsSome (cell_at now i)) [ inl h ↦ absurd (both_ways (is_marked fa.marks i) (none i) h) | inr t ↦ t ]) (regions.each i l))
-    (λ m. handled i l (some_label s now i (cell_at labels i) (cell_at now i) refl (regions.each i l) m))) in
-    record { regions = regions; work = ap (λ k. cells_in s + k) work }
 
 -- ---- a list of changed places
 

@@ -1,7 +1,7 @@
 -- Copied tiles hold places whose labels change.
-use Rattle.std.specs.Prelude.{◌≡◌, ◌≢◌, ◌⊎◌, ℕ, ◌<◌, ℤ, Bool, true, false, List, length, Option, None, slice_index_or}
+use Rattle.std.specs.Prelude.{◌≡◌, ◌≢◌, ◌⊎◌, ℕ, ◌<◌, ℤ, Bool, true, List, Option, None}
 use Rattle.map_nums.specs.Grids.{Size, Cells, cell_at, cells_in}
-use Rattle.map_defs.specs.Regions.{IsRegionLabel, AreRegions}
+use Rattle.map_defs.specs.Regions.{IsRegionLabel}
 use Rattle.layer_tiles.specs.Tiles.{tile_of}
 use Rattle.region_labels.specs.Flood.{is_marked, Holds}
 use Rattle.region_labels.specs.Repairs.{IsLabelling}

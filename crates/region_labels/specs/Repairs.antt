@@ -7,7 +7,7 @@ use Rattle.layer_tiles.specs.Tallies.{TallyState}
 use Rattle.layer_tiles.specs.Layers.{LayerState}
 use Rattle.layer_tiles.specs.Changes.{ChangeState, cells_before}
 use Rattle.map_defs.specs.Regions.{IsRegionLabel, AreRegions}
-use Rattle.region_labels.specs.Flood.{is_marked, marks_in, AreWhole, FloodState, Holds}
+use Rattle.region_labels.specs.Flood.{is_marked, marks_in, AreWhole, Holds}
 
 -- the labels of the marked places are right, and each other place has what it began with
 pub record IsLabelling (s : Size) (now begun labels : Cells) (marks : List Bool) : Type 0 where

@@ -1,19 +1,19 @@
 //! A region that is reached place by place.
-ghost use Rattle.std.specs.Prelude.{◌≡◌, ◌<◌, ◌≤◌, ◌+◌, ◌-◌, ◌*◌, ◌^◌, ◌++◌, ◌∷◌, [], length, replicate, false, true, slice_set, slice_index_or, IfOk, OnOk, OnErr, IsSome, Some, ℕ, ℤ};
-ghost use Rattle.map_nums.specs.Grids.{IsSize, cells_in, cell_at, row_of, column_of, gap};
+ghost use Rattle.std.specs.Prelude.{◌≡◌, ◌<◌, ◌≤◌, ◌+◌, ◌-◌, ◌*◌, ◌^◌, ◌++◌, ◌∷◌, [], length, replicate, false, true, slice_set, IfOk, OnOk, OnErr, IsSome, Some, ℕ, ℤ};
+ghost use Rattle.map_nums.specs.Grids.{cells_in, cell_at, row_of, column_of, gap};
 ghost use Rattle.layer_tiles.specs.Tallies.{RisesBy};
 ghost use Rattle.region_labels.specs.Flood.{is_marked, marks_in, reached, IsGrown, IsRowMarked, IsAllMarked, IsFurther, IsAfter, IsFlooded, IsJoined};
 ghost use Rattle.region_labels.specs.Touched.{IsMarkedFor};
 
-use crate::marks::Marks;
 use layer_tiles::{Cell, Change, Extent, NoMemory, Tally};
 use std::alloc::Global;
 use std::marker::Model;
+use tile_work::PlaceSet;
 
 /// The places that were reached so far, and those of the region in hand in the order in which they were reached.
 #[derive(Drop)]
 pub struct Flood {
-    marks: Marks,
+    marks: PlaceSet,
     found: Vec<u32>,
     /// How many places were reached.
     count: u64,
@@ -33,23 +33,12 @@ impl Model for Flood {
 }
 
 impl Flood {
-    /// No place was reached, and few are to be.
+    /// No place was reached.
     pub fn new(alloc: Global, extent: Extent) -> Result<Flood, NoMemory>
         ensures { IfOk result (λ flood. flood ≡ record { size = extent; marks = replicate (cells_in extent) false; found = [] }) }
     {
         Ok(Flood {
-            marks: Marks::sparse(alloc, extent)?,
-            found: Vec::new(alloc),
-            count: 0,
-        })
-    }
-
-    /// No place was reached, and most are to be.
-    pub fn dense(alloc: Global, extent: Extent) -> Result<Flood, NoMemory>
-        ensures { IfOk result (λ flood. flood ≡ record { size = extent; marks = replicate (cells_in extent) false; found = [] }) }
-    {
-        Ok(Flood {
-            marks: Marks::dense(alloc, extent)?,
+            marks: PlaceSet::new(alloc, extent)?,
             found: Vec::new(alloc),
             count: 0,
         })

@@ -27,7 +27,7 @@ fn least(found: &[u32]) -> u32
 }
 
 /// The label of a region that begins at a place.
-fn label_of(first: u32) -> Cell
+pub fn label_of(first: u32) -> Cell
     requires { first < 1500000 }
     ensures { result ≡ Some (pos (suc first)) }
 {

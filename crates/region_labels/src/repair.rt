@@ -1,13 +1,13 @@
 //! Region labels put right after a change.
-ghost use Rattle.std.specs.Prelude.{◌≡◌, ◌<◌, ◌≤◌, ◌+◌, ◌-◌, ◌*◌, ◌∷◌, length, OnOk, OnErr, IfOk, IfSome, IsSome, Some, None, false, replicate, ℕ, [], slice_index_or, filter, min};
+ghost use Rattle.std.specs.Prelude.{◌≡◌, ◌<◌, ◌≤◌, ◌+◌, ◌-◌, ◌*◌, ◌∷◌, length, OnOk, OnErr, IfOk, Some, None, ℕ, [], slice_index_or, filter, min};
 ghost use Rattle.std.specs.List.{All};
 ghost use Rattle.std.specs.Option.{option_copied};
-ghost use Rattle.map_nums.specs.Grids.{IsSize, Cells, cells_in, cell_at, places};
+ghost use Rattle.map_nums.specs.Grids.{Cells, cells_in, places};
 ghost use Rattle.map_defs.specs.Regions.{AreRegions};
 ghost use Rattle.layer_tiles.specs.Tallies.{KeepsParts, RisesBy};
 ghost use Rattle.layer_tiles.specs.Changes.{cells_before};
 ghost use Rattle.layer_tiles.specs.Patches.{patched, HoldsAll};
-ghost use Rattle.tile_work.specs.Working.{IsSameWork, IsPatchTo, IsOld, before_of, base_of, copies};
+ghost use Rattle.tile_work.specs.Working.{IsSameWork, before_of, base_of, copies};
 ghost use Rattle.map_defs.specs.Damage.{op_damage};
 ghost use Rattle.map_defs.specs.Differences.{differs, tile_has};
 ghost use Rattle.map_nums.specs.Tiles.{tiles};
@@ -16,13 +16,16 @@ ghost use Rattle.layer_tiles.specs.ChangeFacts.{HoldsNoUnchanged};
 ghost use Rattle.map_defs.specs.Work.{is_touched, first_work, op_work};
 ghost use Rattle.map_defs.specs.Ops.{Term, region_op};
 ghost use Rattle.region_labels.specs.Touched.{IsMarkedFor, IsTouchedBy};
-ghost use Rattle.region_labels.specs.Flood.{is_marked, marks_in, Holds};
+ghost use Rattle.region_labels.specs.Flood.{marks_in};
 ghost use Rattle.region_labels.specs.Copies.{IsCopiedAt, IsCopiedWith, CopiesWith};
-ghost use Rattle.region_labels.specs.Repairs.{IsClearedAt, IsCleared, IsLabelStep, IsHandled, AreHandledRound, HoldsChanged, HoldsExactly, IsPickedBy, IsLookedBy, IsBaseFor, IsPatchFor};
+ghost use Rattle.region_labels.specs.Repairs.{IsClearedAt, IsCleared, IsLabelStep, AreHandledRound, HoldsChanged, HoldsExactly, IsPickedBy, IsLookedBy, IsBaseFor, IsPatchFor};
 
+use crate::cuts::patch_of;
+use crate::first::labels_of;
 use crate::floods::Flood;
-use crate::labels::{label_region, label_round};
+use crate::labels::label_round;
 use changed_cells::changed_places;
+use flat_cells::cells_of;
 use layer_tiles::{Cell, Change, Layer, NoMemory, Patch, Tally};
 use std::alloc::Global;
 use tile_work::Working;
@@ -102,33 +105,6 @@ fn label_rounds<M: Tally>(
     Ok(())
 }
 
-/// Labels all regions.
-fn label_all<M: Tally>(
-    of: &Change<'_>,
-    flood: &mut Flood,
-    labels: &mut Working<'_>,
-    tally: &mut M,
-) -> Result<(), NoMemory>
-    requires extent { flood.old.size ≡ of.now.size }
-    requires marks { length flood.old.marks ≡ cells_in of.now.size }
-    requires size { labels.old.size ≡ of.now.size }
-    ensures same { IsSameWork labels.old labels.new }
-    ensures extent { flood.new.size ≡ flood.old.size }
-    ensures ok { OnOk result (IsLabelStep of.now.size of.now.cells labels.old.cells flood.old.marks labels.new.cells flood.new.marks) }
-    ensures handled { OnOk result ((i : ℕ) → i < cells_in of.now.size → IsHandled of.now.cells flood.new.marks i) }
-    ensures caused { IsMarkedFor (λ i. IsSome (cell_at of.now.cells i)) flood.old.marks flood.new.marks }
-    ensures grows { marks_in flood.old.marks ≤ marks_in flood.new.marks }
-    ensures copied { CopiesWith of.now.size of.now.cells labels.old.cells flood.old.marks labels.old.copied labels.new.copied }
-    ensures more { copies labels.old.copied ≤ copies labels.new.copied }
-    ensures picks { OnOk result (RisesBy (copies labels.new.copied - copies labels.old.copied) (cells_in of.now.size + 10 * (marks_in flood.new.marks - marks_in flood.old.marks)) (M.counts tally.old) (M.counts tally.new)) }
-    ensures wanted { OnErr result (RisesBy (copies labels.new.copied - copies labels.old.copied + 1) (cells_in of.now.size + 10 * (marks_in flood.new.marks - marks_in flood.old.marks)) (M.counts tally.old) (M.counts tally.new)) }
-{
-    for at in 0..of.extent().cells() {
-        label_region(of, at, flood, labels, tally)?;
-    }
-    Ok(())
-}
-
 /// A patch, and the work that it took.
 #[derive(Drop)]
 pub struct Repair {
@@ -147,12 +123,10 @@ fn first_labels<M: Tally>(alloc: Global, of: &Change<'_>, tally: &mut M) -> Resu
     ensures parts { KeepsParts (M.counts tally.old) (M.counts tally.new) }
 {
     let extent = of.extent();
-    let count = extent.cells();
-    let mut labels = Working::new(alloc, extent, None)?;
-    let mut flood = Flood::dense(alloc, extent)?;
-    label_all(of, &mut flood, &mut labels, tally)?;
-    let worked = count as u64 + flood.count();
-    let patch = labels.into_patch(tally)?;
+    let cells = cells_of(alloc, of, tally)?;
+    let (labels, count) = labels_of(alloc, extent, &cells)?;
+    let worked = extent.cells() as u64 + count;
+    let patch = patch_of(alloc, extent, &labels)?;
     Ok(Repair { patch, worked })
 }
 

@@ -1,5 +1,5 @@
-use Rattle.std.proofs.Common.{◌≡◌, ◌+◌, ◌*◌, ◌<◌, ◌≤◌, ℕ, Bool, true, false, refl, sym, ap, ◌∙◌, arith}
-use Rattle.map_nums.specs.Grids.{Size, cells_in}
+use Rattle.std.proofs.Common.{◌≡◌, ◌+◌, ◌*◌, sym, ap, ◌∙◌, arith}
+use Rattle.map_nums.specs.Grids.{Size}
 use Rattle.region_labels.specs.Flood.{is_marked}
 use Rattle.region_labels.proofs.Rows.{IsPlace, place_of}
 use Rattle.region_labels.proofs.floods.reach.Given.{Over}

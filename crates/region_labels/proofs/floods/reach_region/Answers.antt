@@ -1,10 +1,9 @@
-use Rattle.std.proofs.Common.{◌≡◌, ℕ, ◌+◌, ◌-◌, ◌*◌, ◌<◌, ◌≤◌, length, get_or, ℤ, Some, ap, subst, sym, refl, ◌∙◌, arith}
+use Rattle.std.proofs.Common.{◌≡◌, ◌+◌, ◌-◌, ◌*◌, ◌<◌, length, get_or, ℤ, Some, ap, sym, ◌∙◌, arith}
 use Rattle.map_nums.specs.Grids.{cells_in}
-use Rattle.map_defs.specs.Regions.{Has}
 use Rattle.layer_tiles.proofs.Rising.{rises_none, rises_then, rises_within}
-use Rattle.region_labels.specs.Flood.{FloodState, marks_in, Holds, IsFlooding, IsFound}
+use Rattle.region_labels.specs.Flood.{FloodState, marks_in, IsFlooding}
 use Rattle.region_labels.proofs.Causes.{flooding_caused}
-use Rattle.region_labels.proofs.Rows.{few_found, some_value, round_next, region_begun, region_done}
+use Rattle.region_labels.proofs.Rows.{few_found, some_value, less, round_next, region_begun, region_done}
 use Rattle.region_labels.proofs.floods.reach_region.Given.{Over}
 use Rattle.region_labels.proofs.floods.reach_region.Goals as goal
 use Rattle.region_labels.proofs.floods.reach_region.Goals.{After-found-in-loop-head, After-reach_all, In_ok-reach_all}
@@ -36,14 +35,11 @@ reach_all-requires-clause-within g c =
 pub reach_all-requires-clause-marks : goal.reach_all-requires-clause-marks
 reach_all-requires-clause-marks g c = (flooding g (goal.at.reach_all-requires-clause-marks g c).After-found-in-loop-head).2.size
 
-less : (n h f : ℕ) → h < f → f ≤ n → n - (h + 1) < n - h
-less n h f l m = omega arith
-
 pub loop-head-smaller : goal.loop-head-smaller
 loop-head-smaller g c =
     let d = (goal.at.loop-head-smaller g c).After-found-in-loop-head in
     let f = flooding g d in
-    less (cells_in c.args.of.now.size) c.loop-head.head (length c.loop-head.flood.found) (head_lt g d) (few_found c.args.of.now.size c.args.of.now.cells f.0 c.args.root c.args.flood.now.marks c.loop-head.flood f.2)
+    less (cells_in c.args.of.now.size) c.loop-head.head 1 (length c.loop-head.flood.found) (omega arith) (head_lt g d) (few_found c.args.of.now.size c.args.of.now.cells f.0 c.args.root c.args.flood.now.marks c.loop-head.flood f.2)
 
 pub loop-head-preserved : goal.loop-head-preserved
 loop-head-preserved g c =

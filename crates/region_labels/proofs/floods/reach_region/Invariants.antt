@@ -1,4 +1,4 @@
-use Rattle.std.proofs.Common.{◌≡◌, ℕ, ◌-◌, ◌*◌, ◌≤◌, length, ℤ, Some}
+use Rattle.std.proofs.Common.{◌≡◌, ◌-◌, ◌*◌, ◌≤◌, length, ℤ, Some}
 use Rattle.map_nums.specs.Grids.{cells_in}
 use Rattle.layer_tiles.specs.Tallies.{RisesBy}
 use Rattle.region_labels.specs.Flood.{IsFlooding, IsRoundTo}

@@ -1,6 +1,6 @@
-use Rattle.std.proofs.Common.{◌≡◌, ◌⊎◌, inl, inr, ℕ, ◌+◌, ◌-◌, ◌*◌, ◌<◌, ◌≤◌, Bool, true, min, ap, arith, length, sym, ◌∙◌, refl}
+use Rattle.std.proofs.Common.{◌≡◌, ◌⊎◌, inl, inr, ℕ, ◌+◌, ◌-◌, ◌*◌, ◌<◌, ◌≤◌, true, min, ap, arith, ◌∙◌, refl}
 use Rattle.std.proofs.lemmas.Bool.{cases_lt}
-use Rattle.map_nums.specs.Grids.{Size, cells_in, column_of, row_of, gap, is_neighbour}
+use Rattle.map_nums.specs.Grids.{Size, column_of, row_of, gap, is_neighbour}
 use Rattle.layer_tiles.proofs.Rising.{rises_then, rises_within}
 use Rattle.tile_work.specs.Working.{copies}
 use Rattle.region_labels.specs.Flood.{is_marked, marks_in}

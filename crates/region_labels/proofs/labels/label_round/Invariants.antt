@@ -1,4 +1,4 @@
-use Rattle.std.proofs.Common.{◌≡◌, ℕ, ◌+◌, ◌-◌, ◌*◌, ◌≤◌}
+use Rattle.std.proofs.Common.{◌≡◌, ◌+◌, ◌-◌, ◌*◌, ◌≤◌}
 use Rattle.layer_tiles.specs.Tallies.{RisesBy}
 use Rattle.tile_work.specs.Working.{IsSameWork, copies}
 use Rattle.region_labels.specs.Flood.{marks_in}

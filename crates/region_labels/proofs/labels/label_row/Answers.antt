@@ -1,5 +1,5 @@
-use Rattle.std.proofs.Common.{◌≡◌, ℕ, ◌+◌, ◌-◌, ◌*◌, ◌<◌, ◌≤◌, min, ap, arith, length, sym, ◌∙◌, refl, ℤ, subst}
-use Rattle.map_nums.specs.Grids.{cells_in, column_of, row_of, gap}
+use Rattle.std.proofs.Common.{◌≡◌, ℕ, ◌+◌, ◌-◌, ◌*◌, ◌<◌, ◌≤◌, min, ap, arith, ◌∙◌, ℤ, subst}
+use Rattle.map_nums.specs.Grids.{column_of, gap}
 use Rattle.layer_tiles.proofs.Rising.{rises_then, rises_within}
 use Rattle.tile_work.specs.Working.{copies}
 use Rattle.region_labels.specs.Flood.{marks_in, IsJoined}

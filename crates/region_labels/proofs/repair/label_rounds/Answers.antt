@@ -1,4 +1,4 @@
-use Rattle.std.proofs.Common.{◌≡◌, ◌+◌, ◌-◌, ◌*◌, ◌<◌, ◌≤◌, ℕ, length, get_or, inl, inr, arith, subst, sym, ◌∙◌}
+use Rattle.std.proofs.Common.{◌≡◌, ◌+◌, ◌-◌, ◌*◌, ℕ, length, get_or, inl, inr, arith, subst, sym, ◌∙◌}
 use Rattle.std.proofs.lemmas.Bool.{cases_lt}
 use Rattle.layer_tiles.proofs.Rising.{rises_then, rises_within}
 use Rattle.tile_work.specs.Working.{copies}

@@ -1,6 +1,6 @@
-use Rattle.std.proofs.Common.{◌≡◌, ℕ, ◌+◌, ◌-◌, ◌*◌, ◌<◌, ◌≤◌, min, List, [], length, false, replicate, refl, sym, ap, subst, ◌∙◌, arith}
+use Rattle.std.proofs.Common.{◌≡◌, ◌+◌, ◌-◌, ◌*◌, ◌≤◌, min, length, false, refl, ap, ◌∙◌, arith}
 use Rattle.std.proofs.lemmas.List.{length-replicate}
-use Rattle.map_nums.specs.Grids.{Size, cells_in}
+use Rattle.map_nums.specs.Grids.{cells_in}
 use Rattle.layer_tiles.specs.Changes.{cells_before}
 use Rattle.region_labels.specs.Flood.{FloodState, marks_in}
 use Rattle.region_labels.proofs.Rows.{marks_most}

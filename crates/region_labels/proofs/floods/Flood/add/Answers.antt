@@ -1,8 +1,4 @@
-use Rattle.std.proofs.Common.{◌≡◌, ◌+◌, ◌<◌, ◌≤◌, Bool, true, false, length, get_or, arith, sym, ap, subst, ◌∙◌}
-use Rattle.std.specs.Prelude.{slice_set}
-use Rattle.std.proofs.lemmas.List.{length-set}
-use Rattle.region_labels.specs.Flood.{FloodState, is_marked, marks_in}
-use Rattle.region_labels.proofs.Flooding.{marks_set}
+use Rattle.std.proofs.Common.{arith}
 use Rattle.region_labels.proofs.Rows.{marks_most}
 use Rattle.region_labels.proofs.floods.Flood.add.Goals as goal
 
