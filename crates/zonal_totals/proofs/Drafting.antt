@@ -1,5 +1,5 @@
 -- The changes of an edit, tile by tile.
-use Rattle.std.proofs.Common.{◌≡◌, ℕ, zero, suc, ◌+◌, ◌*◌, ◌/◌, ◌<◌, ◌≤◌, replicate, Result, Ok, Err, OnOk, Option, Some, None, Contains, refl, sym, ap, subst, arith, ℤ, pos}
+use Rattle.std.proofs.Common.{◌≡◌, ℕ, ◌+◌, ◌*◌, ◌/◌, ◌<◌, ◌≤◌, Result, Ok, Err, OnOk, Option, Some, Contains, refl, sym, ap, subst, arith, ℤ, pos}
 use Rattle.std.proofs.lemmas.Int.{ints}
 use Rattle.map_nums.specs.declared.NoMemory.{NoMemory}
 use Rattle.std.proofs.lemmas.Nat.{mul-le}
@@ -8,7 +8,7 @@ use Rattle.layer_tiles.specs.Tiles.{Block, tiles_in, tiles_down, tiles_across, t
 use Rattle.layer_tiles.specs.Changes.{ChangeState, cells_before}
 use Rattle.layer_tiles.proofs.Places.{placed}
 use Rattle.zonal_totals.specs.declared.pairs.Pair.{Pair}
-use Rattle.zonal_totals.specs.Sums.{sum_to, shift, cell_of, place_of}
+use Rattle.zonal_totals.specs.Sums.{sum_to, shift, place_of}
 use Rattle.zonal_totals.specs.Books.{tile_number}
 use Rattle.zonal_totals.specs.Drafts.{value_shift, tile_shift}
 use Rattle.zonal_totals.proofs.Steady.{IsSteady}
@@ -26,7 +26,7 @@ small_tile s t h l = let p = placed s t h l in omega (arith, mul-le (tile_height
 
 module _ (s : Size) (size : IsSize s) (t : ℕ) (h : t < tiles_in s) (p : Pair) where
   -- the sums over a lent tile and over its places
-  pub lent_values : (zb vb z v : Cells) → sum_to (λ k. shift p (cell_of (Some (tile_block s zb t)) k) (cell_of (Some (tile_block s vb t)) k) (cell_at (tile_block s z t).cells k) (cell_at (tile_block s v t).cells k)) (tile_height s t * tile_width s t)
+  pub lent_values : (zb vb z v : Cells) → sum_to (λ k. shift p (cell_at (tile_block s zb t).cells k) (cell_at (tile_block s vb t).cells k) (cell_at (tile_block s z t).cells k) (cell_at (tile_block s v t).cells k)) (tile_height s t * tile_width s t)
       ≡ sum_to (λ k. shift p (cell_at zb (place_of s t k)) (cell_at vb (place_of s t k)) (cell_at z (place_of s t k)) (cell_at v (place_of s t k))) (tile_size s t)
   lent_values zb vb z v =
       sum_same _ _ (tile_size s t) (λ k l. same_shift p _ _ _ _ _ _ _ _ (tile_cell s size zb t k l) (tile_cell s size vb t k l) (tile_cell s size z t k l) (tile_cell s size v t k l))
@@ -34,7 +34,7 @@ module _ (s : Size) (size : IsSize s) (t : ℕ) (h : t < tiles_in s) (p : Pair) 
   number : (k : ℕ) → k < tile_size s t → Some (pos t) ≡ tile_number s (place_of s t k)
   number k l = ap (λ n. Some (pos n)) (sym (place_tile s size t k h l).1)
 
-  pub lent_zones : (zb z : Cells) → sum_to (λ k. shift p (cell_of (Some (tile_block s zb t)) k) (Some (pos t)) (cell_at (tile_block s z t).cells k) (Some (pos t))) (tile_height s t * tile_width s t)
+  pub lent_zones : (zb z : Cells) → sum_to (λ k. shift p (cell_at (tile_block s zb t).cells k) (Some (pos t)) (cell_at (tile_block s z t).cells k) (Some (pos t))) (tile_height s t * tile_width s t)
       ≡ sum_to (λ k. shift p (cell_at zb (place_of s t k)) (tile_number s (place_of s t k)) (cell_at z (place_of s t k)) (tile_number s (place_of s t k))) (tile_size s t)
   lent_zones zb z =
       sum_same _ _ (tile_size s t) (λ k l. same_shift p _ _ _ _ _ _ _ _ (tile_cell s size zb t k l) (number k l) (tile_cell s size z t k l) (number k l))
@@ -42,21 +42,13 @@ module _ (s : Size) (size : IsSize s) (t : ℕ) (h : t < tiles_in s) (p : Pair) 
   -- the same, as the loans say it
   pub values_lent : (values zones : ChangeState) → values.size ≡ s → zones.size ≡ s → (zb vb z v : Block) (height width : ℕ) → zb ≡ tile_block zones.size (cells_before zones) t → vb ≡ tile_block values.size (cells_before values) t → z ≡ tile_block zones.size zones.cells t → v ≡ tile_block values.size values.cells t
       → height ≡ tile_height s t → width ≡ tile_width s t
-      → sum_to (λ k. shift p (cell_of (Some zb) k) (cell_of (Some vb) k) (cell_at z.cells k) (cell_at v.cells k)) (height * width) ≡ sum_to (λ k. shift p (cell_at (cells_before zones) (place_of s t k)) (cell_at (cells_before values) (place_of s t k)) (cell_at zones.cells (place_of s t k)) (cell_at values.cells (place_of s t k))) (tile_size s t)
+      → sum_to (λ k. shift p (cell_at zb.cells k) (cell_at vb.cells k) (cell_at z.cells k) (cell_at v.cells k)) (height * width) ≡ sum_to (λ k. shift p (cell_at (cells_before zones) (place_of s t k)) (cell_at (cells_before values) (place_of s t k)) (cell_at zones.cells (place_of s t k)) (cell_at values.cells (place_of s t k))) (tile_size s t)
   values_lent values zones ev ez zb vb z v height width a b d e f g = rw (a, b, d, e, ev, ez, f, g) (lent_values (cells_before zones) (cells_before values) zones.cells values.cells)
 
   pub zones_lent : (zones : ChangeState) → zones.size ≡ s → (zb z : Block) (key : Option ℤ) (height width : ℕ) → zb ≡ tile_block zones.size (cells_before zones) t → z ≡ tile_block zones.size zones.cells t → key ≡ Some (pos t)
       → height ≡ tile_height s t → width ≡ tile_width s t
-      → sum_to (λ k. shift p (cell_of (Some zb) k) key (cell_at z.cells k) key) (height * width) ≡ sum_to (λ k. shift p (cell_at (cells_before zones) (place_of s t k)) (tile_number s (place_of s t k)) (cell_at zones.cells (place_of s t k)) (tile_number s (place_of s t k))) (tile_size s t)
+      → sum_to (λ k. shift p (cell_at zb.cells k) key (cell_at z.cells k) key) (height * width) ≡ sum_to (λ k. shift p (cell_at (cells_before zones) (place_of s t k)) (tile_number s (place_of s t k)) (cell_at zones.cells (place_of s t k)) (tile_number s (place_of s t k))) (tile_size s t)
   zones_lent zones ez zb z key height width a d n f g = rw (a, d, ez, n, f, g) (lent_zones (cells_before zones) zones.cells)
-
-  pub values_fresh : (values zones : ChangeState) → values.size ≡ s → zones.size ≡ s → (z v : Block) (height width : ℕ) → z ≡ tile_block zones.size zones.cells t → v ≡ tile_block values.size values.cells t → height ≡ tile_height s t → width ≡ tile_width s t
-      → sum_to (λ k. shift p (cell_of None k) (cell_of None k) (cell_at z.cells k) (cell_at v.cells k)) (height * width) ≡ sum_to (λ k. shift p None None (cell_at zones.cells (place_of s t k)) (cell_at values.cells (place_of s t k))) (tile_size s t)
-  values_fresh values zones ev ez z v height width d e f g = rw (d, e, ev, ez, f, g) (sum_same _ _ (tile_size s t) (λ k l. same_shift p None None _ _ None None _ _ refl refl (tile_cell s size zones.cells t k l) (tile_cell s size values.cells t k l)))
-
-  pub zones_fresh : (zones : ChangeState) → zones.size ≡ s → (z : Block) (key : Option ℤ) (height width : ℕ) → z ≡ tile_block zones.size zones.cells t → key ≡ Some (pos t) → height ≡ tile_height s t → width ≡ tile_width s t
-      → sum_to (λ k. shift p (cell_of None k) key (cell_at z.cells k) key) (height * width) ≡ sum_to (λ k. shift p None (tile_number s (place_of s t k)) (cell_at zones.cells (place_of s t k)) (tile_number s (place_of s t k))) (tile_size s t)
-  zones_fresh zones ez z key height width d n f g = rw (d, ez, n, f, g) (sum_same _ _ (tile_size s t) (λ k l. same_shift p None _ _ _ None _ _ _ refl (number k l) (tile_cell s size zones.cells t k l) (number k l)))
 
 no_shift : (p : Pair) (a b c d : Option ℤ) → a ≡ c → b ≡ d → shift p a b c d ≡ pos 0
 no_shift p a b c d e f = rw (e, f) (omega (arith, ints))
@@ -86,11 +78,3 @@ module _ (values zones : ChangeState) (e : values.size ≡ zones.size) (size : I
 pub on_any : {P : Type 0} (r : Result (Unit {0}) NoMemory) → P → OnOk r P
 on_any (Ok x) h = h
 on_any (Err e) h = tt
-
-nulls : (n c : ℕ) → cell_at (replicate n None) c ≡ None
-nulls zero c = refl
-nulls (suc n) zero = refl
-nulls (suc n) (suc c) = nulls n c
-
-pub null_cells : (x : Option ℤ) → x ≡ None → (c : ℕ) → cell_at (replicate 32 x) c ≡ None
-null_cells x e c = subst (λ (y : Option ℤ). cell_at (replicate 32 y) c ≡ None) (sym e) (nulls 32 c)

@@ -20,3 +20,6 @@ pub mod Sectioning
 pub mod Cutting
 pub mod Renewing
 pub mod Turning
+pub mod Ranging
+pub mod Joining
+pub mod Running

@@ -1,5 +1,5 @@
 -- A book after a change.
-use Rattle.std.proofs.Common.{◌≡◌, ℕ, zero, suc, ◌+◌, ◌≤◌, Bool, true, false, cond, ◌&&◌, List, [], ◌∷◌, Option, Some, None, refl, sym, ◌∙◌, ap, subst, arith, ℤ, pos, ◌+ℤ◌, ◌-ℤ◌}
+use Rattle.std.proofs.Common.{◌≡◌, ℕ, zero, suc, ◌+◌, ◌≤◌, Bool, true, false, cond, ◌&&◌, List, ◌∷◌, Option, Some, None, refl, sym, ◌∙◌, ap, subst, arith, ℤ, pos, ◌+ℤ◌, ◌-ℤ◌}
 use Rattle.std.specs.Prelude.{count_by}
 use Rattle.std.specs.List.{range_with_len}
 use Rattle.std.proofs.lemmas.Int.{ints}
@@ -110,14 +110,7 @@ module _ (values zones : ChangeState) (size : IsSize zones.size) (es es' : List 
     tile_counts = revised_counts zones.size size (cell_at (cells_before zones)) (tile_number zones.size) (cell_at zones.cells) (tile_number zones.size) es' ss' right.tile_counts net' fs' m';
   }
 
--- ---- the empty book of nothing
-
-no_pairs : (key : ℕ → Option ℤ) (p : Pair) (is : List ℕ) → count_by (has_pair (λ i. None) key p) is ≡ 0
-no_pairs key p [] = refl
-no_pairs key p (i ∷ is) = omega (arith, count_first (has_pair (λ i. None) key p) i is, no_pairs key p is)
-
-pub empty_book : (s : Size) → IsBookOf (book s [] []) [] []
-empty_book s = record { value_counts = λ p. sym (no_pairs (λ i. None) p (places s)); tile_counts = λ p. sym (no_pairs (tile_number s) p (places s)) }
+-- ---- the same book
 
 pub resized : (s t : Size) (values tiles : List Entry) (v z : Cells) → s ≡ t → IsBookOf (book s values tiles) v z → IsBookOf (book t values tiles) v z
 resized s t values tiles v z e = subst (λ (x : Size). IsBookOf (book x values tiles) v z) e

@@ -22,7 +22,7 @@ size_least : (z : ℤ) (n : ℕ) → z ≤ℤ pos n → pos 0 ≤ℤ (z +ℤ pos
 size_least (pos m) n h k = omega (arith, ints, h)
 size_least (negsuc m) n h k = omega (arith, ints, k)
 
-size_sum : (a b : ℤ) → size (a +ℤ b) ≤ size a + size b
+pub size_sum : (a b : ℤ) → size (a +ℤ b) ≤ size a + size b
 size_sum a b =
     let p = size_bounds a in
     let q = size_bounds b in
@@ -41,7 +41,7 @@ kept_weight_by : (s : Step) (b : Bool) → weight (cond b [] (s ∷ [])) ≤ siz
 kept_weight_by s true = omega arith
 kept_weight_by s false = omega arith
 
-kept_weight : (s : Step) → weight (kept s) ≤ size s.by
+pub kept_weight : (s : Step) → weight (kept s) ≤ size s.by
 kept_weight s = kept_weight_by s (int_eq s.by (pos 0))
 
 meet_weight_by : (t s : Step) (b : Bool) → weight (cond b (kept (record { pair = s.pair; by = t.by +ℤ s.by })) (t ∷ kept s)) ≤ size t.by + size s.by
@@ -66,7 +66,7 @@ kept_net_by s p true e =
     elim (same_pair s.pair p) as (λ b. pos 0 ≡ cond b s.by (pos 0)) [ true ↦ sym z | false ↦ refl ]
 kept_net_by s p false e = omega (arith, ints)
 
-kept_net : (s : Step) (p : Pair) → net_in (kept s) p ≡ step_at s p
+pub kept_net : (s : Step) (p : Pair) → net_in (kept s) p ≡ step_at s p
 kept_net s p = kept_net_by s p (int_eq s.by (pos 0)) refl
 
 sum_at : (t s : Step) (p : Pair) (b : Bool) → cond b (t.by +ℤ s.by) (pos 0) ≡ cond b t.by (pos 0) +ℤ cond b s.by (pos 0)

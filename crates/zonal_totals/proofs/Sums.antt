@@ -36,10 +36,10 @@ sum_split f m (suc n) =
 
 -- ---- one place alone
 
-is_eq : (a b : ℕ) → (a == b) ≡ true → a ≡ b
+pub is_eq : (a b : ℕ) → (a == b) ≡ true → a ≡ b
 is_eq a b h = grind (arith, nat_tests)
 
-eq_is : (a b : ℕ) → a ≡ b → (a == b) ≡ true
+pub eq_is : (a b : ℕ) → a ≡ b → (a == b) ≡ true
 eq_is a b h = grind (arith, nat_tests)
 
 ne_is : (a b : ℕ) → a ≢ b → (a == b) ≡ false

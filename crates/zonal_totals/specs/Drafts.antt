@@ -30,7 +30,3 @@ abbrev pub least_of : Option ℕ → Option ℕ → Option ℕ
 least_of None n = n
 least_of (Some m) None = Some m
 least_of (Some m) (Some n) = if nat_lt n m then Some n else Some m
-
--- as if nothing had been before
-abbrev pub unborn : ChangeState → ChangeState
-unborn c = record { size = c.size; before = None; cells = c.cells; touched = c.touched }

@@ -12,6 +12,8 @@ pub mod Merges
 pub mod Sections
 pub mod Numbers
 pub mod Sums
+pub mod Ranges
+pub mod Running
 pub mod Drafts
 pub mod ZoneLists
 pub mod TileKeys

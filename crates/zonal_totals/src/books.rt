@@ -9,15 +9,17 @@ ghost use Rattle.layer_tiles.specs.Tallies.{RisesBy};
 ghost use Rattle.layer_tiles.specs.Changes.{cells_before};
 ghost use Rattle.zonal_totals.specs.Books.{IsBookOf};
 ghost use Rattle.zonal_totals.specs.Looks.{tiles_held};
+ghost use Rattle.zonal_totals.specs.Ranges.{AreTileCounts, AreRanges};
 ghost use Rattle.zonal_totals.specs.ChangedZones.{AreChangedZones};
 ghost use Rattle.zonal_totals.specs.TileKeys.{tile_at};
 ghost use Rattle.zonal_totals.specs.Tilings.{IsZoneTile};
 
-use crate::drafts::{Draft, counted, drafted};
+use crate::drafts::{Draft, drafted};
 use crate::entries::Entry;
 use crate::registers::Register;
 use crate::stats::statistic_of_part;
 use crate::steps::settle;
+use crate::tile_counts::TileCounts;
 use crate::zone_lists::zones_of;
 use layer_tiles::{Change, Extent, Tally};
 use map_nums::{NoMemory, Stat, StatRefusal, Value, Wide};
@@ -92,15 +94,32 @@ impl Book {
         ensures looks { RisesBy (2 * tiles_in zones.now.size) 0 (M.counts tally.old) (M.counts tally.new) }
     {
         let extent = zones.extent();
-        let draft = counted(alloc, values, zones, tally)?;
-        let Draft { values, tiles } = draft;
-        let value_steps = settle(alloc, values)?;
-        let tile_steps = settle(alloc, tiles)?;
+        let counts = TileCounts::of(alloc, values, zones, 0, extent.tiles(), tally)?;
+        Book::of_whole(alloc, extent, &counts)
+    }
+
+    /// The book of a map from the counts of all its tiles, in ranges that follow one another. It reads no tile.
+    pub fn of_counts(alloc: Global, extent: Extent, counts: &[TileCounts]) -> Result<Book, NoMemory>
+        requires { (values : Cells) × (zones : Cells) × AreRanges extent values zones 0 (tiles_in extent) counts.now }
+        ensures book { IfOk result (λ book. (values zones : Cells) → AreRanges extent values zones 0 (tiles_in extent) counts.now → IsBookOf book values zones) }
+        ensures size { IfOk result (λ book. book.size ≡ extent) }
+    {
+        let all = TileCounts::of_all(alloc, extent, counts)?;
+        Book::of_whole(alloc, extent, &all)
+    }
+
+    /// The book of a map from the counts of all its tiles.
+    fn of_whole(alloc: Global, extent: Extent, all: &TileCounts) -> Result<Book, NoMemory>
+        requires { (values : Cells) × (zones : Cells) × AreTileCounts extent values zones 0 (tiles_in extent) all.now }
+        ensures book { IfOk result (λ book. (values zones : Cells) → AreTileCounts extent values zones 0 (tiles_in extent) all.now → IsBookOf book values zones) }
+        ensures size { IfOk result (λ book. book.size ≡ extent) }
+    {
+        let _size = extent.tiles();
         let none = Register::new(alloc);
         Ok(Book {
             extent,
-            values: none.after(alloc, &value_steps)?,
-            tiles: none.after(alloc, &tile_steps)?,
+            values: none.after(alloc, all.values())?,
+            tiles: none.after(alloc, all.tiles())?,
         })
     }
 

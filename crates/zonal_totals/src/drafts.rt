@@ -3,7 +3,7 @@ ghost use Rattle.std.specs.Prelude.{◌≡◌, ℕ, ◌+◌, ◌*◌, ◌^◌, �
 ghost use Rattle.map_nums.specs.Grids.{cells_in};
 ghost use Rattle.layer_tiles.specs.Tiles.{tile_size, tiles_in};
 ghost use Rattle.layer_tiles.specs.Tallies.{RisesBy};
-ghost use Rattle.zonal_totals.specs.Drafts.{IsNextHeld, least_of, value_shift, tile_shift, unborn};
+ghost use Rattle.zonal_totals.specs.Drafts.{IsNextHeld, least_of, value_shift, tile_shift};
 ghost use Rattle.zonal_totals.specs.Looks.{tiles_held};
 ghost use Rattle.zonal_totals.specs.declared.pairs.Pair.{Pair};
 ghost use Rattle.zonal_totals.specs.Steps.{net_in, weight};
@@ -11,7 +11,7 @@ ghost use Rattle.zonal_totals.specs.Sums.{sum_to, place_of};
 
 use crate::rows::{compare_values, compare_zones};
 use crate::steps::Step;
-use layer_tiles::{Cell, Change, Tally, TileView};
+use layer_tiles::{Cell, Change, Tally};
 use map_nums::{NoMemory, Value};
 use std::alloc::Global;
 
@@ -23,7 +23,7 @@ pub(crate) struct Draft {
 }
 
 /// The cell that holds the number of a tile.
-fn number_cell(tile: u32) -> Cell
+pub(crate) fn number_cell(tile: u32) -> Cell
     requires { tile < 2 ^ 30 }
     ensures { result ≡ Some (pos tile) }
 {
@@ -58,10 +58,9 @@ fn compare_tile<M: Tally>(
     let place = zones.extent().place(tile);
     let height = place.height;
     let width = place.width as usize;
-    let nulls = [Cell::null(); 32];
     let keys = [number_cell(tile); 32];
-    let old_zones = Some(zones.view_before(tile, tally));
-    let old_values = Some(values.view_before(tile, tally));
+    let old_zones = zones.view_before(tile, tally);
+    let old_values = values.view_before(tile, tally);
     let new_zones = zones.view(tile, tally);
     let new_values = values.view(tile, tally);
     compare_values(
@@ -70,7 +69,6 @@ fn compare_tile<M: Tally>(
         &old_values,
         &new_zones,
         &new_values,
-        &nulls,
         height,
         width,
     )?;
@@ -78,7 +76,6 @@ fn compare_tile<M: Tally>(
         &mut draft.tiles,
         &old_zones,
         &new_zones,
-        &nulls,
         &keys,
         height,
         width,
@@ -132,79 +129,6 @@ pub(crate) fn drafted<M: Tally>(
     while let Some(tile) = next_tile(values, zones, from) {
         compare_tile(&mut draft, values, zones, tile, tally)?;
         from = tile + 1;
-    }
-    Ok(draft)
-}
-
-/// What a tile counts, with two looks.
-fn count_tile<M: Tally>(
-    draft: &mut Draft,
-    values: &Change<'_>,
-    zones: &Change<'_>,
-    tile: u32,
-    tally: &mut M,
-) -> Result<(), NoMemory>
-    requires size { values.now.size ≡ zones.now.size }
-    requires within { tile < tiles_in zones.now.size }
-    requires value_room { weight draft.old.values.items + 2 * tile_size zones.now.size tile < 2 ^ 31 }
-    requires tile_room { weight draft.old.tiles.items + 2 * tile_size zones.now.size tile < 2 ^ 31 }
-    ensures values { OnOk result ((p : Pair) → net_in draft.new.values.items p ≡ net_in draft.old.values.items p
-        +ℤ sum_to (λ k. value_shift (unborn values.now) (unborn zones.now) p (place_of zones.now.size tile k)) (tile_size zones.now.size tile)) }
-    ensures tiles { OnOk result ((p : Pair) → net_in draft.new.tiles.items p ≡ net_in draft.old.tiles.items p
-        +ℤ sum_to (λ k. tile_shift (unborn zones.now) p (place_of zones.now.size tile k)) (tile_size zones.now.size tile)) }
-    ensures value_weight { OnOk result (weight draft.new.values.items ≤ weight draft.old.values.items + 2 * tile_size zones.now.size tile) }
-    ensures tile_weight { OnOk result (weight draft.new.tiles.items ≤ weight draft.old.tiles.items + 2 * tile_size zones.now.size tile) }
-    ensures looks { RisesBy 2 0 (M.counts tally.old) (M.counts tally.new) }
-{
-    let place = zones.extent().place(tile);
-    let height = place.height;
-    let width = place.width as usize;
-    let nulls = [Cell::null(); 32];
-    let keys = [number_cell(tile); 32];
-    let none: Option<TileView<'_>> = None;
-    let new_zones = zones.view(tile, tally);
-    let new_values = values.view(tile, tally);
-    compare_values(
-        &mut draft.values,
-        &none,
-        &none,
-        &new_zones,
-        &new_values,
-        &nulls,
-        height,
-        width,
-    )?;
-    compare_zones(
-        &mut draft.tiles,
-        &none,
-        &new_zones,
-        &nulls,
-        &keys,
-        height,
-        width,
-    )
-}
-
-/// What all tiles count.
-pub(crate) fn counted<M: Tally>(
-    alloc: Global,
-    values: &Change<'_>,
-    zones: &Change<'_>,
-    tally: &mut M,
-) -> Result<Draft, NoMemory>
-    requires size { values.now.size ≡ zones.now.size }
-    ensures values { IfOk result (λ d. (p : Pair) → net_in d.values.items p ≡ sum_to (value_shift (unborn values.now) (unborn zones.now) p) (cells_in zones.now.size)) }
-    ensures tiles { IfOk result (λ d. (p : Pair) → net_in d.tiles.items p ≡ sum_to (tile_shift (unborn zones.now) p) (cells_in zones.now.size)) }
-    ensures value_weight { IfOk result (λ d. weight d.values.items < 2 ^ 31) }
-    ensures tile_weight { IfOk result (λ d. weight d.tiles.items < 2 ^ 31) }
-    ensures looks { RisesBy (2 * tiles_in zones.now.size) 0 (M.counts tally.old) (M.counts tally.new) }
-{
-    let mut draft = Draft {
-        values: Vec::new(alloc),
-        tiles: Vec::new(alloc),
-    };
-    for tile in 0..zones.extent().tiles() {
-        count_tile(&mut draft, values, zones, tile, tally)?;
     }
     Ok(draft)
 }

@@ -1,9 +1,9 @@
 //! The changes of the rows of a tile.
-ghost use Rattle.std.specs.Prelude.{◌≡◌, ℕ, ◌+◌, ◌*◌, ◌^◌, ◌<◌, ◌≤◌, ◌+ℤ◌, ◌-ℤ◌, Some, None, length, OnOk, IsTrue};
+ghost use Rattle.std.specs.Prelude.{◌≡◌, ℕ, ◌+◌, ◌*◌, ◌^◌, ◌<◌, ◌≤◌, ◌+ℤ◌, ◌-ℤ◌, length, OnOk, IsTrue};
 ghost use Rattle.map_nums.specs.Grids.{cell_at};
 ghost use Rattle.zonal_totals.specs.declared.pairs.Pair.{Pair};
 ghost use Rattle.zonal_totals.specs.Steps.{net_in, weight};
-ghost use Rattle.zonal_totals.specs.Sums.{sum_to, pair_at, held, shift, cell_of, HasShape, IsOfOneCell};
+ghost use Rattle.zonal_totals.specs.Sums.{sum_to, pair_at, held, shift, HasShape, IsOfOneCell};
 
 use crate::pairs::Pair;
 use crate::steps::{Step, put};
@@ -11,7 +11,7 @@ use layer_tiles::{Cell, TileView};
 use map_nums::NoMemory;
 
 /// The pair of two cells, where neither is null.
-fn pair_of(zone: &Cell, key: &Cell) -> Option<Pair>
+pub(crate) fn pair_of(zone: &Cell, key: &Cell) -> Option<Pair>
     ensures { result ≡ pair_at zone.now key.now }
 {
     match (zone.get(), key.get()) {
@@ -31,7 +31,7 @@ fn same_pairs(one: &Option<Pair>, other: &Option<Pair>) -> bool
 }
 
 /// One more place has the pair.
-fn enter(steps: &mut Vec<Step>, pair: &Option<Pair>) -> Result<(), NoMemory>
+pub(crate) fn enter(steps: &mut Vec<Step>, pair: &Option<Pair>) -> Result<(), NoMemory>
     requires { weight steps.old.items + 1 < 2 ^ 31 }
     ensures net { OnOk result ((p : Pair) → net_in steps.new.items p ≡ net_in steps.old.items p +ℤ held p pair.now) }
     ensures weight { OnOk result (weight steps.new.items ≤ weight steps.old.items + 1) }
@@ -101,31 +101,10 @@ fn compare_row(
     Ok(())
 }
 
-/// A row of a tile, or null cells where the tile is not there.
-fn row_or_null<'a>(
-    view: &'a Option<TileView<'_>>,
-    nulls: &'a [Cell; 32],
-    r: u32,
-    height: u32,
-    width: usize,
-) -> &'a [Cell]
-    requires row { r < height }
-    requires width { width ≤ 32 }
-    requires shape { HasShape height width view.now }
-    requires nulls { (c : ℕ) → cell_at nulls.now c ≡ None }
-    ensures width { length result.now ≡ width }
-    ensures cells { (c : ℕ) → c < width → cell_at result.now c ≡ cell_of view.now (r * width + c) }
-{
-    match view {
-        Some(view) => return view.row(r),
-        None => return &nulls[..width],
-    }
-}
-
 /// A row of a tile.
-fn row_of<'a>(view: &'a TileView<'_>, r: u32, height: u32, width: usize) -> &'a [Cell]
+pub(crate) fn row_of<'a>(view: &'a TileView<'_>, r: u32, height: u32, width: usize) -> &'a [Cell]
     requires row { r < height }
-    requires shape { HasShape height width (Some view.now) }
+    requires shape { HasShape height width view.now }
     ensures width { length result.now ≡ width }
     ensures cells { (c : ℕ) → c < width → cell_at result.now c ≡ cell_at view.now.cells (r * width + c) }
 {
@@ -135,28 +114,25 @@ fn row_of<'a>(view: &'a TileView<'_>, r: u32, height: u32, width: usize) -> &'a 
 /// How a tile changes the counts of values.
 pub(crate) fn compare_values(
     steps: &mut Vec<Step>,
-    zones_before: &Option<TileView<'_>>,
-    values_before: &Option<TileView<'_>>,
+    zones_before: &TileView<'_>,
+    values_before: &TileView<'_>,
     zones: &TileView<'_>,
     values: &TileView<'_>,
-    nulls: &[Cell; 32],
     height: u32,
     width: usize,
 ) -> Result<(), NoMemory>
     requires zones_before { HasShape height width zones_before.now }
     requires values_before { HasShape height width values_before.now }
-    requires zones { HasShape height width (Some zones.now) }
-    requires values { HasShape height width (Some values.now) }
-    requires nulls { (c : ℕ) → cell_at nulls.now c ≡ None }
-    requires most { width ≤ 32 }
+    requires zones { HasShape height width zones.now }
+    requires values { HasShape height width values.now }
     requires room { weight steps.old.items + 2 * (height * width) < 2 ^ 31 }
     ensures net { OnOk result ((p : Pair) → net_in steps.new.items p ≡ net_in steps.old.items p
-        +ℤ sum_to (λ k. shift p (cell_of zones_before.now k) (cell_of values_before.now k) (cell_at zones.now.cells k) (cell_at values.now.cells k)) (height * width)) }
+        +ℤ sum_to (λ k. shift p (cell_at zones_before.now.cells k) (cell_at values_before.now.cells k) (cell_at zones.now.cells k) (cell_at values.now.cells k)) (height * width)) }
     ensures weight { OnOk result (weight steps.new.items ≤ weight steps.old.items + 2 * (height * width)) }
 {
     for r in 0..height {
-        let old_zones = row_or_null(&*zones_before, &*nulls, r, height, width);
-        let old_values = row_or_null(&*values_before, &*nulls, r, height, width);
+        let old_zones = row_of(zones_before, r, height, width);
+        let old_values = row_of(values_before, r, height, width);
         let new_zones = row_of(zones, r, height, width);
         let new_values = row_of(values, r, height, width);
         compare_row(steps, old_zones, old_values, new_zones, new_values)?;
@@ -167,25 +143,23 @@ pub(crate) fn compare_values(
 /// How a tile changes the counts of its own number. Each cell of `keys` is that number.
 pub(crate) fn compare_zones(
     steps: &mut Vec<Step>,
-    zones_before: &Option<TileView<'_>>,
+    zones_before: &TileView<'_>,
     zones: &TileView<'_>,
-    nulls: &[Cell; 32],
     keys: &[Cell; 32],
     height: u32,
     width: usize,
 ) -> Result<(), NoMemory>
     requires zones_before { HasShape height width zones_before.now }
-    requires zones { HasShape height width (Some zones.now) }
-    requires nulls { (c : ℕ) → cell_at nulls.now c ≡ None }
+    requires zones { HasShape height width zones.now }
     requires keys { IsOfOneCell keys.now }
     requires most { width ≤ 32 }
     requires room { weight steps.old.items + 2 * (height * width) < 2 ^ 31 }
     ensures net { OnOk result ((p : Pair) → net_in steps.new.items p ≡ net_in steps.old.items p
-        +ℤ sum_to (λ k. shift p (cell_of zones_before.now k) (cell_at keys.now 0) (cell_at zones.now.cells k) (cell_at keys.now 0)) (height * width)) }
+        +ℤ sum_to (λ k. shift p (cell_at zones_before.now.cells k) (cell_at keys.now 0) (cell_at zones.now.cells k) (cell_at keys.now 0)) (height * width)) }
     ensures weight { OnOk result (weight steps.new.items ≤ weight steps.old.items + 2 * (height * width)) }
 {
     for r in 0..height {
-        let old_zones = row_or_null(&*zones_before, &*nulls, r, height, width);
+        let old_zones = row_of(zones_before, r, height, width);
         let new_zones = row_of(zones, r, height, width);
         let numbers = &keys[..width];
         compare_row(steps, old_zones, numbers, new_zones, numbers)?;

@@ -1,5 +1,5 @@
 //! Changes of the counts of pairs.
-ghost use Rattle.std.specs.Prelude.{◌≡◌, ℕ, ◌+◌, ◌^◌, ◌<◌, ◌++◌, ◌+ℤ◌, length, OnOk, IfOk};
+ghost use Rattle.std.specs.Prelude.{◌≡◌, ℕ, ◌+◌, ◌^◌, ◌<◌, ◌≤◌, ◌++◌, ◌+ℤ◌, length, OnOk, IfOk};
 ghost use Rattle.std.specs.Ordering.{int_cmp};
 ghost use Rattle.zonal_totals.specs.Pairs.{floor, rank};
 ghost use Rattle.zonal_totals.specs.declared.pairs.Pair.{Pair};
@@ -34,7 +34,7 @@ pub(crate) fn put(steps: &mut Vec<Step>, step: Step) -> Result<(), NoMemory>
 }
 
 /// One step for two of the same pair.
-fn together(last: &Step, step: &Step) -> Step
+pub(crate) fn together(last: &Step, step: &Step) -> Step
     requires { size last.now.by + size step.now.by < 2 ^ 31 }
     ensures { result ≡ record { pair = step.now.pair; by = last.now.by +ℤ step.now.by } }
 {
@@ -46,7 +46,7 @@ fn together(last: &Step, step: &Step) -> Step
 }
 
 /// Puts a step behind the others, unless it is of 0.
-fn keep(steps: &mut Vec<Step>, step: Step) -> Result<(), NoMemory>
+pub(crate) fn keep(steps: &mut Vec<Step>, step: Step) -> Result<(), NoMemory>
     ensures { OnOk result (steps.new.items ≡ steps.old.items ++ kept step) }
 {
     if step.by != 0 {
@@ -60,6 +60,7 @@ pub(crate) fn settle(alloc: Global, mut steps: Vec<Step>) -> Result<Vec<Step>, N
     requires { weight steps.items < 2 ^ 31 }
     ensures order { IfOk result (λ s. StepsClimb floor s.items) }
     ensures net { IfOk result (λ s. (p : Pair) → net_in s.items p ≡ net_in steps.items p) }
+    ensures weight { IfOk result (λ s. weight s.items ≤ weight steps.items) }
 {
     steps.sort_unstable_by(|a, b| compare(&a.pair, &b.pair));
     gathered(alloc, &steps)

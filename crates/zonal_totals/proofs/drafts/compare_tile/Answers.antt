@@ -5,17 +5,11 @@ use Rattle.map_nums.specs.Grids.{Size}
 use Rattle.layer_tiles.specs.Tiles.{tile_height, tile_width}
 use Rattle.zonal_totals.specs.declared.pairs.Pair.{Pair}
 use Rattle.zonal_totals.specs.Steps.{net_in}
-use Rattle.zonal_totals.proofs.Drafting.{few_tiles, null_cells, on_any, values_lent, zones_lent}
+use Rattle.zonal_totals.proofs.Drafting.{few_tiles, on_any, values_lent, zones_lent}
 use Rattle.zonal_totals.proofs.drafts.compare_tile.Goals as goal
 
 pub number_cell-keys-requires : goal.number_cell-keys-requires
 number_cell-keys-requires g c = omega (arith, c.requires.within, few_tiles c.args.zones.now.size c.extent.ensures.size)
-
-pub compare_values-requires-clause-nulls : goal.compare_values-requires-clause-nulls
-compare_values-requires-clause-nulls g c = null_cells c.null-nulls.result c.null-nulls.ensures
-
-pub compare_zones-requires-clause-nulls : goal.compare_zones-requires-clause-nulls
-compare_zones-requires-clause-nulls g c = null_cells c.null-nulls.result c.null-nulls.ensures
 
 pub compare_zones-requires-clause-keys : goal.compare_zones-requires-clause-keys
 compare_zones-requires-clause-keys g c = record { count = refl; one = λ k h. get_or-replicate 32 k c.number_cell-keys.result None h }
@@ -30,7 +24,7 @@ returns-clause-values g c =
     let wide = place.width ∙ ap (λ (s : Size). tile_width s c.args.tile) c.extent.ensures.extent in
     c.in_ok-compare_values.ensures.net p
     ∙ ap (λ (x : ℤ). net_in c.args.draft.now.values.items p +ℤ x)
-    (values_lent zones.size c.extent.ensures.size c.args.tile c.requires.within p values zones c.requires.size refl c.view_before.result c.view_before-2.result c.view-new_zones.result c.view-new_values.result _ _ c.view_before.ensures.tile c.view_before-2.ensures.tile c.view-new_zones.ensures.tile c.view-new_values.ensures.tile tall wide))
+    (values_lent zones.size c.extent.ensures.size c.args.tile c.requires.within p values zones c.requires.size refl c.view_before-old_zones.result c.view_before-old_values.result c.view-new_zones.result c.view-new_values.result _ _ c.view_before-old_zones.ensures.tile c.view_before-old_values.ensures.tile c.view-new_zones.ensures.tile c.view-new_values.ensures.tile tall wide))
 
 pub returns-clause-tiles : goal.returns-clause-tiles
 returns-clause-tiles g c =
@@ -40,5 +34,5 @@ returns-clause-tiles g c =
     let tall = place.height ∙ ap (λ (s : Size). tile_height s c.args.tile) c.extent.ensures.extent in
     let wide = place.width ∙ ap (λ (s : Size). tile_width s c.args.tile) c.extent.ensures.extent in
     h p ∙ ap (λ (x : ℤ). net_in c.args.draft.now.tiles.items p +ℤ x)
-    (zones_lent zones.size c.extent.ensures.size c.args.tile c.requires.within p zones refl c.view_before.result c.view-new_zones.result c.number_cell-keys.result _ _ c.view_before.ensures.tile c.view-new_zones.ensures.tile c.number_cell-keys.ensures tall wide))
+    (zones_lent zones.size c.extent.ensures.size c.args.tile c.requires.within p zones refl c.view_before-old_zones.result c.view-new_zones.result c.number_cell-keys.result _ _ c.view_before-old_zones.ensures.tile c.view-new_zones.ensures.tile c.number_cell-keys.ensures tall wide))
     c.compare_zones.ensures.net

@@ -1,6 +1,6 @@
 use Rattle.std.proofs.Common.{ℕ, arith}
 use Rattle.map_nums.specs.Grids.{cell_at}
-use Rattle.zonal_totals.specs.Sums.{shift, cell_of}
+use Rattle.zonal_totals.specs.Sums.{shift}
 use Rattle.std.proofs.lemmas.Int.{ints}
 use Rattle.zonal_totals.proofs.Sums.{row_sum, same_shift, rows_fit}
 use Rattle.zonal_totals.proofs.rows.compare_values.Goals as goal
@@ -16,9 +16,9 @@ loop-r-preserved c =
     let inv = c.loop-r.invariant in
     record {
       net = λ p.
-          let F = λ (k : ℕ). shift p (cell_of c.args.zones_before.now k) (cell_of c.args.values_before.now k) (cell_at c.args.zones.now.cells k) (cell_at c.args.values.now.cells k) in
-          let G = λ (k : ℕ). shift p (cell_at c.row_or_null-old_zones.result.now k) (cell_at c.row_or_null-old_values.result.now k) (cell_at c.row_of-new_zones.result.now k) (cell_at c.row_of-new_values.result.now k) in
-          let m = row_sum F G r w _ n (λ k h. same_shift p _ _ _ _ _ _ _ _ (c.row_or_null-old_zones.ensures.cells k h) (c.row_or_null-old_values.ensures.cells k h) (c.row_of-new_zones.ensures.cells k h) (c.row_of-new_values.ensures.cells k h)) in
+          let F = λ (k : ℕ). shift p (cell_at c.args.zones_before.now.cells k) (cell_at c.args.values_before.now.cells k) (cell_at c.args.zones.now.cells k) (cell_at c.args.values.now.cells k) in
+          let G = λ (k : ℕ). shift p (cell_at c.row_of-old_zones.result.now k) (cell_at c.row_of-old_values.result.now k) (cell_at c.row_of-new_zones.result.now k) (cell_at c.row_of-new_values.result.now k) in
+          let m = row_sum F G r w _ n (λ k h. same_shift p _ _ _ _ _ _ _ _ (c.row_of-old_zones.ensures.cells k h) (c.row_of-old_values.ensures.cells k h) (c.row_of-new_zones.ensures.cells k h) (c.row_of-new_values.ensures.cells k h)) in
           omega (arith, ints, inv.net p, c.in_ok-compare_row.ensures.net p, m);
       weight = omega (arith, inv.weight, c.in_ok-compare_row.ensures.weight, n);
     }

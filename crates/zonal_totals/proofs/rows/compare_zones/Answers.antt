@@ -1,6 +1,6 @@
 use Rattle.std.proofs.Common.{ℕ, arith, take, None, ◌∙◌}
 use Rattle.map_nums.specs.Grids.{cell_at}
-use Rattle.zonal_totals.specs.Sums.{shift, cell_of}
+use Rattle.zonal_totals.specs.Sums.{shift}
 use Rattle.std.proofs.lemmas.Int.{ints}
 use Rattle.std.proofs.lemmas.List.{get_or-take}
 use Rattle.zonal_totals.proofs.Sums.{row_sum, same_shift, rows_fit}
@@ -18,11 +18,11 @@ loop-r-preserved c =
     let keys = c.args.keys.now in
     record {
       net = λ p.
-          let F = λ (k : ℕ). shift p (cell_of c.args.zones_before.now k) (cell_at keys 0) (cell_at c.args.zones.now.cells k) (cell_at keys 0) in
-          let G = λ (k : ℕ). shift p (cell_at c.row_or_null-old_zones.result.now k) (cell_at (take w keys) k) (cell_at c.row_of-new_zones.result.now k) (cell_at (take w keys) k) in
+          let F = λ (k : ℕ). shift p (cell_at c.args.zones_before.now.cells k) (cell_at keys 0) (cell_at c.args.zones.now.cells k) (cell_at keys 0) in
+          let G = λ (k : ℕ). shift p (cell_at c.row_of-old_zones.result.now k) (cell_at (take w keys) k) (cell_at c.row_of-new_zones.result.now k) (cell_at (take w keys) k) in
           let m = row_sum F G r w _ n (λ k h.
           let number = get_or-take w keys k None h ∙ c.requires.keys.one k (omega (arith, h, c.requires.most)) in
-          same_shift p _ _ _ _ _ _ _ _ (c.row_or_null-old_zones.ensures.cells k h) number (c.row_of-new_zones.ensures.cells k h) number) in
+          same_shift p _ _ _ _ _ _ _ _ (c.row_of-old_zones.ensures.cells k h) number (c.row_of-new_zones.ensures.cells k h) number) in
           omega (arith, ints, inv.net p, c.in_ok-compare_row.ensures.net p, m);
       weight = omega (arith, inv.weight, c.in_ok-compare_row.ensures.weight, n);
     }

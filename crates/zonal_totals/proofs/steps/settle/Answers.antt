@@ -9,7 +9,7 @@ use Rattle.zonal_totals.specs.declared.steps.Step.{Step}
 use Rattle.zonal_totals.specs.Pairs.{rank, floor}
 use Rattle.zonal_totals.specs.Steps.{net_in, weight, StepsClimb, AllShort}
 use Rattle.zonal_totals.specs.Settled.{settled}
-use Rattle.zonal_totals.proofs.Settling.{settled_net, settled_climbs, rises_sorted, net-permutation, weight-permutation}
+use Rattle.zonal_totals.proofs.Settling.{settled_net, settled_weight, settled_climbs, rises_sorted, net-permutation, weight-permutation}
 use Rattle.zonal_totals.proofs.steps.settle.Goals as goal
 
 pub gathered-requires : goal.gathered-requires
@@ -33,3 +33,8 @@ returns-clause-net c =
     let same = net-permutation c.args.steps.items c.sort_unstable_by.new.self.items c.sort_unstable_by.ensures.permutation in
     let here = c.deref.ensures.value in
     IfOk-weaker c.gathered.result _ _ (λ v e p. ap (λ (l : List Step). net_in l p) e ∙ settled_net c.deref.result.now p ∙ ap (λ (l : List Step). net_in l p) here ∙ sym (same p)) c.gathered.ensures.steps
+
+pub returns-clause-weight : goal.returns-clause-weight
+returns-clause-weight c =
+    let same = weight-permutation c.args.steps.items c.sort_unstable_by.new.self.items c.sort_unstable_by.ensures.permutation in
+    IfOk-weaker c.gathered.result _ _ (λ v e. omega (arith, ap weight e, settled_weight c.deref.result.now, ap weight c.deref.ensures.value, same)) c.gathered.ensures.steps
