@@ -7,7 +7,8 @@ use Rattle.map_nums.specs.Grids.{Size, IsSize, Cells, cell_at, cells_in}
 use Rattle.map_defs.specs.Flow.{downstream_of}
 use Rattle.drainage_flow.specs.FlowNets.{number_of, brought, weight_at, net_of}
 use Rattle.drainage_flow.specs.Pouring.{down_in, flow_in, ArePools, AreWaits}
-use Rattle.drainage_flow.specs.First.{AreDowns, AreBrought, AreFlows}
+use Rattle.drainage_flow.specs.Bands.{AreDowns}
+use Rattle.drainage_flow.specs.First.{AreBrought, AreFlows}
 use Rattle.drainage_flow.proofs.Pours.{pools_first, pools_agree}
 use Rattle.drainage_flow.proofs.Masses.{net_falls, agreeing_is_flow}
 
@@ -36,16 +37,20 @@ brought_more surface weights n amounts new z b e h l q = rw (q)
 
 -- ---- all of them
 
-pub downs_within : (s : Size) (surface : Cells) (downs : List (Option ℕ)) → AreDowns s surface (cells_in s) downs → (c d : ℕ) → c < length downs → down_in downs c ≡ Some d → d < length downs
+-- from the first place on
+down_at : (s : Size) (surface : Cells) (downs : List (Option ℕ)) → AreDowns s surface 0 (cells_in s) downs → (c : ℕ) → c < cells_in s → down_in downs c ≡ downstream_of s surface c
+down_at s surface downs a c l = let z : 0 + c ≡ c = omega arith in a.each c l ∙ ap (downstream_of s surface) z
+
+pub downs_within : (s : Size) (surface : Cells) (downs : List (Option ℕ)) → AreDowns s surface 0 (cells_in s) downs → (c d : ℕ) → c < length downs → down_in downs c ≡ Some d → d < length downs
 downs_within s surface downs a c d l e =
     let m : c < cells_in s = omega (arith, a.count, l) in
-    let f : downstream_of s surface c ≡ Some d = sym (a.each c m) ∙ e in
+    let f : downstream_of s surface c ≡ Some d = sym (down_at s surface downs a c m) ∙ e in
     omega (arith, a.count, (net_falls s surface surface).within c d m f)
 
-pub pools_of : (s : Size) (surface weights : Cells) (downs : List (Option ℕ)) (waits : List ℕ) (flows : List ℤ) → IsSize s → AreDowns s surface (cells_in s) downs → AreWaits downs (length downs) waits → AreBrought surface weights (cells_in s) flows → ArePools (net_of s surface weights) 0 None downs waits flows
+pub pools_of : (s : Size) (surface weights : Cells) (downs : List (Option ℕ)) (waits : List ℕ) (flows : List ℤ) → IsSize s → AreDowns s surface 0 (cells_in s) downs → AreWaits downs (length downs) waits → AreBrought surface weights (cells_in s) flows → ArePools (net_of s surface weights) 0 None downs waits flows
 unfolding weight_at
 pools_of s surface weights downs waits flows size a w b =
-    pools_first (net_of s surface weights) downs waits flows (omega (arith, size.most_cells)) a.count b.count (λ c l. a.each c l)
+    pools_first (net_of s surface weights) downs waits flows (omega (arith, size.most_cells)) a.count b.count (λ c l. down_at s surface downs a c l)
     (λ c d l e. (net_falls s surface weights).within c d l e)
     w (λ c l. b.each c l) (λ c l. (b.high c l, b.low c l))
 

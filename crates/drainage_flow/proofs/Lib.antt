@@ -7,11 +7,13 @@ pub mod Adding
 pub mod Falls
 pub mod Places
 pub mod Steepest
+pub mod Marks
 pub mod Around
 pub mod Looks
 pub mod Pours
 pub mod Shown
 pub mod Wholes
+pub mod Downs
 pub mod Firsts
 pub mod Settling
 pub mod Seeding

@@ -11,7 +11,6 @@ use Rattle.std.proofs.lemmas.Option.{slice_get-get_or}
 use Rattle.map_nums.specs.Grids.{Size, Cells, Offset, cell_at, moved, compass}
 use Rattle.map_defs.specs.Drainage.{drop_to, drop_at, is_steepest, winner_at}
 use Rattle.map_defs.specs.Flow.{downstream_of}
-use Rattle.drainage_flow.specs.declared.winners.Way.{Way}
 use Rattle.drainage_flow.specs.Steepest.{offset_at, AreAround, fall_to, IsFirstSteepest}
 
 no_fall : {P : Type 0} (x : ℤ) → x ≤ℤ pos 0 → int_lt (pos 0) x ≡ true → P
@@ -44,21 +43,6 @@ module _ (falls : ℕ → ℤ) where
           | inr f ↦ inr (f.0, omega (arith, f.1), f.2, f.3, f.4, f.5)
         ];
       }
-
-  fall_of : (b : Bool) (x y : Way) → (cond b y x).fall ≡ cond b y.fall x.fall
-  fall_of true x y = refl
-  fall_of false x y = refl
-
-  to_of : (b : Bool) (x y : Way) → (cond b y x).to ≡ cond b y.to x.to
-  to_of true x y = refl
-  to_of false x y = refl
-
-  pub steepest_more : (k : ℕ) (x y z : Way) → IsFirstSteepest falls k x.fall x.to → y.fall ≡ falls k → y.to ≡ Some k → z ≡ cond (int_lt x.fall y.fall) y x → IsFirstSteepest falls (k + 1) z.fall z.to
-  steepest_more k x y z w e m q =
-      let r = steeper_more k x.fall y.fall x.to y.to (int_lt x.fall y.fall) refl w e m in
-      let f : z.fall ≡ cond (int_lt x.fall y.fall) y.fall x.fall = ap (λ (v : Way). v.fall) q ∙ fall_of (int_lt x.fall y.fall) x y in
-      let t : z.to ≡ cond (int_lt x.fall y.fall) y.to x.to = ap (λ (v : Way). v.to) q ∙ to_of (int_lt x.fall y.fall) x y in
-      rw (f, t) r
 
   pub steepest_some : (k : ℕ) → (b : ℤ) × (t : Option ℕ) × IsFirstSteepest falls k b t
   steepest_some zero = (pos 0, None, steepest_none)

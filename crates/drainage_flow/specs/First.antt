@@ -1,14 +1,8 @@
 -- The tables of a first flow.
-use Rattle.std.specs.Prelude.{◌≡◌, ℕ, ◌<◌, ℤ, pos, ◌+ℤ◌, ◌≤ℤ◌, List, length, Option}
+use Rattle.std.specs.Prelude.{◌≡◌, ℕ, ◌<◌, ℤ, pos, ◌+ℤ◌, ◌≤ℤ◌, List, length}
 use Rattle.map_nums.specs.Grids.{Size, Cells, cell_at, cells_in}
-use Rattle.map_defs.specs.Flow.{downstream_of}
 use Rattle.drainage_flow.specs.FlowNets.{brought, flow_number}
-use Rattle.drainage_flow.specs.Pouring.{down_in, flow_in}
-
--- where each of the first n places drains to
-pub record AreDowns (s : Size) (surface : Cells) (n : ℕ) (downs : List (Option ℕ)) : Type 0 where
-  pub count : length downs ≡ n
-  pub each : (c : ℕ) → c < n → down_in downs c ≡ downstream_of s surface c
+use Rattle.drainage_flow.specs.Pouring.{flow_in}
 
 -- what each of the first n places brings
 pub record AreBrought (surface weights : Cells) (n : ℕ) (amounts : List ℤ) : Type 0 where

@@ -3,11 +3,14 @@ pub mod FlowNets
 pub mod Queues
 pub mod Mending
 pub mod Steepest
+pub mod Marks
 pub mod Around
 pub mod Pouring
 pub mod Showing
 pub mod Whole
+pub mod Bands
 pub mod First
+pub mod Operands
 pub mod Sides
 pub mod Settling
 pub mod Seeding

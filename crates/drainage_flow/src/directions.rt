@@ -10,7 +10,7 @@ ghost use Rattle.drainage_flow.specs.Steepest.{offset_at, AreAround};
 ghost use Rattle.drainage_flow.specs.Around.{IsLentAround, AreRowsRound};
 
 use crate::neighbours::neighbour;
-use crate::winners::{numbered, winner};
+use crate::winners::{numbered, row_winner, winner};
 use layer_tiles::{Cell, Change, Extent, KernelRefusal, NoMemory, Tally, Tile, Value, Window};
 use map_nums::Wide;
 use near_cells::NearCells;
@@ -186,20 +186,8 @@ fn row_direction(above: &[Cell], here: &[Cell], below: &[Cell], left: usize) -> 
     ensures direction { (s : Size) (surface : Cells) (i : ℕ) → AreRowsRound s surface i above.now here.now below.now left → option_map pos result ≡ direction_at s surface i }
     ensures few { IfSome result (λ n. n ≤ 8) }
 {
-    let middle = left + 1;
-    let right = left + 2;
-    let Some(height) = here[middle].get() else {
+    let Some(_height) = here[left + 1].get() else {
         return None;
     };
-    let around = [
-        above[middle],
-        above[right],
-        here[right],
-        below[right],
-        below[middle],
-        below[left],
-        here[left],
-        above[left],
-    ];
-    Some(numbered(winner(height, &around)))
+    Some(numbered(row_winner(above, here, below, left)))
 }

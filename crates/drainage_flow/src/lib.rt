@@ -1,9 +1,11 @@
 //! Drainage. `direction` tells which neighbour of a cell the steepest way down leads to, and `direction_tile` makes a tile of
 //! such directions. The flow of a cell is the sum of the weights of all cells whose course down passes it: `flow_law` says
 //! that it is the one function that gives each cell its own weight and the flow of what drains to it. `flow_repair` gives the
-//! flow after an edit as a patch of the flow before, or all of it where there was none.
+//! flow after an edit as a patch of the flow before, or all of it where there was none. That first flow may also be made in
+//! parts: `downs_between` tells where the cells of some rows drain to, and `flow_along` makes the flow along all these ways.
 #![tactic(auto)]
 
+mod bands;
 mod courses;
 mod directions;
 mod first;
@@ -20,6 +22,7 @@ mod showing;
 mod whole;
 mod winners;
 
+pub use bands::downs_between;
 pub use directions::{direction, direction_tile};
 pub use laws::flow_law;
-pub use repairs::{Repair, flow_repair};
+pub use repairs::{Repair, flow_along, flow_repair};

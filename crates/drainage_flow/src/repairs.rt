@@ -5,21 +5,27 @@ ghost use Rattle.std.specs.Option.{option_copied};
 ghost use Rattle.map_nums.specs.Grids.{cells_in, cell_at, grid_by};
 ghost use Rattle.map_nums.specs.Numbers.{is_value};
 ghost use Rattle.map_defs.specs.Ops.{Term};
+ghost use Rattle.layer_tiles.specs.Tiles.{tiles_in};
+ghost use Rattle.layer_tiles.specs.Changes.{ChangeState};
 ghost use Rattle.layer_tiles.specs.Tallies.{RisesBy};
 ghost use Rattle.layer_tiles.specs.ChangeFacts.{HoldsNoUnchanged};
 ghost use Rattle.tile_work.specs.Working.{before_of, IsPatchTo};
+ghost use Rattle.drainage_flow.specs.Bands.{AreDowns};
+ghost use Rattle.drainage_flow.specs.Operands.{HasCells};
 ghost use Rattle.drainage_flow.specs.Mending.{now_at};
 ghost use Rattle.drainage_flow.specs.Settling.{number_at};
 ghost use Rattle.drainage_flow.specs.Showing.{shown_at, changes, changed_count, ArePlaced};
 ghost use Rattle.drainage_flow.specs.Repairs.{flow_damage, flow_work, IsFlowBefore, IsFlowRepair, IsFlowRefusal};
 
-use crate::first::{all_flows, cells_of};
+use crate::bands::downs_between;
+use crate::first::all_flows;
 use crate::ranges::overflow;
 use crate::repair::mend;
 use crate::showing::{show_flows, show_grounds};
 use crate::whole::{count_some, first_wide, whole_patch};
 use changed_cells::changed_places_of_both;
-use layer_tiles::{Change, KernelRefusal, Layer, Patch, Tally};
+use flat_cells::cells_of;
+use layer_tiles::{Cell, Change, Extent, KernelRefusal, Layer, Patch, Tally};
 use map_nums::NoMemory;
 use std::alloc::Global;
 use tile_work::Working;
@@ -56,7 +62,40 @@ pub fn flow_repair<M: Tally>(
     }
 }
 
-/// The flow of a map that had none. At most two picks a cell.
+/// The flow of a map that had none, from all cells of its surface and of its weights and the places that they drain to.
+///
+/// # Errors
+///
+/// `Overflow` at the least cell whose flow is out of range, exactly where there is one; `NoMemory`.
+pub fn flow_along(
+    alloc: Global,
+    extent: Extent,
+    surface: &[Cell],
+    weights: &[Cell],
+    downs: Vec<Option<u32>>,
+) -> Result<Repair, KernelRefusal>
+    requires surface { length surface.now ≡ cells_in extent }
+    requires weights { length weights.now ≡ cells_in extent }
+    requires downs { AreDowns extent surface.now 0 (cells_in extent) downs.items }
+    ensures repair { (s w : ChangeState) → HasCells extent surface.now s → HasCells extent weights.now w → IfOk result (λ r. IsFlowRepair s w None r.patch r.worked) }
+    ensures refusal { (s w : ChangeState) → HasCells extent surface.now s → HasCells extent weights.now w → IfErr result (IsFlowRefusal s w) }
+{
+    let Ok(flows) = all_flows(alloc, extent, surface, weights, downs) else {
+        return Err(KernelRefusal::NoMemory);
+    };
+    if let Some(at) = first_wide(&flows) {
+        return Err(KernelRefusal::Overflow(at));
+    }
+    match whole_patch(alloc, extent, surface, &flows) {
+        Ok(patch) => Ok(Repair {
+            patch,
+            worked: extent.cells() as u64 + count_some(surface),
+        }),
+        Err(NoMemory) => Err(KernelRefusal::NoMemory),
+    }
+}
+
+/// The flow of a map that had none. Two looks at each tile.
 fn first_flow<M: Tally>(
     alloc: Global,
     surface: &Change<'_>,
@@ -66,25 +105,20 @@ fn first_flow<M: Tally>(
     requires { weights.now.size ≡ surface.now.size }
     ensures repair { IfOk result (λ r. IsFlowRepair surface.now weights.now None r.patch r.worked) }
     ensures refusal { IfErr result (IsFlowRefusal surface.now weights.now) }
-    ensures tally { RisesBy 0 (2 * cells_in surface.now.size) (M.counts tally.old) (M.counts tally.new) }
+    ensures tally { RisesBy (2 * tiles_in surface.now.size) 0 (M.counts tally.old) (M.counts tally.new) }
 {
     let extent = surface.extent();
-    let Ok(cells) = cells_of(alloc, surface, tally) else {
+    let _weights = weights.extent();
+    let Ok(heights) = cells_of(alloc, surface, tally) else {
         return Err(KernelRefusal::NoMemory);
     };
-    let Ok(flows) = all_flows(alloc, extent, &cells, weights, tally) else {
+    let Ok(loads) = cells_of(alloc, weights, tally) else {
         return Err(KernelRefusal::NoMemory);
     };
-    if let Some(at) = first_wide(&flows) {
-        return Err(KernelRefusal::Overflow(at));
-    }
-    match whole_patch(alloc, extent, &cells, &flows) {
-        Ok(patch) => Ok(Repair {
-            patch,
-            worked: extent.cells() as u64 + count_some(&cells),
-        }),
-        Err(NoMemory) => Err(KernelRefusal::NoMemory),
-    }
+    let Ok(downs) = downs_between(alloc, extent, &heights, 0, extent.rows()) else {
+        return Err(KernelRefusal::NoMemory);
+    };
+    flow_along(alloc, extent, &heights, &loads, downs)
 }
 
 /// The flow after an edit, from the flow before it.

@@ -2,22 +2,20 @@ use Rattle.std.proofs.Common.{◌≡◌, ◌<◌, ℤ, None, [], ◌∷◌, ◌+
 use mir.Val.{SFits, to_z, of_z}
 use Rattle.std.proofs.lemmas.Int.{to_z-of_z}
 use Rattle.std.proofs.lemmas.List.{get_or_default}
-use Rattle.map_nums.specs.Grids.{cell_at, cells_in}
+use Rattle.map_nums.specs.Grids.{cell_at}
 use Rattle.drainage_flow.specs.FlowNets.{brought}
 use Rattle.drainage_flow.proofs.Firsts.{brought_more}
 use Rattle.drainage_flow.proofs.first.brought_by.Goals as goal
 
 pub loop-at-preserved : goal.loop-at-preserved
-loop-at-preserved g c =
+loop-at-preserved c =
     let at = c.loop-at.at in
     let surface = c.args.surface.now in
+    let weights = c.args.weights.now in
     let fits : SFits w64 c.brought.result = search rules in
     let same : to_z w64 (of_z w64 c.brought.result) ≡ c.brought.result = to_z-of_z w64 c.brought.result fits in
-    let within : at < length surface = omega (arith, c.requires, c.loop-at-test.true, c.cells-count.ensures.cells, ap cells_in c.extent.ensures.extent) in
-    record {
-      brought = brought_more surface c.args.weights.now.cells at c.loop-at.amounts.items c.push.new.self.items c.brought.result c.loop-at.invariant.brought
-          (c.brought.ensures.brought ∙ ap (λ o. brought o c.cell.result) (c.index-surface-at.is ∙ get_or_default surface at c.index-surface-at.result None within) ∙ ap (brought (cell_at surface at)) c.cell.ensures.cell)
-          c.brought.ensures.high c.brought.ensures.low
-          (c.in_ok-push.ensures.items ∙ ap (λ (z : ℤ). c.loop-at.amounts.items ++ z ∷ []) same);
-      picks = search (rules, arith);
-    }
+    let within : at < length surface = omega (arith, c.loop-at-test.true) in
+    brought_more surface weights at c.loop-at.amounts.items c.push.new.self.items c.brought.result c.loop-at.invariant
+    (c.brought.ensures.brought ∙ ap (λ o. brought o c.index-weights-at.result) (c.index-surface-at.is ∙ get_or_default surface at c.index-surface-at.result None within) ∙ ap (brought (cell_at surface at)) (c.index-weights-at.is ∙ get_or_default weights at c.index-weights-at.result None (omega (arith, within, c.requires))))
+    c.brought.ensures.high c.brought.ensures.low
+    (c.in_ok-push.ensures.items ∙ ap (λ (z : ℤ). c.loop-at.amounts.items ++ z ∷ []) same)
