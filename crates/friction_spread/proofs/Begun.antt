@@ -1,27 +1,17 @@
 -- How a repair begins.
-use Rattle.std.proofs.Common.{◌≡◌, inl, inr, ℕ, zero, suc, ◌<◌, ◌≤◌, List, [], length, map, Option, Some, None, refl, sym, ◌∙◌, ap, subst, arith, ℤ}
+use Rattle.std.proofs.Common.{◌≡◌, ℕ, zero, suc, ◌<◌, ◌≤◌, List, length, map, Option, Some, None, refl, sym, ◌∙◌, arith, ℤ}
 use Rattle.std.specs.Prelude.{◌==◌, if◌then◌else◌}
-use Rattle.std.proofs.lemmas.Bool.{cases_lt, lt-leb}
 use Rattle.std.proofs.lemmas.Bool.Decides.{nat_tests}
-use Rattle.std.proofs.lemmas.List.{get_or_past, ext_get_or}
+use Rattle.std.proofs.lemmas.List.{ext_get_or}
 use Rattle.std.proofs.lemmas.List.FromFn.{get_or-map-range_with_len, length-map-range_with_len}
 use Rattle.map_nums.specs.Grids.{Size, Cells, cell_at, cells_in, places}
 use Rattle.map_defs.specs.Nets.{Net, IsWithin}
-use Rattle.map_defs.specs.Rounds.{cost_cell}
 use Rattle.tile_work.specs.Working.{begun_cells, base_of}
-use Rattle.friction_spread.specs.Costs.{cost_of, AreCosts}
 use Rattle.least_costs.specs.Ranks.{sum_to, changed}
 use Rattle.least_costs.specs.Queue.{IsQueued}
 use Rattle.least_costs.specs.Best.{IsRepairing, same}
 
 -- ---- cells that a working layer begins with
-
-pub null_cell : (s : Size) (i : ℕ) → cell_at (begun_cells s None) i ≡ None
-unfolding begun_cells
-null_cell s i = elim (cases_lt i (cells_in s)) as (λ _. cell_at (map (cell_at []) (places s)) i ≡ None) [
-  | inl l ↦ get_or-map-range_with_len (cell_at []) 0 (cells_in s) i i None l (omega arith)
-  | inr l ↦ get_or_past (map (cell_at []) (places s)) i None (omega (arith, l, length-map-range_with_len (cell_at []) 0 (cells_in s)))
-]
 
 pub begun_count : (s : Size) (before : Option (List (Option ℤ))) → length (begun_cells s before) ≡ cells_in s
 unfolding begun_cells
@@ -55,6 +45,3 @@ start g old d entries w e m q = record {
   ranked = λ i. same (e i);
   moved_is = sym (none_moved old d g.size e);
 }
-
-pub null_costs : (limit : ℕ) (extent : Size) (cells : Cells) → cells ≡ begun_cells extent None → AreCosts limit cells
-null_costs limit extent cells c i = let P : Option ℤ → Type 0 = λ x. x ≡ cost_cell limit (cost_of (suc limit) x) in subst P (sym (ap (λ xs. cell_at xs i) c ∙ null_cell extent i)) (sym (rw (lt-leb (suc limit) limit (omega arith)) refl))

@@ -16,7 +16,7 @@ use Rattle.layer_tiles.specs.ChangeFacts.{IsChange, HoldsNoUnchanged}
 use Rattle.layer_tiles.proofs.Rounds.{back}
 use Rattle.tile_work.specs.Working.{WorkState, copies, base_of}
 use Rattle.tile_work.proofs.Copies.{copies_few}
-use Rattle.changed_cells.proofs.Joining.{fewer, filter_most, differs_so}
+use Rattle.changed_cells.proofs.Joining.{fewer, differs_so}
 use Rattle.changed_cells.proofs.Touching.{touched_few, has_so, changed_has}
 use Rattle.friction_spread.specs.Costs.{GroundState, cost_of, values}
 use Rattle.friction_spread.specs.Copied.{IsMoved, HasMoved, IsCaused}
@@ -100,6 +100,7 @@ repair_looks s limit sources friction old now t u e f a b m n holds also =
     let z = fewer (tile_has s (differs old now)) p (tiles s) (λ t h. or_right (square_has 0 s test t) (tile_has s (differs old now) t) h) in
     omega (arith, x, y, z)
 
-pub first_looks : (s : Size) (limit : ℕ) (before after : List Cells) (p : ℕ → Bool) (now : Cells) (t u : Term) → 3 * length (filter p (tiles s)) ≤ 32 * length (op_damage (spread_op limit t u) s before after None now)
+-- a look at each tile of both operands
+pub first_looks : (s : Size) (limit : ℕ) (before after : List Cells) (now : Cells) (t u : Term) → 2 * tiles_in s ≤ 32 * length (op_damage (spread_op limit t u) s before after None now)
 unfolding op_damage
-first_looks s limit before after p now t u = omega (arith, filter_most p (tiles s))
+first_looks s limit before after now t u = omega (arith, length-range_with_len 0 (tiles_in s))

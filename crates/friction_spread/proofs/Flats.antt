@@ -1,17 +1,13 @@
 -- Costs and frictions in lists.
-use Rattle.std.proofs.Common.{◌≡◌, inl, inr, ℕ, zero, suc, ◌+◌, ◌<◌, ◌≤◌, List, [], ◌∷◌, ◌++◌, length, length-append, get_or, Option, refl, sym, ◌∙◌, ap, subst, arith, ℤ}
+use Rattle.std.proofs.Common.{◌≡◌, inl, inr, ℕ, zero, suc, ◌+◌, ◌<◌, ◌≤◌, List, [], ◌∷◌, ◌++◌, length, length-append, get_or, refl, sym, ◌∙◌, ap, subst, arith}
 use Rattle.std.specs.Prelude.{slice_set, ◌==◌, if◌then◌else◌}
 use Rattle.std.proofs.lemmas.Bool.{cases_lt}
 use Rattle.std.proofs.lemmas.List.{get_or_default, get_or_past, get_or-set_same, get_or-set_other, get_or_append_left, get_or_push}
-use Rattle.map_defs.specs.Nets.{IsLeastIn}
 use Rattle.map_defs.specs.Spread.{friction_at}
-use Rattle.map_defs.proofs.Nets.{one_least}
-use Rattle.tile_work.specs.Working.{base_of}
 use Rattle.least_costs.specs.Queue.{IsSetTo}
 use Rattle.least_costs.specs.Filling.{IsFilling}
 use Rattle.least_costs.specs.Ranks.{sum_to, changed}
-use Rattle.friction_spread.specs.Costs.{GroundState, values, net_of}
-use Rattle.friction_spread.specs.Copied.{IsMoved}
+use Rattle.friction_spread.specs.Costs.{GroundState, net_of}
 use Rattle.friction_spread.specs.Flat.{costs_of, AreFrictions}
 
 -- ---- frictions
@@ -50,12 +46,7 @@ cost_set g costs new at v l e = record {
 pub none_tried : (g : GroundState) (d : ℕ → ℕ) (entries : List (ℕ × ℕ)) → ((i : ℕ) → d i ≡ suc g.limit) → IsFilling (net_of g) d entries
 none_tried g d entries none = record { most = λ i. omega (arith, none i); reached = λ i l. absurd (omega (arith, l, none i)); tried = λ i l. absurd (omega (arith, l, none i)) }
 
--- ---- costs that are written
-
-pub moved_where : (g : GroundState) (before : Option (List (Option ℤ))) (i v : ℕ) → base_of before ≡ [] → IsLeastIn (net_of g) i v → v < suc g.limit → IsMoved g before i
-moved_where g before i v b least l = λ c h q.
-    let e : values g.limit (base_of before) i ≡ suc g.limit = ap (λ xs. values g.limit xs i) b in
-    absurd (omega (arith, one_least (net_of g) i v (c i) least (h i), e, q, l))
+-- ---- places whose costs are others
 
 pub changed_begun : (o d : ℕ → ℕ) → 0 ≡ changed o d 0
 unfolding changed

@@ -5,6 +5,8 @@ pub mod Flats
 pub mod Seen
 pub mod Taking
 pub mod Settling
+pub mod Banding
+pub mod Showing
 pub mod Shown
 pub mod Begun
 pub mod Results

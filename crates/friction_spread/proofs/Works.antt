@@ -24,7 +24,7 @@ pub first_of : (limit : ℕ) (s : Size) (was now : List Cells) (cells : Cells) (
 unfolding op_work
 first_of limit s was now cells t u = refl
 
-pub first_case : (limit : ℕ) (s z : Size) (was now : List Cells) (tiles : List (ℕ × Block)) (worked : ℕ) (t u : Term) (b : Option LayerState) → b ≡ None → z ≡ s → worked ≡ first_work z (patched z [] tiles) → worked ≡ op_work (spread_op limit t u) s was now (before_of b) (patched s (base_of (before_of b)) tiles)
-first_case limit s z was now tiles worked t u b q r e =
+pub first_case : (limit : ℕ) (s : Size) (was now : List Cells) (tiles : List (ℕ × Block)) (worked : ℕ) (t u : Term) (b : Option LayerState) → b ≡ None → worked ≡ first_work s (patched s [] tiles) → worked ≡ op_work (spread_op limit t u) s was now (before_of b) (patched s (base_of (before_of b)) tiles)
+first_case limit s was now tiles worked t u b q e =
     let P : Option LayerState → Type 0 = λ o. worked ≡ op_work (spread_op limit t u) s was now (before_of o) (patched s (base_of (before_of o)) tiles) in
-    subst P (sym q) (e ∙ ap (λ (x : Size). first_work x (patched x [] tiles)) r ∙ first_of limit s was now (patched s [] tiles) t u)
+    subst P (sym q) (e ∙ first_of limit s was now (patched s [] tiles) t u)

@@ -2,6 +2,9 @@ pub mod Costs
 pub mod Spots
 pub mod Rows
 pub mod Flat
+pub mod Bands
+pub mod Joins
+pub mod Shown
 pub mod Copied
 pub mod Near
 pub mod Repairs

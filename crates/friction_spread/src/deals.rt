@@ -25,8 +25,8 @@ pub struct Dealt {
     pub first: bool,
 }
 
-/// What a place without a cost can have comes into the queue.
-fn offer_cost(queue: &mut Queue, cost: u64, top: u64, at: u32) -> Result<(), NoMemory>
+/// A place comes into the queue under what it costs, if it has a cost.
+pub fn offer_cost(queue: &mut Queue, cost: u64, top: u64, at: u32) -> Result<(), NoMemory>
     requires { top ≤ 2 ^ 31 }
     ensures kept { OnOk result (IsKept queue.old queue.new) }
     ensures there { OnOk result (cost < top → Contains queue.new (cost, at)) }

@@ -10,13 +10,14 @@ ghost use Rattle.friction_spread.specs.Rows.{RowRelaxed};
 ghost use Rattle.friction_spread.specs.Spots.{IsSpot, AreNear};
 
 use crate::equations::{least_step, weigh};
-use crate::ground::{Ground, Spot};
+use crate::flat::FlatGround;
+use crate::ground::Spot;
 use layer_tiles::NoMemory;
 use least_costs::Queue;
 
 /// The cost of a place near falls to the cost through this one, and the place comes into the queue, where that is below it.
 fn offer(
-    ground: &Ground<'_>,
+    ground: &FlatGround<'_>,
     friction: &[u32],
     costs: &mut [u32],
     queue: &mut Queue,
@@ -57,7 +58,7 @@ fn offer(
 
 /// The same for a row next to the place.
 fn offer_row(
-    ground: &Ground<'_>,
+    ground: &FlatGround<'_>,
     friction: &[u32],
     costs: &mut [u32],
     queue: &mut Queue,
@@ -89,7 +90,7 @@ fn offer_row(
 
 /// The same for all places near.
 fn offer_round(
-    ground: &Ground<'_>,
+    ground: &FlatGround<'_>,
     friction: &[u32],
     costs: &mut [u32],
     queue: &mut Queue,
@@ -119,7 +120,7 @@ fn offer_round(
 
 /// Deals with an entry that was taken out of the queue: where it is the cost of its place, that is offered to the places near.
 fn reach(
-    ground: &Ground<'_>,
+    ground: &FlatGround<'_>,
     friction: &[u32],
     costs: &mut [u32],
     queue: &mut Queue,
@@ -147,7 +148,7 @@ fn reach(
 
 /// Gives each place its least cost, where the sources have theirs and stand in the queue.
 pub fn fill(
-    ground: &Ground<'_>,
+    ground: &FlatGround<'_>,
     friction: &[u32],
     costs: &mut [u32],
     queue: &mut Queue,

@@ -1,15 +1,18 @@
 //! Least costs of spreading from sources over frictions, and their repair.
 //!
 //! `spread_repair` gives the tiles that change and the work that it took. The places that disagree with their equation stand in
-//! a queue (`least_costs`), and are put right in the order of their keys. Where there are no costs yet, they only fall: frictions and
-//! costs are kept in lists then, and the costs written at the end.
+//! a queue (`least_costs`), and are put right in the order of their keys. Where there are no costs yet, they only fall: cells, frictions
+//! and costs are kept in lists then, and the tiles made of the costs at the end. The rows may also be dealt out: `costs_of_band` finds
+//! the costs within a band of rows, and `spread_of_bands` those of the map from the bands'.
 #![tactic(auto)]
 
+mod bands;
 mod costs;
 mod deals;
 mod equations;
 mod fills;
 mod first;
+mod flat;
 mod ground;
 mod looks;
 mod offers;
@@ -18,5 +21,6 @@ mod repair;
 mod settle;
 mod shows;
 
+pub use bands::{CostBand, costs_of_band, spread_of_bands};
 pub use first::Repair;
 pub use repair::spread_repair;

@@ -19,7 +19,7 @@ ghost use Rattle.friction_spread.specs.Near.{AgreeFar, AreSeen};
 ghost use Rattle.friction_spread.specs.Repairs.{HoldsExactly, IsRightBefore, IsBaseFor, IsPatchFor};
 
 use crate::first::{Repair, first_costs};
-use crate::ground::Ground;
+use crate::ground::{Ground, limit_of};
 use crate::looks::look_round;
 use crate::settle::settle;
 use changed_cells::changed_places_of_both;
@@ -117,15 +117,6 @@ fn repair_layer<M: Tally>(
     Ok(repair)
 }
 
-/// A limit as a number of costs.
-fn limit_of(limit: Value) -> u32
-    requires { (pos 0 ≤ℤ limit) × (limit ≤ℤ pos 2000000000) }
-    ensures value { result ≡ nat_abs limit }
-    ensures low { result ≤ 2000000000 }
-{
-    limit as u32
-}
-
 /// The least costs of spreading: all of them where there were none, else those that were right before put right. The limit is the
 /// greatest cost that counts, of 0 to 2,000,000,000.
 pub fn spread_repair<M: Tally>(
@@ -153,8 +144,7 @@ pub fn spread_repair<M: Tally>(
             Ok(repair)
         }
         None => {
-            let ground = Ground::new(sources, friction, limit);
-            let repair = first_costs(alloc, &ground, tally)?;
+            let repair = first_costs(alloc, sources, friction, limit, tally)?;
             Ok(repair)
         }
     }

@@ -1,79 +1,148 @@
-//! Costs that stand in a list are written into a layer that had none.
-ghost use Rattle.std.specs.Prelude.{◌≡◌, ◌<◌, ◌≤◌, ◌+◌, ◌-◌, ◌==◌, ℕ, suc, length, [], IfOk, OnOk, OnErr, if◌then◌else◌};
+//! Costs that stand in a list, as the tiles of a layer.
+ghost use Rattle.std.specs.Prelude.{◌≡◌, ◌<◌, ◌≤◌, ℕ, suc, length, slice_index_or, None, [], IfOk};
+ghost use Rattle.map_nums.specs.Exact.{IsExact};
 ghost use Rattle.map_nums.specs.Grids.{cells_in};
-ghost use Rattle.map_defs.specs.Nets.{IsLeastIn};
-ghost use Rattle.layer_tiles.specs.Tallies.{RisesBy};
-ghost use Rattle.tile_work.specs.Working.{IsSameWork, base_of, copies};
-ghost use Rattle.least_costs.specs.Queue.{IsSetTo};
+ghost use Rattle.map_defs.specs.Rounds.{cost_cell};
+ghost use Rattle.layer_tiles.specs.Tiles.{tiles_in, tile_block};
+ghost use Rattle.tile_work.specs.Working.{IsPatchTo};
 ghost use Rattle.least_costs.specs.Ranks.{changed};
-ghost use Rattle.friction_spread.specs.Costs.{values, AreCosts, net_of};
-ghost use Rattle.friction_spread.specs.Copied.{IsCopiedWhere, IsCaused, HasMoved};
-ghost use Rattle.friction_spread.specs.Flat.{costs_of};
+ghost use Rattle.friction_spread.specs.Costs.{values};
+ghost use Rattle.friction_spread.specs.Shown.{shown_at, shown_cells};
 
-use crate::costs::write;
-use crate::ground::Ground;
-use layer_tiles::{NoMemory, Tally};
-use tile_work::Working;
+use layer_tiles::{Extent, KernelRefusal, NoMemory, Patch, Tile, Value};
+use map_nums::Wide;
+use std::alloc::Global;
+use tile_frame::{RowMaker, TileMaker, make_row, make_tile};
 
-/// Writes the cost of a place that had none, if there is one now: gives 1 then, else 0. One pick, and a look where its tile is copied.
-fn show<M: Tally>(
-    ground: &Ground<'_>,
-    labels: &mut Working<'_>,
-    at: u32,
-    cost: u64,
-    tally: &mut M,
-) -> Result<u64, NoMemory>
-    requires size { labels.old.size ≡ ground.now.size }
-    requires within { at < cells_in ground.now.size }
-    requires none { values ground.now.limit labels.old.cells at ≡ suc ground.now.limit }
-    requires most { cost ≤ suc ground.now.limit }
-    ensures same { IsSameWork labels.old labels.new }
-    ensures set { OnOk result (IsSetTo (values ground.now.limit labels.old.cells) at cost (values ground.now.limit labels.new.cells)) }
-    ensures one { IfOk result (λ n. n ≡ (if suc ground.now.limit == cost then 0 else 1)) }
-    ensures costs { OnOk result (AreCosts ground.now.limit labels.old.cells → AreCosts ground.now.limit labels.new.cells) }
-    ensures copied { IsCopiedWhere labels.old at (cost < suc ground.now.limit) labels.new }
-    ensures due { OnErr result (cost < suc ground.now.limit) }
-    ensures more { copies labels.old.copied ≤ copies labels.new.copied }
-    ensures tally { OnOk result (RisesBy (copies labels.new.copied - copies labels.old.copied) 1 (M.counts tally.old) (M.counts tally.new)) }
-    ensures wanted { OnErr result (RisesBy (copies labels.new.copied - copies labels.old.copied + 1) 1 (M.counts tally.old) (M.counts tally.new)) }
+/// All tiles.
+pub fn cost_patch(
+    alloc: Global,
+    extent: Extent,
+    limit: u32,
+    costs: &[u32],
+) -> Result<Patch, NoMemory>
+    requires limit { limit ≤ 2000000000 }
+    requires count { length costs.now ≡ cells_in extent }
+    ensures size { IfOk result (λ patch. patch.size ≡ extent) }
+    ensures patch { IfOk result (λ patch. IsPatchTo extent None (shown_cells extent limit costs.now) patch.tiles) }
 {
-    let top = ground.top();
-    if cost >= top {
-        return Ok(0);
+    let mut patch = Patch::new(alloc, extent);
+    for tile in 0..extent.tiles() {
+        let made = cost_tile(alloc, extent, tile, limit, costs)?;
+        patch.push(tile, made)?;
     }
-    write(ground, labels, at, cost, tally)?;
-    Ok(1)
+    Ok(patch)
 }
 
-/// Writes all costs, and counts them.
-pub fn show_all<M: Tally>(
-    ground: &Ground<'_>,
-    labels: &mut Working<'_>,
+/// One tile.
+fn cost_tile(
+    alloc: Global,
+    extent: Extent,
+    tile: u32,
+    limit: u32,
     costs: &[u32],
-    tally: &mut M,
-) -> Result<u64, NoMemory>
-    requires size { labels.old.size ≡ ground.now.size }
-    requires none { (i : ℕ) → values ground.now.limit labels.old.cells i ≡ suc ground.now.limit }
-    requires before { base_of labels.old.before ≡ [] }
-    requires count { length costs.now ≡ cells_in ground.now.size }
-    requires least { (i : ℕ) → IsLeastIn (net_of ground.now) i (costs_of ground.now costs.now i) }
-    requires begun { AreCosts ground.now.limit labels.old.cells }
-    requires caused { IsCaused ground.now labels.old }
-    ensures same { IsSameWork labels.old labels.new }
-    ensures costs { IfOk result (λ moved. AreCosts ground.now.limit labels.new.cells) }
-    ensures least { IfOk result (λ moved. (i : ℕ) → IsLeastIn (net_of ground.now) i (values ground.now.limit labels.new.cells i)) }
-    ensures moved { IfOk result (λ moved. moved ≡ changed (values ground.now.limit []) (values ground.now.limit labels.new.cells) (cells_in ground.now.size)) }
-    ensures caused { IsCaused ground.now labels.new }
-    ensures more { copies labels.old.copied ≤ copies labels.new.copied }
-    ensures tally { OnOk result (RisesBy (copies labels.new.copied - copies labels.old.copied) (cells_in ground.now.size) (M.counts tally.old) (M.counts tally.new)) }
-    ensures wanted { OnErr result (RisesBy (copies labels.new.copied - copies labels.old.copied + 1) (cells_in ground.now.size) (M.counts tally.old) (M.counts tally.new)) }
-    ensures due { OnErr result (HasMoved ground.now labels.old) }
+) -> Result<Tile, NoMemory>
+    requires within { tile < tiles_in extent }
+    requires limit { limit ≤ 2000000000 }
+    requires count { length costs.now ≡ cells_in extent }
+    ensures { IfOk result (λ made. made ≡ tile_block extent (shown_cells extent limit costs.now) tile) }
 {
-    let mut moved = 0;
-    for at in 0..ground.extent().cells() {
-        let cost = costs[at as usize] as u64;
-        let one = show(ground, labels, at, cost, tally)?;
-        moved += one;
+    let _rows = extent.rows();
+    let maker = CostTile {
+        extent,
+        tile,
+        limit,
+        costs,
+    };
+    match make_tile(alloc, &maker, extent, tile) {
+        Ok(made) => Ok(made),
+        Err(KernelRefusal::Overflow(_)) => unreachable!(),
+        Err(KernelRefusal::NoMemory) => Err(NoMemory),
     }
-    Ok(moved)
+}
+
+/// The costs, place by place, and the tile that is made of them.
+#[derive(Drop)]
+struct CostTile<'a> {
+    extent: Extent,
+    tile: u32,
+    limit: u32,
+    costs: &'a [u32],
+}
+
+impl<'a> TileMaker for CostTile<'a> {
+    ghost use Rattle.std.specs.Prelude.{◌≡◌, ◌≤◌, length};
+    ghost use Rattle.map_nums.specs.Grids.{IsSize, cells_in};
+    ghost use Rattle.layer_tiles.specs.PlaceByPlace.{cell_in};
+    ghost use Rattle.friction_spread.specs.Shown.{shown_at};
+
+    ghost value = { λ m r c. shown_at m.limit m.costs.now (cell_in m.extent m.tile r c) };
+
+    ghost makes = { λ m s t. (s ≡ m.extent) × (t ≡ m.tile) × IsSize s × (length m.costs.now ≡ cells_in s) × (m.limit ≤ 2000000000) };
+
+    fn row(&self, extent: Extent, tile: u32, r: u32, made: &mut Tile) -> Result<(), KernelRefusal> {
+        let place = extent.place(tile);
+        let start = (place.top + r) * extent.columns() + place.left;
+        let maker = CostRow {
+            limit: self.limit,
+            costs: self.costs,
+            start,
+        };
+        make_row(&maker, extent, tile, r, made)
+    }
+}
+
+/// The costs, place by place, and the place where a row begins.
+#[derive(Drop)]
+struct CostRow<'a> {
+    limit: u32,
+    costs: &'a [u32],
+    start: u32,
+}
+
+impl<'a> RowMaker for CostRow<'a> {
+    ghost use Rattle.std.specs.Prelude.{◌≡◌, ◌+◌, ◌<◌, ◌≤◌, length};
+    ghost use Rattle.friction_spread.specs.Shown.{shown_at};
+
+    ghost value = { λ m c. shown_at m.limit m.costs.now (m.start + c) };
+
+    ghost has = { λ m c. (m.start + c < length m.costs.now) × (m.limit ≤ 2000000000) };
+
+    fn value_at(&self, c: u32) -> Result<Option<Value>, Wide> {
+        shown(self.limit, self.costs, self.start as usize + c as usize)
+    }
+}
+
+/// What a place shows.
+fn shown(limit: u32, costs: &[u32], at: usize) -> Result<Option<Value>, Wide>
+    requires limit { limit ≤ 2000000000 }
+    requires within { at < length costs.now }
+    ensures { IsExact (shown_at limit costs.now at) result }
+{
+    Ok(value_of(limit, costs[at]))
+}
+
+/// The value of a cost, none above the limit.
+fn value_of(limit: u32, cost: u32) -> Option<Value>
+    requires { limit ≤ 2000000000 }
+    ensures { result ≡ cost_cell limit cost }
+{
+    if cost > limit {
+        return None;
+    }
+    Some(cost as i32)
+}
+
+/// How many costs are within the limit.
+pub fn count_costs(limit: u32, costs: &[u32]) -> u64
+    requires most { (k : ℕ) → slice_index_or costs.now k 0 ≤ suc limit }
+    requires count { length costs.now < 4294967296 }
+    ensures counted { result ≡ changed (values limit []) (λ i. slice_index_or costs.now i (suc limit)) (length costs.now) }
+    ensures few { result ≤ length costs.now }
+{
+    let mut count = 0;
+    for cost in costs {
+        count += u64::from(*cost <= limit);
+    }
+    count
 }

@@ -1,7 +1,6 @@
-use Rattle.std.proofs.Common.{◌≡◌, inl, inr, ℕ, ◌+◌, ◌≤◌, ap, subst, arith}
+use Rattle.std.proofs.Common.{◌≡◌, inl, inr, ℕ, ◌≤◌, ap, subst, arith}
 use Rattle.std.proofs.lemmas.Bool.{cases_lt}
 use Rattle.map_nums.specs.Grids.{cells_in}
-use Rattle.layer_tiles.proofs.Rising.{rises_none, rises_then, rises_within}
 use Rattle.friction_spread.specs.Costs.{base_of}
 use Rattle.friction_spread.specs.Flat.{costs_of}
 use Rattle.friction_spread.proofs.Grounds.{base_outside}
@@ -9,14 +8,13 @@ use Rattle.friction_spread.proofs.Flats.{none_tried}
 use Rattle.friction_spread.proofs.first.begin.Goals as goal
 
 pub loop-at-init : goal.loop-at-init
-loop-at-init g c = record {
+loop-at-init c = record {
   filling = none_tried c.args.ground.now (costs_of c.args.ground.now c.args.costs.now) c.args.queue.now c.requires.none;
   begun = λ i l. absurd (omega (arith, l));
-  picks = rises_none (g.M.Tally.counts c.args.tally.now);
 }
 
 pub loop-at-preserved : goal.loop-at-preserved
-loop-at-preserved g c =
+loop-at-preserved c =
     let gr = c.args.ground.now in
     let ok = c.in_ok-begin_at.ensures in
     let P : ℕ → Type 0 = λ i. costs_of gr c.begin_at.new.costs i ≤ base_of gr i in
@@ -26,11 +24,10 @@ loop-at-preserved g c =
         | inl m ↦ omega (arith, ok.falls i, c.loop-at.invariant.begun i m)
         | inr m ↦ (let q : c.loop-at.at ≡ i = omega (arith, l, m) in subst P q ok.begun)
       ];
-      picks = rises_within (0 + 0) (c.loop-at.at + 1) 0 (c.loop-at.at + 1) _ _ (omega arith) (omega arith) (rises_then 0 c.loop-at.at 0 1 _ _ _ c.loop-at.invariant.picks c.begin_at.ensures.pick);
     }
 
 pub returns-clause-begun : goal.returns-clause-begun
-returns-clause-begun g c = λ i.
+returns-clause-begun c = λ i.
     let gr = c.args.ground.now in
     elim (cases_lt i c.loop-at.at) as (λ _. costs_of gr c.loop-at.costs i ≤ base_of gr i) [
       | inl l ↦ c.loop-at.invariant.begun i l
