@@ -19,6 +19,7 @@ pub mod Rowing
 pub mod Stopping
 pub mod Finishing
 pub mod Filling
+pub mod Finding
 pub mod Sought
 pub mod Gathering
 pub mod Turning

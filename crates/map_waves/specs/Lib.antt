@@ -16,4 +16,5 @@ pub mod Begun
 pub mod Seating
 pub mod Refusals
 pub mod Filled
+pub mod Found
 pub mod Stops

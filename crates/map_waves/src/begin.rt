@@ -1,5 +1,5 @@
 //! The jobs of the statements that are at work.
-ghost use Rattle.std.specs.Prelude.{◌≡◌, ◌+◌, ◌*◌, ◌≤◌, length, IfOk, IfErr, sum_by};
+ghost use Rattle.std.specs.Prelude.{◌≡◌, ◌+◌, ◌*◌, ◌<◌, ◌≤◌, false, length, IfOk, IfErr, sum_by};
 ghost use Rattle.std.specs.List.{All};
 ghost use Rattle.map_defs.specs.Ops.{terms_of};
 ghost use Rattle.layer_tiles.specs.Operands.{cells_after};
@@ -18,11 +18,14 @@ use crate::halts::Halt;
 use crate::jobs::{Jobs, Maker};
 use crate::keeping::Kept;
 use crate::operands::kept_of;
+use crate::parts::found_of;
 use crate::plans::{Base, Step};
 use crate::tasks::Task;
 use layer_tiles::{Operands, Tally};
 use map_nums::NoMemory;
 use std::alloc::Global;
+use std::thread::Threads;
+use tile_workers::Gate;
 
 /// What a statement is repaired from; none where the edit wrote it.
 fn repaired_from<'a, O, B>(base: &Base<'a, B>, step: &Step<O>) -> Option<&'a Kept<B>>
@@ -35,8 +38,11 @@ fn repaired_from<'a, O, B>(base: &Base<'a, B>, step: &Step<O>) -> Option<&'a Kep
 }
 
 /// The jobs of a statement that doesn't stay as it was.
-fn begin_step<'o, 'a, K: Maker, M: Tally>(
+fn begin_step<'o, 'a, K: Maker + Sync, M: Tally + Send, G: Gate + Sync, R: Threads + Sync>(
+    rt: &R,
     alloc: Global,
+    workers: u32,
+    gate: &G,
     base: &Base<'a, K::Beside>,
     step: &'o Step<K::Op>,
     operands: &'o Operands<'a>,
@@ -46,25 +52,37 @@ fn begin_step<'o, 'a, K: Maker, M: Tally>(
     requires operands { All (IsOperand base.now.extent) operands.now }
     requires terms { length operands.now ≡ length (terms_of (K.means step.now.op)) }
     requires right { IsRightKept K.suits base.now.extent (K.means step.now.op) operands.now (reckoned_kept base.now step.now) }
+    requires workers { (0 < workers) × (workers ≤ 64) }
+    requires whole { 1 < workers → ((M.counts tally.old).is_part ≡ false) × ((M.counts tally.old).parts_out ≡ 0) }
     ensures over { IfOk result (λ j. AreOver j base.now.extent step.now.op operands.now (reckoned_kept base.now step.now)) }
     ensures jobs { IfOk result (λ j. AreJobs K.means K.sound K.first K.looks K.picks K.pieces j) }
     ensures halt { IfErr result (IsHalt base.now.extent (K.means step.now.op) (cells_after operands.now)) }
     ensures tally { RisesBy (60 * length (damage_by base.now.extent (K.means step.now.op) (was_of (reckoned_kept base.now step.now)) operands.now)) (1000 * work_by base.now.extent (K.means step.now.op) (was_of (reckoned_kept base.now step.now)) operands.now) (M.counts tally.old) (M.counts tally.new) }
     ensures found { IfOk result (λ j. RisesBy (K.first j) 0 (M.counts tally.old) (M.counts tally.new)) }
 {
-    K::jobs_of(
-        alloc,
-        &step.op,
-        operands,
-        repaired_from(base, step),
-        base.extent,
-        tally,
-    )
+    let kept = repaired_from(base, step);
+    let extent = base.extent;
+    let Ok(found) = found_of::<K, M, G, R>(
+        rt, alloc, workers, gate, &step.op, operands, kept, extent, tally,
+    ) else {
+        return Err(Halt::NoMemory);
+    };
+    K::jobs_of(alloc, &step.op, operands, kept, extent, found, tally)
 }
 
 /// The jobs of all statements at work, up to one with too many viewers: its place, and how many there are.
-pub(crate) fn begin_all<'o, 'a, K: Maker, M: Tally>(
+pub(crate) fn begin_all<
+    'o,
+    'a,
+    K: Maker + Sync,
+    M: Tally + Send,
+    G: Gate + Sync,
+    R: Threads + Sync,
+>(
+    rt: &R,
     alloc: Global,
+    workers: u32,
+    gate: &G,
     base: &Base<'a, K::Beside>,
     steps: &'o [Step<K::Op>],
     tasks: &'o [Task<'a>],
@@ -77,6 +95,8 @@ pub(crate) fn begin_all<'o, 'a, K: Maker, M: Tally>(
     NoMemory,
 >
     requires tasks { All (IsTask K.means K.formed K.suits base.now steps.now) tasks.now }
+    requires workers { (0 < workers) × (workers ≤ 64) }
+    requires whole { 1 < workers → ((M.counts tally.old).is_part ≡ false) × ((M.counts tally.old).parts_out ≡ 0) }
     ensures begun { IfOk result (λ q. AreBegun K.means K.sound K.first K.looks K.picks K.pieces base.now steps.now tasks.now q.0.items) }
     ensures halted { IfOk result (λ q. IsHalted (plan_of K.means base.now steps.now) tasks.now (length q.0.items) q.1) }
     ensures rises { let plan = plan_of K.means base.now steps.now in
@@ -86,7 +106,16 @@ pub(crate) fn begin_all<'o, 'a, K: Maker, M: Tally>(
 {
     let mut jobs = Vec::new(alloc);
     for task in tasks {
-        match begin_step::<K, M>(alloc, base, &steps[task.place], &task.operands, tally) {
+        match begin_step::<K, M, G, R>(
+            rt,
+            alloc,
+            workers,
+            gate,
+            base,
+            &steps[task.place],
+            &task.operands,
+            tally,
+        ) {
             Ok(own) => jobs.push(own)?,
             Err(halt) => {
                 let Halt::Viewers(count) = halt else {

@@ -30,11 +30,12 @@ impl<'o, 'a, O, B, W> Model for Jobs<'o, 'a, O, B, W> {
 
 /// Makes a statement's jobs, does single ones, and gathers their pieces.
 pub trait Maker {
-    ghost use Rattle.std.specs.Prelude.{ℕ, ◌≡◌, ◌*◌, ◌<◌, List, length, Ok, Some, Option, Result, IfOk, IfErr, slice_get};
+    ghost use Rattle.std.specs.Prelude.{ℕ, ◌≡◌, ◌*◌, ◌^◌, ◌<◌, ◌≤◌, List, length, Ok, Some, Option, Result, IfOk, IfErr, IfSome, slice_get};
     ghost use Rattle.std.specs.List.{All};
     ghost use Rattle.map_nums.specs.Grids.{Size, Cells};
     ghost use Rattle.map_defs.specs.Ops.{Op, terms_of};
-    ghost use Rattle.layer_tiles.specs.Tallies.{RisesBy};
+    ghost use Rattle.layer_tiles.specs.Changes.{ChangeState};
+    ghost use Rattle.layer_tiles.specs.Tallies.{TallyState, RisesBy};
     ghost use Rattle.layer_tiles.specs.Operands.{cells_after};
     ghost use Rattle.layer_tiles.specs.declared.kernels.KernelRefusal.{KernelRefusal};
     ghost use Rattle.map_waves.specs.Statements.{damage_by, work_by};
@@ -43,6 +44,7 @@ pub trait Maker {
     ghost use Rattle.map_waves.specs.Jobs.{JobsState, AreOver, was_in};
     ghost use Rattle.map_waves.specs.Answers.{AreJobs, IsHalt};
     ghost use Rattle.map_waves.specs.Gathered.{IsRepaired};
+    ghost use Rattle.map_waves.specs.Found.{AreFound};
 
     /// An operation as it is written.
     type Op: Sync;
@@ -56,6 +58,12 @@ pub trait Maker {
     /// What a job makes.
     type Piece: Drop + Send;
 
+    /// What parts of a layer that was not there are found from.
+    type Ground: Drop + Sync;
+
+    /// What is found of such a part.
+    type Part: Drop + Send;
+
     /// The operation that is meant.
     ghost means: { Self.Op → Op };
 
@@ -65,10 +73,19 @@ pub trait Maker {
     /// What is kept beside the layer of an operation is right for operands with these cells.
     ghost suits: { Size → Op → List Cells → Self.Beside → Type 0 };
 
+    /// So many parts can be found from a ground.
+    ghost grounded: { Size → Op → List ChangeState → ℕ → Self.Ground → Type 0 };
+
+    /// What may be found of a part: of so many, by its number.
+    ghost part: { Size → Op → List ChangeState → ℕ → ℕ → Self.Part → Type 0 };
+
+    /// The looks that a ground takes at most.
+    ghost grounding: { Size → Op → Option Cells → List ChangeState → ℕ };
+
     /// What the jobs rest on.
     ghost sound: { JobsState Self.Op Self.Beside Self.Own → Type 0 };
 
-    /// The looks that finding the damage takes at most.
+    /// The looks that finding the damage, and what the parts are found from, takes at most.
     ghost first: { JobsState Self.Op Self.Beside Self.Own → ℕ };
 
     /// The looks that a job takes at most.
@@ -80,24 +97,62 @@ pub trait Maker {
     /// What a job may answer.
     ghost pieces: { JobsState Self.Op Self.Beside Self.Own → ℕ → Result Self.Piece KernelRefusal → Type 0 };
 
-    /// The jobs of a statement: those of its whole damage, from what is kept, or of all tiles where nothing is.
+    /// What so many workers can find parts of a statement's layer from, and how many parts, where the layer was not there and is one that
+    /// they make.
+    fn ground_of<M: Tally>(
+        alloc: Global,
+        op: &Self::Op,
+        operands: &Operands<'_>,
+        kept: Option<&Kept<Self::Beside>>,
+        extent: Extent,
+        workers: u32,
+        tally: &mut M,
+    ) -> Result<Option<(Self::Ground, u64)>, NoMemory>
+        requires formed { formed op.now }
+        requires operands { All (IsOperand extent) operands.now }
+        requires terms { length operands.now ≡ length (terms_of (means op.now)) }
+        ensures ground { IfOk result (λ found. IfSome found (λ q. grounded extent (means op.now) operands.now q.1 q.0)) }
+        ensures few { IfOk result (λ found. IfSome found (λ q. q.1 < 2 ^ 32)) }
+        ensures fit { grounding extent (means op.now) (was_of (kept_now kept.entry)) operands.now ≤ 60 * length (damage_by extent (means op.now) (was_of (kept_now kept.entry)) operands.now) }
+        ensures looks { RisesBy (grounding extent (means op.now) (was_of (kept_now kept.entry)) operands.now) 0 (M.counts tally.old) (M.counts tally.new) };
+
+    /// Finds one of so many parts. It reads nothing.
+    fn find_part(
+        alloc: Global,
+        op: &Self::Op,
+        operands: &Operands<'_>,
+        extent: Extent,
+        ground: &Self::Ground,
+        count: u64,
+        k: u64,
+    ) -> Result<Self::Part, NoMemory>
+        requires ground { ∥ grounded extent (means op.now) operands.now count ground.now ∥₁ }
+        requires below { k < count }
+        ensures { IfOk result (part extent (means op.now) operands.now count k) };
+
+    /// The jobs of a statement: those of its whole damage, from what is kept, or of all tiles where nothing is; of the parts that were
+    /// found, where they were.
     fn jobs_of<'o, 'a, M: Tally>(
         alloc: Global,
         op: &'o Self::Op,
         operands: &'o Operands<'a>,
         kept: Option<&'a Kept<Self::Beside>>,
         extent: Extent,
+        found: Option<(Self::Ground, Vec<Self::Part>)>,
         tally: &mut M,
     ) -> Result<Jobs<'o, 'a, Self::Op, Self::Beside, Self::Own>, Halt>
         requires formed { formed op.now }
         requires operands { All (IsOperand extent) operands.now }
         requires terms { length operands.now ≡ length (terms_of (means op.now)) }
         requires right { IsRightKept suits extent (means op.now) operands.now (kept_now kept) }
+        requires found { IfSome found (λ q. AreFound grounded part extent (means op.now) operands.now q.0 q.1.items) }
         ensures over { IfOk result (λ j. AreOver j extent op.entry.now operands.entry.now (kept_now kept.entry)) }
         ensures jobs { IfOk result (λ j. AreJobs means sound first looks picks pieces j) }
         ensures halt { IfErr result (IsHalt extent (means op.entry.now) (cells_after operands.entry.now)) }
-        ensures tally { RisesBy (60 * length (damage_by extent (means op.entry.now) (was_of (kept_now kept.entry)) operands.entry.now)) (1000 * work_by extent (means op.entry.now) (was_of (kept_now kept.entry)) operands.entry.now) (M.counts tally.old) (M.counts tally.new) }
-        ensures found { IfOk result (λ j. RisesBy (first j) 0 (M.counts tally.old) (M.counts tally.new)) };
+        ensures tally { let was = was_of (kept_now kept.entry) in
+            (c : TallyState) → RisesBy (grounding extent (means op.entry.now) was operands.entry.now) 0 c (M.counts tally.old) → RisesBy (60 * length (damage_by extent (means op.entry.now) was operands.entry.now)) (1000 * work_by extent (means op.entry.now) was operands.entry.now) c (M.counts tally.new) }
+        ensures found { let was = was_of (kept_now kept.entry) in
+            IfOk result (λ j. (c : TallyState) → RisesBy (grounding extent (means op.entry.now) was operands.entry.now) 0 c (M.counts tally.old) → RisesBy (first j) 0 c (M.counts tally.new)) };
 
     /// Does one job.
     fn do_job<M: Tally>(

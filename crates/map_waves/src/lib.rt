@@ -14,6 +14,7 @@ mod jobs;
 mod keeping;
 mod laws;
 mod operands;
+mod parts;
 mod phases;
 mod placing;
 mod plans;

@@ -58,7 +58,8 @@ fn repair_tasks<'o, 'a, K: Maker + Sync, M: Tally + Send, G: Gate + Sync, R: Thr
     ensures tally { let plan = plan_of K.means base.now steps.now in
         RisesBy (62 * (evaluated_to plan end - evaluated_to plan first)) (1000 * (worked_to plan end - worked_to plan first)) (M.counts tally.old) (M.counts tally.new) }
 {
-    let Ok(begun) = begin_all::<K, M>(alloc, base, steps, tasks, tally) else {
+    let Ok(begun) = begin_all::<K, M, G, R>(rt, alloc, workers, gate, base, steps, tasks, tally)
+    else {
         return Err(Stop::NoMemory);
     };
     let (jobs, halted) = begun;

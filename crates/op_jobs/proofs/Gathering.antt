@@ -171,3 +171,4 @@ repaired j jobs patch m is own p e =
 pub made_repaired : (j : StatementJobs) (own : Own) (patch : PatchState) (m : Made Beside) → IsSound j → j.own ≡ own → IsTilePatch j.size (was_in j) (now_in j) patch → IsMadeOf patch own m → IsRepaired suits j.size (op_view j.op) j.operands (was_in j) m
 made_repaired j (an_own.Tiles jobs) patch m is own p e = repaired j jobs patch m is own p e
 made_repaired j (an_own.Whole set) patch m is own p e = absurd e
+made_repaired j (an_own.Made all work) patch m is own p e = absurd e

@@ -9,6 +9,10 @@ pub mod Following
 pub mod Grids
 pub mod Listing
 pub mod Near
+pub mod Starts
+pub mod SpreadBands
+pub mod FlowBands
+pub mod FreshOps
 pub mod Patching
 pub mod Quiet
 pub mod Ranges

@@ -23,6 +23,8 @@ use Rattle.map_waves.specs.Keeping.{IsRightKept}
 use Rattle.map_waves.specs.declared.keeping.Kept.{Kept}
 use Rattle.op_jobs.specs.Beside.{IsNothing, IsBook, AreViewers, suits}
 use Rattle.op_jobs.specs.Owning.{IsLocalOf, IsOwn}
+use Rattle.op_jobs.specs.Fresh.{IsGrounded}
+use Rattle.op_jobs.specs.declared.ground.Ground.{Ground}
 use Rattle.op_jobs.specs.Ranges.{IsInRange, HasRanges}
 use Rattle.op_jobs.specs.Sound.{StatementJobs, IsSound}
 use Rattle.op_jobs.specs.declared.beside.Beside.{Beside}
@@ -130,6 +132,15 @@ own_once s op operands was (an_own.Tiles jobs) =
     let beside : IsProp (suits s op (cells_after operands) jobs.beside) = suits_once s op (cells_after operands) jobs.beside in
     hlevel (local, beside, props)
 own_once s op operands was (an_own.Whole set) = hlevel props
+own_once s op operands was (an_own.Made patch work) = hlevel props
+
+-- ---- what parts are found from
+
+grounded_once : (s : Size) (op : Op) (operands : List ChangeState) (n : ℕ) (ground : Ground) → IsProp (IsGrounded s op operands n ground)
+grounded_once s op operands n ground = let formed : IsProp (HasRanges op) = op_once op in hlevel (formed, props)
+
+pub grounded_of : (s : Size) (op : Op) (operands : List ChangeState) (n : ℕ) (ground : Ground) → ∥ IsGrounded s op operands n ground ∥₁ → IsGrounded s op operands n ground
+grounded_of s op operands n ground is = ∥∥₁_elim is (grounded_once s op operands n ground) (λ x. x)
 
 -- ---- all of it
 

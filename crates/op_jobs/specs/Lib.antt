@@ -1,9 +1,11 @@
 pub mod Beside
 pub mod Changed
 pub mod Classes
+pub mod Fresh
 pub mod Kernels
 pub mod Others
 pub mod Owning
+pub mod Parts
 pub mod Pieces
 pub mod Ranges
 pub mod Sound

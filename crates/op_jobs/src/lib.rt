@@ -5,11 +5,16 @@
 
 mod beside;
 mod damage;
+mod flow_bands;
+mod fresh;
+mod ground;
 mod kernels;
 mod own;
+mod parts;
 mod pieces;
 mod sight;
 mod sight_jobs;
+mod spread_bands;
 mod statements;
 mod tiles;
 mod whole;
@@ -24,6 +29,7 @@ mod zonal_kernel;
 mod zonal_zones;
 
 pub use beside::Beside;
+pub use ground::{Ground, Part};
 pub use own::{Own, TileJobs};
 pub use pieces::Piece;
 pub use statements::Statements;

@@ -2,6 +2,7 @@
 
 use crate::beside::Beside;
 use damage_sets::TileSet;
+use layer_tiles::Patch;
 use local_ops::LocalOp;
 
 /// What the jobs of one statement share.
@@ -11,6 +12,8 @@ pub enum Own {
     Tiles(TileJobs),
     /// One job for all; and the tiles in which an operand changed, all of them where no layer is kept.
     Whole(TileSet),
+    /// No job: all tiles of a layer that was not there are made, and the units of work.
+    Made(Patch, u64),
 }
 
 /// What the jobs of a statement share that makes its tiles one by one.

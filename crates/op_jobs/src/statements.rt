@@ -1,6 +1,6 @@
 //! The jobs of each class of statements.
 
-ghost use Rattle.std.specs.Prelude.{◌*◌, length, IfOk, IfErr, IsTrue, not, ◌≡◌};
+ghost use Rattle.std.specs.Prelude.{◌≡◌, ◌*◌, length, None, IfOk, IfErr, IfSome, IsTrue};
 ghost use Rattle.std.specs.List.{All};
 ghost use Rattle.map_defs.specs.Damage.{has_work};
 ghost use Rattle.map_defs.specs.Ops.{terms_of};
@@ -8,23 +8,29 @@ ghost use Rattle.layer_tiles.specs.Operands.{cells_after};
 ghost use Rattle.layer_tiles.specs.Tallies.{RisesBy};
 ghost use Rattle.statement_parser.specs.Views.{op_view};
 ghost use Rattle.map_waves.specs.Answers.{IsHalt};
+ghost use Rattle.map_waves.specs.Found.{AreFound};
 ghost use Rattle.map_waves.specs.Keeping.{kept_now, was_of, IsRightKept};
 ghost use Rattle.map_waves.specs.Operands.{IsOperand};
 ghost use Rattle.map_waves.specs.Statements.{damage_by, work_by};
 ghost use Rattle.op_jobs.specs.Beside.{suits};
+ghost use Rattle.op_jobs.specs.Fresh.{IsGrounded, IsPart};
 ghost use Rattle.op_jobs.specs.Classes.{is_plain, is_sight, is_zonal};
 ghost use Rattle.op_jobs.specs.Owning.{IsOwn, count_of};
 ghost use Rattle.op_jobs.specs.Ranges.{HasRanges};
-ghost use Rattle.op_jobs.specs.Sound.{are_tiles, first_by};
+ghost use Rattle.op_jobs.specs.Sound.{is_made, is_whole};
 
 use crate::beside::Beside;
 use crate::damage::reached_tiles;
+use crate::fresh::{find_band, is_banded, lay, make_fresh};
+use crate::ground::{Ground, Part};
 use crate::own::Own;
+use crate::parts::parts_of;
 use crate::pieces::Piece;
 use crate::sight_jobs::sight_jobs;
 use crate::tiles::{do_tile, gather_tiles, tile_jobs};
-use crate::whole_jobs::{do_whole, gather_whole};
+use crate::whole_jobs::{do_whole, gather_made, gather_whole};
 use crate::zonal_jobs::zonal_jobs;
+use damage_sets::TileSet;
 use layer_tiles::{Extent, KernelRefusal, Operands, Tally};
 use map_nums::NoMemory;
 use map_waves::{Halt, Jobs, Kept, Made, Maker};
@@ -47,8 +53,7 @@ fn plain_own<M: Tally>(
     requires right { IsRightKept suits extent (op_view op.now) operands.now (kept_now kept) }
     ensures own { IfOk result (IsOwn extent (op_view op.entry.now) operands.entry.now (was_of (kept_now kept.entry))) }
     ensures halt { IfErr result (IsHalt extent (op_view op.entry.now) (cells_after operands.entry.now)) }
-    ensures tally { RisesBy (60 * length (damage_by extent (op_view op.entry.now) (was_of (kept_now kept.entry)) operands.entry.now)) (1000 * work_by extent (op_view op.entry.now) (was_of (kept_now kept.entry)) operands.entry.now) (M.counts tally.old) (M.counts tally.new) }
-    ensures found { IfOk result (λ own. RisesBy (first_by own (length (damage_by extent (op_view op.entry.now) (was_of (kept_now kept.entry)) operands.entry.now))) 0 (M.counts tally.old) (M.counts tally.new)) }
+    ensures looks { RisesBy (26 * length (damage_by extent (op_view op.entry.now) (was_of (kept_now kept.entry)) operands.entry.now)) 0 (M.counts tally.old) (M.counts tally.new) }
 {
     match tile_jobs(alloc, op, operands, kept, extent, tally) {
         Ok(jobs) => Ok(Own::Tiles(jobs)),
@@ -72,8 +77,7 @@ fn zonal_own<M: Tally>(
     requires right { IsRightKept suits extent (op_view op.now) operands.now (kept_now kept) }
     ensures own { IfOk result (IsOwn extent (op_view op.entry.now) operands.entry.now (was_of (kept_now kept.entry))) }
     ensures halt { IfErr result (IsHalt extent (op_view op.entry.now) (cells_after operands.entry.now)) }
-    ensures tally { RisesBy (60 * length (damage_by extent (op_view op.entry.now) (was_of (kept_now kept.entry)) operands.entry.now)) (1000 * work_by extent (op_view op.entry.now) (was_of (kept_now kept.entry)) operands.entry.now) (M.counts tally.old) (M.counts tally.new) }
-    ensures found { IfOk result (λ own. RisesBy (first_by own (length (damage_by extent (op_view op.entry.now) (was_of (kept_now kept.entry)) operands.entry.now))) 0 (M.counts tally.old) (M.counts tally.new)) }
+    ensures looks { RisesBy (26 * length (damage_by extent (op_view op.entry.now) (was_of (kept_now kept.entry)) operands.entry.now)) 0 (M.counts tally.old) (M.counts tally.new) }
 {
     match zonal_jobs(alloc, op, operands, kept, extent, tally) {
         Ok(jobs) => Ok(Own::Tiles(jobs)),
@@ -97,8 +101,7 @@ fn sight_own<M: Tally>(
     requires right { IsRightKept suits extent (op_view op.now) operands.now (kept_now kept) }
     ensures own { IfOk result (IsOwn extent (op_view op.entry.now) operands.entry.now (was_of (kept_now kept.entry))) }
     ensures halt { IfErr result (IsHalt extent (op_view op.entry.now) (cells_after operands.entry.now)) }
-    ensures tally { RisesBy (60 * length (damage_by extent (op_view op.entry.now) (was_of (kept_now kept.entry)) operands.entry.now)) (1000 * work_by extent (op_view op.entry.now) (was_of (kept_now kept.entry)) operands.entry.now) (M.counts tally.old) (M.counts tally.new) }
-    ensures found { IfOk result (λ own. RisesBy (first_by own (length (damage_by extent (op_view op.entry.now) (was_of (kept_now kept.entry)) operands.entry.now))) 0 (M.counts tally.old) (M.counts tally.new)) }
+    ensures looks { RisesBy (26 * length (damage_by extent (op_view op.entry.now) (was_of (kept_now kept.entry)) operands.entry.now)) 0 (M.counts tally.old) (M.counts tally.new) }
 {
     match sight_jobs(alloc, op, operands, kept, extent, tally) {
         Ok(jobs) => Ok(Own::Tiles(jobs)),
@@ -106,13 +109,35 @@ fn sight_own<M: Tally>(
     }
 }
 
-/// What the one job of an operation that is repaired whole rests on.
+/// A layer that was not there, from what was found of its bands; what its one job rests on where a cell is out of range.
+fn fresh_own(
+    alloc: Global,
+    op: &Op,
+    operands: &Operands<'_>,
+    extent: Extent,
+    ground: &Ground,
+    parts: Vec<Part>,
+) -> Result<Own, NoMemory>
+    requires class { IsTrue (has_work (op_view op.now)) }
+    requires operands_are { All (IsOperand extent) operands.now }
+    requires terms { length operands.now ≡ length (terms_of (op_view op.now)) }
+    requires found { AreFound IsGrounded IsPart extent (op_view op.now) operands.now ground.now parts.items }
+    ensures { IfOk result (IsOwn extent (op_view op.now) operands.now None) }
+{
+    match make_fresh(alloc, op, operands, extent, ground, parts)? {
+        Some((patch, work)) => Ok(Own::Made(patch, work)),
+        None => Ok(Own::Whole(TileSet::all(alloc, extent)?)),
+    }
+}
+
+/// What the one job of an operation that is repaired whole rests on; or its layer, where it was not there and its bands were found.
 fn whole_own<M: Tally>(
     alloc: Global,
     op: &Op,
     operands: &Operands<'_>,
     kept: Option<&Kept<Beside>>,
     extent: Extent,
+    found: Option<(Ground, Vec<Part>)>,
     tally: &mut M,
 ) -> Result<Own, Halt>
     requires formed { HasRanges (op_view op.now) }
@@ -120,11 +145,19 @@ fn whole_own<M: Tally>(
     requires operands_are { All (IsOperand extent) operands.now }
     requires terms { length operands.now ≡ length (terms_of (op_view op.now)) }
     requires right { IsRightKept suits extent (op_view op.now) operands.now (kept_now kept) }
+    requires found { IfSome found (λ q. AreFound IsGrounded IsPart extent (op_view op.now) operands.now q.0 q.1.items) }
     ensures own { IfOk result (IsOwn extent (op_view op.entry.now) operands.entry.now (was_of (kept_now kept.entry))) }
     ensures halt { IfErr result (IsHalt extent (op_view op.entry.now) (cells_after operands.entry.now)) }
-    ensures tally { RisesBy (60 * length (damage_by extent (op_view op.entry.now) (was_of (kept_now kept.entry)) operands.entry.now)) (1000 * work_by extent (op_view op.entry.now) (was_of (kept_now kept.entry)) operands.entry.now) (M.counts tally.old) (M.counts tally.new) }
-    ensures found { IfOk result (λ own. RisesBy (first_by own (length (damage_by extent (op_view op.entry.now) (was_of (kept_now kept.entry)) operands.entry.now))) 0 (M.counts tally.old) (M.counts tally.new)) }
+    ensures looks { RisesBy (26 * length (damage_by extent (op_view op.entry.now) (was_of (kept_now kept.entry)) operands.entry.now)) 0 (M.counts tally.old) (M.counts tally.new) }
 {
+    if kept.is_none() {
+        if let Some((ground, parts)) = found {
+            return match fresh_own(alloc, op, operands, extent, &ground, parts) {
+                Ok(own) => Ok(own),
+                Err(NoMemory) => Err(Halt::NoMemory),
+            };
+        }
+    }
     match reached_tiles(alloc, 0, operands, kept, extent, tally) {
         Ok(set) => Ok(Own::Whole(set)),
         Err(NoMemory) => Err(Halt::NoMemory),
@@ -138,20 +171,21 @@ fn own_of<M: Tally>(
     operands: &Operands<'_>,
     kept: Option<&Kept<Beside>>,
     extent: Extent,
+    found: Option<(Ground, Vec<Part>)>,
     tally: &mut M,
 ) -> Result<Own, Halt>
     requires formed { HasRanges (op_view op.now) }
     requires operands_are { All (IsOperand extent) operands.now }
     requires terms { length operands.now ≡ length (terms_of (op_view op.now)) }
     requires right { IsRightKept suits extent (op_view op.now) operands.now (kept_now kept) }
+    requires found { IfSome found (λ q. AreFound IsGrounded IsPart extent (op_view op.now) operands.now q.0 q.1.items) }
     ensures own { IfOk result (IsOwn extent (op_view op.entry.now) operands.entry.now (was_of (kept_now kept.entry))) }
     ensures halt { IfErr result (IsHalt extent (op_view op.entry.now) (cells_after operands.entry.now)) }
-    ensures tally { RisesBy (60 * length (damage_by extent (op_view op.entry.now) (was_of (kept_now kept.entry)) operands.entry.now)) (1000 * work_by extent (op_view op.entry.now) (was_of (kept_now kept.entry)) operands.entry.now) (M.counts tally.old) (M.counts tally.new) }
-    ensures found { IfOk result (λ own. RisesBy (first_by own (length (damage_by extent (op_view op.entry.now) (was_of (kept_now kept.entry)) operands.entry.now))) 0 (M.counts tally.old) (M.counts tally.new)) }
+    ensures looks { RisesBy (26 * length (damage_by extent (op_view op.entry.now) (was_of (kept_now kept.entry)) operands.entry.now)) 0 (M.counts tally.old) (M.counts tally.new) }
 {
     match op {
         Op::Flow { .. } | Op::Spread { .. } | Op::Region { .. } => {
-            whole_own(alloc, op, operands, kept, extent, tally)
+            whole_own(alloc, op, operands, kept, extent, found, tally)
         }
         Op::Zonal { .. } => zonal_own(alloc, op, operands, kept, extent, tally),
         Op::Sight { .. } => sight_own(alloc, op, operands, kept, extent, tally),
@@ -166,29 +200,50 @@ fn count_of(own: &Own) -> u64
     match own {
         Own::Tiles(jobs) => jobs.tiles.len() as u64,
         Own::Whole(_) => 1,
+        Own::Made(_, _) => 0,
     }
 }
 
 /// Whether one job repairs all.
 fn is_whole(own: &Own) -> bool
-    ensures { result ≡ not (are_tiles own.now) }
+    ensures { result ≡ is_whole own.now }
 {
     match own {
-        Own::Tiles(_) => false,
         Own::Whole(_) => true,
+        _ => false,
     }
 }
 
-/// The jobs of statements: a job for each tile of the damage where its tiles are made one by one, else one job.
+/// Whether all is made.
+fn is_made(own: &Own) -> bool
+    ensures { result ≡ is_made own.now }
+{
+    match own {
+        Own::Made(_, _) => true,
+        _ => false,
+    }
+}
+
+/// The jobs of statements: a job for each tile of the damage where its tiles are made one by one, one job where a layer is repaired
+/// whole, none where it was not there and is made of the bands that workers found.
 pub struct Statements;
 
 impl Maker for Statements {
-    ghost use Rattle.std.specs.Prelude.{◌≡◌, length, IfOk};
-    ghost use Rattle.map_waves.specs.Answers.{AreJobs};
+    ghost use Rattle.std.specs.Prelude.{◌≡◌, ◌*◌, length, IfOk, IfErr, IfSome};
+    ghost use Rattle.std.specs.List.{All};
+    ghost use Rattle.map_defs.specs.Ops.{terms_of};
+    ghost use Rattle.layer_tiles.specs.Operands.{cells_after};
+    ghost use Rattle.layer_tiles.specs.Tallies.{TallyState, RisesBy};
+    ghost use Rattle.map_waves.specs.Answers.{AreJobs, IsHalt};
+    ghost use Rattle.map_waves.specs.Found.{AreFound};
+    ghost use Rattle.map_waves.specs.Keeping.{kept_now, was_of, IsRightKept};
+    ghost use Rattle.map_waves.specs.Operands.{IsOperand};
+    ghost use Rattle.map_waves.specs.Statements.{damage_by, work_by};
     ghost use Rattle.map_waves.specs.Gathered.{IsRepaired};
-    ghost use Rattle.map_waves.specs.Jobs.{was_in};
+    ghost use Rattle.map_waves.specs.Jobs.{was_in, AreOver};
     ghost use Rattle.statement_parser.specs.Views.{op_view};
     ghost use Rattle.op_jobs.specs.Beside.{suits as what_suits};
+    ghost use Rattle.op_jobs.specs.Fresh.{IsGrounded, IsPart, grounding};
     ghost use Rattle.op_jobs.specs.Ranges.{HasRanges};
     ghost use Rattle.op_jobs.specs.Sound.{IsSound, IsPiece, ArePieces, first as first_looks, looks as job_looks, picks as job_picks};
 
@@ -200,11 +255,21 @@ impl Maker for Statements {
 
     type Piece = Piece;
 
+    type Ground = Ground;
+
+    type Part = Part;
+
     ghost means = { op_view };
 
     ghost formed = { λ o. HasRanges (op_view o) };
 
     ghost suits = { what_suits };
+
+    ghost grounded = { IsGrounded };
+
+    ghost part = { IsPart };
+
+    ghost grounding = { grounding };
 
     ghost sound = { IsSound };
 
@@ -216,16 +281,59 @@ impl Maker for Statements {
 
     ghost pieces = { IsPiece };
 
+    fn ground_of<M: Tally>(
+        alloc: Global,
+        op: &Op,
+        operands: &Operands<'_>,
+        kept: Option<&Kept<Beside>>,
+        extent: Extent,
+        workers: u32,
+        tally: &mut M,
+    ) -> Result<Option<(Ground, u64)>, NoMemory> {
+        let parts = parts_of(extent.rows(), workers);
+        if kept.is_some() || parts < 2 || !is_banded(op) {
+            return Ok(None);
+        }
+        let ground = lay(alloc, op, operands, extent, parts, tally)?;
+        Ok(Some((ground, u64::from(parts))))
+    }
+
+    fn find_part(
+        alloc: Global,
+        op: &Op,
+        operands: &Operands<'_>,
+        extent: Extent,
+        ground: &Ground,
+        count: u64,
+        k: u64,
+    ) -> Result<Part, NoMemory> {
+        find_band(alloc, op, operands, extent, ground, count, k)
+    }
+
     fn jobs_of<'o, 'a, M: Tally>(
         alloc: Global,
         op: &'o Op,
         operands: &'o Operands<'a>,
         kept: Option<&'a Kept<Beside>>,
         extent: Extent,
+        found: Option<(Ground, Vec<Part>)>,
         tally: &mut M,
-    ) -> Result<Jobs<'o, 'a, Op, Beside, Own>, Halt> {
+    ) -> Result<Jobs<'o, 'a, Op, Beside, Own>, Halt>
+        requires formed { HasRanges (op_view op.now) }
+        requires operands { All (IsOperand extent) operands.now }
+        requires terms { length operands.now ≡ length (terms_of (op_view op.now)) }
+        requires right { IsRightKept what_suits extent (op_view op.now) operands.now (kept_now kept) }
+        requires found { IfSome found (λ q. AreFound IsGrounded IsPart extent (op_view op.now) operands.now q.0 q.1.items) }
+        ensures over { IfOk result (λ j. AreOver j extent op.entry.now operands.entry.now (kept_now kept.entry)) }
+        ensures jobs { IfOk result (λ j. AreJobs op_view IsSound first_looks job_looks job_picks IsPiece j) }
+        ensures halt { IfErr result (IsHalt extent (op_view op.entry.now) (cells_after operands.entry.now)) }
+        ensures tally { let was = was_of (kept_now kept.entry) in
+            (c : TallyState) → RisesBy (grounding extent (op_view op.entry.now) was operands.entry.now) 0 c (M.counts tally.old) → RisesBy (60 * length (damage_by extent (op_view op.entry.now) was operands.entry.now)) (1000 * work_by extent (op_view op.entry.now) was operands.entry.now) c (M.counts tally.new) }
+        ensures found { let was = was_of (kept_now kept.entry) in
+            IfOk result (λ j. (c : TallyState) → RisesBy (grounding extent (op_view op.entry.now) was operands.entry.now) 0 c (M.counts tally.old) → RisesBy (first_looks j) 0 c (M.counts tally.new)) }
+    {
         let _size = extent.tiles();
-        let own = own_of(alloc, op, operands, kept, extent, tally)?;
+        let own = own_of(alloc, op, operands, kept, extent, found, tally)?;
         let count = count_of(&own);
         Ok(Jobs {
             extent,
@@ -246,6 +354,7 @@ impl Maker for Statements {
         match &jobs.own {
             Own::Tiles(own) => do_tile(alloc, jobs, own, job, tally),
             Own::Whole(_) => do_whole(alloc, jobs, tally),
+            Own::Made(_, _) => unreachable!(),
         }
     }
 
@@ -259,6 +368,9 @@ impl Maker for Statements {
         requires each { ArePieces jobs pieces_made.items }
         ensures { IfOk result (IsRepaired what_suits jobs.entry.size (op_view jobs.entry.op) jobs.entry.operands (was_in jobs.entry)) }
     {
+        if is_made(&jobs.own) {
+            return Ok(gather_made(jobs));
+        }
         if is_whole(&jobs.own) {
             return Ok(gather_whole(&jobs, pieces_made));
         }

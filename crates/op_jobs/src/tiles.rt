@@ -157,7 +157,7 @@ fn made_of(patch: Patch, own: Own) -> Made<Beside>
             worked: 0,
             beside: jobs.beside,
         },
-        Own::Whole(_) => unreachable!(),
+        _ => unreachable!(),
     }
 }
 

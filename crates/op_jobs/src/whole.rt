@@ -21,7 +21,7 @@ use statement_parser::Op;
 use std::alloc::Global;
 
 /// Both operands of a statement that has two.
-fn both_of<'o, 'a>(operands: &'o Operands<'a>) -> (&'o Change<'a>, &'o Change<'a>)
+pub(crate) fn both_of<'o, 'a>(operands: &'o Operands<'a>) -> (&'o Change<'a>, &'o Change<'a>)
     requires { length operands.now ≡ 2 }
     ensures { operands.now ≡ result.0.now ∷ result.1.now ∷ [] }
 {

@@ -1,5 +1,5 @@
 //! The one job of a statement that is repaired whole.
-ghost use Rattle.std.specs.Prelude.{◌≡◌, ◌*◌, ◌<◌, Some, length, slice_get, IfOk, IsTrue, IsFalse};
+ghost use Rattle.std.specs.Prelude.{◌≡◌, ◌*◌, ◌<◌, Some, length, slice_get, IfOk, IsTrue};
 ghost use Rattle.std.specs.Option.{option_copied};
 ghost use Rattle.map_defs.specs.Damage.{has_work};
 ghost use Rattle.layer_tiles.specs.Tallies.{RisesBy};
@@ -10,7 +10,7 @@ ghost use Rattle.map_waves.specs.Keeping.{kept_now};
 ghost use Rattle.map_waves.specs.Statements.{work_by};
 ghost use Rattle.op_jobs.specs.Beside.{suits, layer_in};
 ghost use Rattle.op_jobs.specs.Pieces.{IsWholePiece};
-ghost use Rattle.op_jobs.specs.Sound.{IsSound, damage_in, ArePieces, are_tiles, FitsSet, IsMadeWhole};
+ghost use Rattle.op_jobs.specs.Sound.{IsSound, damage_in, ArePieces, is_whole, is_made, FitsSet, IsMadeWhole, IsMadeBefore};
 
 use crate::beside::Beside;
 use crate::own::Own;
@@ -40,7 +40,7 @@ pub(crate) fn do_whole<M: Tally>(
     tally: &mut M,
 ) -> Result<Piece, KernelRefusal>
     requires sound { IsSound jobs.now }
-    requires whole { IsFalse (are_tiles jobs.now.own) }
+    requires whole { IsTrue (is_whole jobs.now.own) }
     ensures piece { IsWholePiece jobs.now.size (op_view jobs.now.op) (was_in jobs.now) jobs.now.operands result }
     ensures tally { RisesBy (32 * damage_in jobs.now) (1000 * work_by jobs.now.size (op_view jobs.now.op) (was_in jobs.now) jobs.now.operands) (M.counts tally.old) (M.counts tally.new) }
 {
@@ -82,7 +82,7 @@ fn made_whole(set: &TileSet, piece: Piece) -> Made<Beside>
 /// The repaired layer, of the piece of the one job.
 pub(crate) fn gather_whole(jobs: &Jobs<'_, '_, Op, Beside, Own>, pieces: Vec<Piece>) -> Made<Beside>
     requires sound { IsSound jobs.now }
-    requires whole { IsFalse (are_tiles jobs.now.own) }
+    requires whole { IsTrue (is_whole jobs.now.own) }
     requires count { length pieces.items ≡ jobs.now.count }
     requires each { ArePieces jobs.now pieces.items }
     ensures { IsRepaired suits jobs.now.size (op_view jobs.now.op) jobs.now.operands (was_in jobs.now) result }
@@ -92,4 +92,30 @@ pub(crate) fn gather_whole(jobs: &Jobs<'_, '_, Op, Beside, Own>, pieces: Vec<Pie
     };
     let piece = first_piece(pieces);
     made_whole(set, piece)
+}
+
+/// What is made of a layer that was made before any job.
+fn made_before(own: Own, evaluated: u32) -> Made<Beside>
+    requires { IsTrue (is_made own) }
+    ensures { IsMadeBefore own evaluated result }
+{
+    match own {
+        Own::Made(patch, worked) => Made {
+            patch,
+            beside: Beside::Nothing,
+            evaluated,
+            worked,
+        },
+        _ => unreachable!(),
+    }
+}
+
+/// The layer that was made before any job.
+pub(crate) fn gather_made<'o, 'a>(jobs: Jobs<'o, 'a, Op, Beside, Own>) -> Made<Beside>
+    requires sound { IsSound jobs }
+    requires made { IsTrue (is_made jobs.own) }
+    ensures { IsRepaired suits jobs.entry.size (op_view jobs.entry.op) jobs.entry.operands (was_in jobs.entry) result }
+{
+    let evaluated = jobs.extent.tiles();
+    made_before(jobs.own, evaluated)
 }

@@ -2,21 +2,15 @@ use Rattle.std.proofs.Common.{◌*◌, length, arith}
 use Rattle.layer_tiles.proofs.Rising.{rises_within}
 use Rattle.statement_parser.specs.Views.{op_view}
 use Rattle.map_waves.specs.Keeping.{kept_now, was_of}
-use Rattle.map_waves.specs.Statements.{damage_by, work_by}
-use Rattle.op_jobs.proofs.Kept.{rises_more}
+use Rattle.map_waves.specs.Statements.{damage_by}
 use Rattle.op_jobs.proofs.statements.sight_own.Goals as goal
 
-pub returns-in-Ok-clause-tally : goal.returns-in-Ok-clause-tally
-returns-in-Ok-clause-tally g c =
+pub returns-in-Ok-clause-looks : goal.returns-in-Ok-clause-looks
+returns-in-Ok-clause-looks g c =
     let d = length (damage_by c.args.extent (op_view c.args.op.now) (was_of (kept_now c.args.kept)) c.args.operands.now) in
-    rises_more (5 * d) d (work_by c.args.extent (op_view c.args.op.now) (was_of (kept_now c.args.kept)) c.args.operands.now) _ _ (omega arith) c.sight_jobs.ensures.looks
+    rises_within (5 * d) 0 (26 * d) 0 _ _ (omega arith) (omega arith) c.sight_jobs.ensures.looks
 
-pub returns-in-Ok-clause-found : goal.returns-in-Ok-clause-found
-returns-in-Ok-clause-found g c =
+pub returns-in-Err-clause-looks : goal.returns-in-Err-clause-looks
+returns-in-Err-clause-looks g c =
     let d = length (damage_by c.args.extent (op_view c.args.op.now) (was_of (kept_now c.args.kept)) c.args.operands.now) in
-    rises_within (5 * d) 0 (34 * d) 0 _ _ (omega arith) (omega arith) c.sight_jobs.ensures.looks
-
-pub returns-in-Err-clause-tally : goal.returns-in-Err-clause-tally
-returns-in-Err-clause-tally g c =
-    let d = length (damage_by c.args.extent (op_view c.args.op.now) (was_of (kept_now c.args.kept)) c.args.operands.now) in
-    rises_more (5 * d) d (work_by c.args.extent (op_view c.args.op.now) (was_of (kept_now c.args.kept)) c.args.operands.now) _ _ (omega arith) c.sight_jobs.ensures.looks
+    rises_within (5 * d) 0 (26 * d) 0 _ _ (omega arith) (omega arith) c.sight_jobs.ensures.looks

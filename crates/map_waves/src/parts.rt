@@ -1,0 +1,144 @@
+//! Parts of layers that were not there, found by workers side by side.
+ghost use Rattle.std.specs.Prelude.{◌≡◌, ℕ, ◌*◌, ◌^◌, ◌<◌, ◌≤◌, false, length, Some, Ok, slice_get, IfOk, IfSome};
+ghost use Rattle.std.specs.List.{All};
+ghost use Rattle.map_defs.specs.Ops.{terms_of};
+ghost use Rattle.layer_tiles.specs.Tallies.{RisesBy};
+ghost use Rattle.map_waves.specs.Operands.{IsOperand};
+ghost use Rattle.map_waves.specs.Keeping.{kept_now, was_of};
+ghost use Rattle.map_waves.specs.Statements.{damage_by};
+ghost use Rattle.map_waves.specs.Found.{AreFound};
+
+use crate::jobs::Maker;
+use crate::keeping::Kept;
+use layer_tiles::{Extent, Operands, Tally};
+use map_nums::NoMemory;
+use std::alloc::Global;
+use std::thread::Threads;
+use tile_workers::{Gate, Seat, Work, run_phase};
+
+/// So many parts of a statement's layer, and what they are found from.
+#[derive(Drop)]
+struct Parts<'p, 'a, K: Maker> {
+    alloc: Global,
+    op: &'p K::Op,
+    operands: &'p Operands<'a>,
+    extent: Extent,
+    ground: &'p K::Ground,
+    count: u64,
+    ghost is_grounded: { ∥ K.grounded extent (K.means op.now) operands.now count ground.now ∥₁ },
+}
+
+impl<'p, 'a, K: Maker> Work for Parts<'p, 'a, K> {
+    ghost use Rattle.std.specs.Prelude.{IfOk};
+
+    type Done = Result<K::Part, NoMemory>;
+
+    ghost jobs = { λ w. w.count };
+
+    ghost looks = { λ w k. 0 };
+
+    ghost picks = { λ w k. 0 };
+
+    ghost answers = { λ w k d. IfOk d (K.part w.extent (K.means w.op.now) w.operands.now w.count k) };
+
+    fn job<M: Tally + Send>(
+        &self,
+        _seat: &Seat,
+        ticket: u64,
+        _tally: &mut M,
+    ) -> Result<K::Part, NoMemory> {
+        K::find_part(
+            self.alloc,
+            self.op,
+            self.operands,
+            self.extent,
+            self.ground,
+            self.count,
+            ticket,
+        )
+    }
+}
+
+/// What was found of all parts, where none wanted memory.
+fn all_found<P: Drop>(alloc: Global, answers: Vec<Result<P, NoMemory>>) -> Result<Vec<P>, NoMemory>
+    ensures count { IfOk result (λ parts. length parts.items ≡ length answers.items) }
+    ensures each { IfOk result (λ parts. (k : ℕ) (p : P) → slice_get parts.items k ≡ Some p → slice_get answers.items k ≡ Some (Ok p)) }
+{
+    let count = answers.len();
+    let mut rest = answers.into_iter();
+    let mut parts = Vec::with_capacity(alloc, count)?;
+    for _place in 0..count {
+        let Some(one) = rest.next() else {
+            unreachable!();
+        };
+        let Ok(part) = one else {
+            return Err(NoMemory);
+        };
+        parts.push(part)?;
+    }
+    Ok(parts)
+}
+
+/// All parts, by so many workers, of which there are no more than parts.
+fn find_all<K: Maker + Sync, M: Tally + Send, G: Gate + Sync, R: Threads + Sync>(
+    rt: &R,
+    alloc: Global,
+    workers: u32,
+    gate: &G,
+    op: &K::Op,
+    operands: &Operands<'_>,
+    extent: Extent,
+    ground: &K::Ground,
+    count: u64,
+    tally: &mut M,
+) -> Result<Vec<K::Part>, NoMemory>
+    requires ground { K.grounded extent (K.means op.now) operands.now count ground.now }
+    requires few { count < 2 ^ 32 }
+    requires workers { (0 < workers) × (workers ≤ 64) }
+    requires whole { 1 < workers → ((M.counts tally.old).is_part ≡ false) × ((M.counts tally.old).parts_out ≡ 0) }
+    ensures found { IfOk result (λ parts. AreFound K.grounded K.part extent (K.means op.now) operands.now ground.now parts.items) }
+    ensures quiet { RisesBy 0 0 (M.counts tally.old) (M.counts tally.new) }
+{
+    let hands = u64::from(workers).min(count).max(1) as u32;
+    let work: Parts<'_, '_, K> = Parts {
+        alloc,
+        op,
+        operands,
+        extent,
+        ground,
+        count,
+    };
+    let answers = run_phase(rt, alloc, count, hands, gate, tally, &work)?;
+    all_found(alloc, answers)
+}
+
+/// What workers find of a layer that was not there before its jobs begin, where it is one that they make.
+pub(crate) fn found_of<K: Maker + Sync, M: Tally + Send, G: Gate + Sync, R: Threads + Sync>(
+    rt: &R,
+    alloc: Global,
+    workers: u32,
+    gate: &G,
+    op: &K::Op,
+    operands: &Operands<'_>,
+    kept: Option<&Kept<K::Beside>>,
+    extent: Extent,
+    tally: &mut M,
+) -> Result<Option<(K::Ground, Vec<K::Part>)>, NoMemory>
+    requires formed { K.formed op.now }
+    requires operands { All (IsOperand extent) operands.now }
+    requires terms { length operands.now ≡ length (terms_of (K.means op.now)) }
+    requires workers { (0 < workers) × (workers ≤ 64) }
+    requires whole { 1 < workers → ((M.counts tally.old).is_part ≡ false) × ((M.counts tally.old).parts_out ≡ 0) }
+    ensures found { IfOk result (λ found. IfSome found (λ q. AreFound K.grounded K.part extent (K.means op.now) operands.now q.0 q.1.items)) }
+    ensures fit { K.grounding extent (K.means op.now) (was_of (kept_now kept.entry)) operands.now ≤ 60 * length (damage_by extent (K.means op.now) (was_of (kept_now kept.entry)) operands.now) }
+    ensures looks { RisesBy (K.grounding extent (K.means op.now) (was_of (kept_now kept.entry)) operands.now) 0 (M.counts tally.old) (M.counts tally.new) }
+{
+    let found = K::ground_of(alloc, op, operands, kept, extent, workers, tally)?;
+    let Some((ground, count)) = found else {
+        return Ok(None);
+    };
+    let parts = find_all::<K, M, G, R>(
+        rt, alloc, workers, gate, op, operands, extent, &ground, count, tally,
+    )?;
+    Ok(Some((ground, parts)))
+}

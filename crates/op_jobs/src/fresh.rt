@@ -1,0 +1,173 @@
+//! Layers that were not there, which workers make in bands of rows.
+ghost use Rattle.std.specs.Prelude.{◌≡◌, ℕ, ◌*◌, ◌<◌, ◌≤◌, length, None, Some, slice_get, IfOk, IfSome, IsTrue};
+ghost use Rattle.std.specs.List.{All};
+ghost use Rattle.map_nums.specs.Grids.{cells_in};
+ghost use Rattle.map_nums.specs.Numbers.{greatest_value};
+ghost use Rattle.map_nums.specs.Tiles.{tiles_in};
+ghost use Rattle.map_defs.specs.Operate.{operand};
+ghost use Rattle.map_defs.specs.Ops.{Term, terms_of, flow_op, spread_op};
+ghost use Rattle.layer_tiles.specs.Operands.{cells_after};
+ghost use Rattle.layer_tiles.specs.Tallies.{RisesBy};
+ghost use Rattle.statement_parser.specs.Views.{op_view};
+ghost use Rattle.map_waves.specs.Found.{AreFound};
+ghost use Rattle.map_waves.specs.Operands.{IsOperand};
+ghost use Rattle.op_jobs.specs.Fresh.{is_banded, IsGrounded, IsCosts, IsDowns, IsPart};
+ghost use Rattle.op_jobs.specs.Owning.{IsMadeFresh};
+ghost use Rattle.op_jobs.specs.Pieces.{IsWholeMade};
+ghost use Rattle.op_jobs.specs.Ranges.{HasRanges};
+ghost use Rattle.op_jobs.specs.declared.ground.Part.{Part};
+ghost use Rattle.friction_spread.specs.Bands.{ground_of};
+
+use crate::flow_bands::{find_downs, flow_by};
+use crate::ground::{Ground, Part};
+use crate::spread_bands::{find_costs, spread_by};
+use crate::whole::both_of;
+use flat_cells::cells_of;
+use layer_tiles::{Extent, Operands, Patch, Tally};
+use map_nums::NoMemory;
+use statement_parser::Op;
+use std::alloc::Global;
+
+/// Whether workers make the layer of an operation in bands where it was not there.
+pub(crate) fn is_banded(op: &Op) -> bool
+    ensures { result ≡ is_banded (op_view op.now) }
+{
+    match op {
+        Op::Flow { .. } | Op::Spread { .. } => true,
+        _ => false,
+    }
+}
+
+/// All cells of both operands. Two looks at each tile of the map.
+pub(crate) fn lay<M: Tally>(
+    alloc: Global,
+    op: &Op,
+    operands: &Operands<'_>,
+    extent: Extent,
+    parts: u32,
+    tally: &mut M,
+) -> Result<Ground, NoMemory>
+    requires formed { HasRanges (op_view op.now) }
+    requires banded { IsTrue (is_banded (op_view op.now)) }
+    requires operands_are { All (IsOperand extent) operands.now }
+    requires terms { length operands.now ≡ length (terms_of (op_view op.now)) }
+    requires some { 0 < parts }
+    requires few { parts ≤ extent.rows }
+    ensures ground { IfOk result (IsGrounded extent (op_view op.now) operands.now parts) }
+    ensures looks { RisesBy (2 * tiles_in extent) 0 (M.counts tally.old) (M.counts tally.new) }
+{
+    let (one, other) = both_of(operands);
+    let _one = one.extent();
+    let _other = other.extent();
+    let first = cells_of(alloc, one, tally)?;
+    let second = cells_of(alloc, other, tally)?;
+    Ok(Ground { first, second })
+}
+
+/// What is found of one of so many bands.
+pub(crate) fn find_band(
+    alloc: Global,
+    op: &Op,
+    operands: &Operands<'_>,
+    extent: Extent,
+    ground: &Ground,
+    count: u64,
+    k: u64,
+) -> Result<Part, NoMemory>
+    requires ground { IsGrounded extent (op_view op.now) operands.now count ground.now }
+    requires below { k < count }
+    ensures { IfOk result (IsPart extent (op_view op.now) operands.now count k) }
+{
+    let _rows = extent.rows();
+    let parts = count as u32;
+    match op {
+        Op::Spread { limit, .. } => {
+            let limit = limit.unsigned_abs();
+            let band = find_costs(alloc, extent, ground, limit, parts, k)?;
+            Ok(Part::Costs(band))
+        }
+        Op::Flow { .. } => {
+            let downs = find_downs(alloc, extent, ground, parts, k)?;
+            Ok(Part::Downs(downs))
+        }
+        _ => unreachable!(),
+    }
+}
+
+/// The least costs of a map that had none.
+fn fresh_spread(
+    alloc: Global,
+    operands: &Operands<'_>,
+    extent: Extent,
+    limit: u32,
+    ground: &Ground,
+    parts: Vec<Part>,
+) -> Result<(Patch, u64), NoMemory>
+    requires limit { limit ≤ greatest_value }
+    requires two { length operands.now ≡ 2 }
+    requires operands_are { All (IsOperand extent) operands.now }
+    requires first { ground.now.first.items ≡ operand (cells_after operands.now) 0 }
+    requires second { ground.now.second.items ≡ operand (cells_after operands.now) 1 }
+    requires first_count { length ground.now.first.items ≡ cells_in extent }
+    requires second_count { length ground.now.second.items ≡ cells_in extent }
+    requires some { 0 < length parts.items }
+    requires each { (k : ℕ) (p : Part) → slice_get parts.items k ≡ Some p → IsCosts (ground_of extent ground.now.first.items ground.now.second.items limit) (length parts.items) k p }
+    ensures { IfOk result (λ r. (t u : Term) → IsWholeMade extent (spread_op limit t u) None operands.now r.0 r.1) }
+{
+    let _extent = extent.tiles();
+    let repair = spread_by(alloc, extent, ground, limit, parts)?;
+    let _patch = repair.patch.extent();
+    Ok((repair.patch, repair.worked))
+}
+
+/// The flow of a map that had none, where it is in range.
+fn fresh_flow(
+    alloc: Global,
+    operands: &Operands<'_>,
+    extent: Extent,
+    ground: &Ground,
+    parts: Vec<Part>,
+) -> Result<Option<(Patch, u64)>, NoMemory>
+    requires two { length operands.now ≡ 2 }
+    requires operands_are { All (IsOperand extent) operands.now }
+    requires first { ground.now.first.items ≡ operand (cells_after operands.now) 0 }
+    requires second { ground.now.second.items ≡ operand (cells_after operands.now) 1 }
+    requires first_count { length ground.now.first.items ≡ cells_in extent }
+    requires second_count { length ground.now.second.items ≡ cells_in extent }
+    requires some { 0 < length parts.items }
+    requires each { (k : ℕ) (p : Part) → slice_get parts.items k ≡ Some p → IsDowns extent ground.now.first.items (length parts.items) k p }
+    ensures { IfOk result (λ found. IfSome found (λ r. (t u : Term) → IsWholeMade extent (flow_op t u) None operands.now r.0 r.1)) }
+{
+    let _extent = extent.tiles();
+    let found = flow_by(alloc, extent, ground, parts)?;
+    let Some(repair) = found else {
+        return Ok(None);
+    };
+    let _patch = repair.patch.extent();
+    Ok(Some((repair.patch, repair.worked)))
+}
+
+/// All tiles of a layer that was not there, and the units of work, from what was found of its bands; none where a cell is out of range.
+pub(crate) fn make_fresh(
+    alloc: Global,
+    op: &Op,
+    operands: &Operands<'_>,
+    extent: Extent,
+    ground: &Ground,
+    parts: Vec<Part>,
+) -> Result<Option<(Patch, u64)>, NoMemory>
+    requires operands_are { All (IsOperand extent) operands.now }
+    requires terms { length operands.now ≡ length (terms_of (op_view op.now)) }
+    requires found { AreFound IsGrounded IsPart extent (op_view op.now) operands.now ground.now parts.items }
+    ensures { IfOk result (λ found. IfSome found (λ r. IsMadeFresh extent (op_view op.now) operands.now None r.0 r.1)) }
+{
+    match op {
+        Op::Spread { limit, .. } => {
+            let limit = limit.unsigned_abs();
+            let made = fresh_spread(alloc, operands, extent, limit, ground, parts)?;
+            Ok(Some(made))
+        }
+        Op::Flow { .. } => fresh_flow(alloc, operands, extent, ground, parts),
+        _ => unreachable!(),
+    }
+}

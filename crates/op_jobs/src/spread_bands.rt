@@ -1,0 +1,96 @@
+//! The least costs of a map that had none, in bands of rows.
+ghost use Rattle.std.specs.Prelude.{◌≡◌, ℕ, suc, ◌<◌, ◌≤◌, length, Some, slice_get, [], IfOk};
+ghost use Rattle.map_nums.specs.Grids.{cells_in};
+ghost use Rattle.map_nums.specs.Numbers.{greatest_value};
+ghost use Rattle.map_defs.specs.Spread.{IsSpread};
+ghost use Rattle.map_defs.specs.Work.{first_work};
+ghost use Rattle.layer_tiles.specs.Patches.{patched, HoldsAll};
+ghost use Rattle.friction_spread.specs.Costs.{GroundState};
+ghost use Rattle.friction_spread.specs.Bands.{ground_of, IsCostBand};
+ghost use Rattle.friction_spread.specs.declared.bands.CostBand.{CostBand};
+ghost use Rattle.op_jobs.specs.Fresh.{IsCosts};
+ghost use Rattle.op_jobs.specs.Parts.{part_start};
+ghost use Rattle.op_jobs.specs.declared.ground.Part.{Part};
+ghost use Rattle.op_jobs.specs.declared.ground.Part.TheVariants.{Costs};
+
+use crate::ground::{Ground, Part};
+use crate::parts::part_start;
+use friction_spread::{CostBand, Repair, costs_of_band, spread_of_bands};
+use layer_tiles::{Extent, Value};
+use map_nums::NoMemory;
+use std::alloc::Global;
+
+/// The least costs within one of so many bands.
+pub(crate) fn find_costs(
+    alloc: Global,
+    extent: Extent,
+    ground: &Ground,
+    limit: u32,
+    parts: u32,
+    k: u64,
+) -> Result<CostBand, NoMemory>
+    requires limit { limit ≤ greatest_value }
+    requires first { length ground.now.first.items ≡ cells_in extent }
+    requires second { length ground.now.second.items ≡ cells_in extent }
+    requires few { parts ≤ extent.rows }
+    requires below { k < parts }
+    ensures { IfOk result (IsCostBand (ground_of extent ground.now.first.items ground.now.second.items limit) (part_start extent.rows parts k) (part_start extent.rows parts (suc k))) }
+{
+    let rows = extent.rows();
+    let first = part_start(rows, parts, k);
+    let end = part_start(rows, parts, k + 1);
+    let most = limit as Value;
+    costs_of_band(
+        alloc,
+        extent,
+        &ground.first,
+        &ground.second,
+        most,
+        first,
+        end,
+    )
+}
+
+/// The bands that were found.
+fn bands_of(alloc: Global, parts: Vec<Part>) -> Result<Vec<CostBand>, NoMemory>
+    requires { (g : GroundState) × (n : ℕ) × ((k : ℕ) (p : Part) → slice_get parts.items k ≡ Some p → IsCosts g n k p) }
+    ensures count { IfOk result (λ bands. length bands.items ≡ length parts.items) }
+    ensures each { IfOk result (λ bands. (k : ℕ) (b : CostBand) → slice_get bands.items k ≡ Some b → slice_get parts.items k ≡ Some (Costs b)) }
+{
+    let count = parts.len();
+    let mut rest = parts.into_iter();
+    let mut bands = Vec::with_capacity(alloc, count)?;
+    for _place in 0..count {
+        let Some(one) = rest.next() else {
+            unreachable!();
+        };
+        let Part::Costs(band) = one else {
+            unreachable!();
+        };
+        bands.push(band)?;
+    }
+    Ok(bands)
+}
+
+/// The least costs of a map that had none, from those of its bands.
+pub(crate) fn spread_by(
+    alloc: Global,
+    extent: Extent,
+    ground: &Ground,
+    limit: u32,
+    parts: Vec<Part>,
+) -> Result<Repair, NoMemory>
+    requires limit { limit ≤ greatest_value }
+    requires first { length ground.now.first.items ≡ cells_in extent }
+    requires second { length ground.now.second.items ≡ cells_in extent }
+    requires some { 0 < length parts.items }
+    requires each { (k : ℕ) (p : Part) → slice_get parts.items k ≡ Some p → IsCosts (ground_of extent ground.now.first.items ground.now.second.items limit) (length parts.items) k p }
+    ensures size { IfOk result (λ r. r.patch.size ≡ extent) }
+    ensures spread { IfOk result (λ r. IsSpread extent ground.now.first.items ground.now.second.items limit (patched extent [] r.patch.tiles)) }
+    ensures all { IfOk result (λ r. HoldsAll r.patch) }
+    ensures worked { IfOk result (λ r. r.worked ≡ first_work extent (patched extent [] r.patch.tiles)) }
+{
+    let most = limit as Value;
+    let bands = bands_of(alloc, parts)?;
+    spread_of_bands(alloc, extent, &ground.first, &ground.second, most, &bands)
+}
