@@ -18,7 +18,7 @@ pub const SQUARE: &str =
     "ncols 3\nnrows 3\nxllcorner 0\nyllcorner 0\ncellsize 1\n1 2 3\n4 5 6\n7 8 9\n";
 
 /// A session by its first grid.
-pub fn begun<R: AllocGlobal + Threads + Sync>(
+pub(crate) fn begun<R: AllocGlobal + Threads + Sync>(
     rt: &R,
     name: &str,
     grid: &str,
@@ -41,7 +41,7 @@ pub fn begun<R: AllocGlobal + Threads + Sync>(
 }
 
 /// What is said to a further grid.
-pub fn loaded<R: AllocGlobal + Threads + Sync>(
+pub(crate) fn loaded<R: AllocGlobal + Threads + Sync>(
     rt: &R,
     session: &mut Session,
     name: &str,
@@ -65,7 +65,7 @@ pub fn loaded<R: AllocGlobal + Threads + Sync>(
 }
 
 /// What is said to a line.
-pub fn said<R: AllocGlobal + Threads + Sync>(
+pub(crate) fn said<R: AllocGlobal + Threads + Sync>(
     rt: &R,
     session: &mut Session,
     line: &[u8],
@@ -76,7 +76,7 @@ pub fn said<R: AllocGlobal + Threads + Sync>(
 }
 
 /// A session says these texts to these lines.
-pub fn answers<R: AllocGlobal + Abort + Threads + Sync>(
+pub(crate) fn answers<R: AllocGlobal + Abort + Threads + Sync>(
     rt: &R,
     session: &mut Session,
     steps: &[(&str, &str)],
@@ -89,7 +89,7 @@ pub fn answers<R: AllocGlobal + Abort + Threads + Sync>(
 }
 
 /// A session by its first grid, which is accepted, says these texts to these lines.
-pub fn plays<R: AllocGlobal + Abort + Threads + Sync>(
+pub(crate) fn plays<R: AllocGlobal + Abort + Threads + Sync>(
     rt: &R,
     name: &str,
     grid: &str,
