@@ -1,8 +1,8 @@
 //! The sample's grids.
-ghost use Rattle.std.specs.Prelude.{◌≡◌, ◌≤◌, IfOk, IsTrue, map};
+ghost use Rattle.std.specs.Prelude.{◌≡◌, suc, ◌*◌, ◌<◌, ◌≤◌, IfOk, OnOk, IsTrue, map};
 ghost use Rattle.map_words.specs.Names.{is_plain};
 ghost use Rattle.map_machine.specs.SampleGrids.{by_place, sample_grids};
-ghost use Rattle.map_sample.specs.Grids.{cell_in, name_of, named_grid};
+ghost use Rattle.map_sample.specs.Grids.{cell_in, cells_to, name_of, named_grid};
 
 use crate::cells::{friction, height, start, zone};
 use layer_tiles::{Cell, Extent, Layer};
@@ -55,6 +55,24 @@ impl SampleGrid {
     }
 }
 
+// One row more of a grid: row r + 1.
+fn push_row(
+    cells: &mut Vec<Cell>,
+    side: u32,
+    grid: SampleGrid,
+    r: u32,
+) -> Result<(), NoMemory>
+    requires most { side ≤ 1224 }
+    requires row { r < side }
+    requires before { cells.old.items ≡ cells_to side grid (r * side) }
+    ensures { OnOk result (cells.new.items ≡ cells_to side grid (suc r * side)) }
+{
+    for c in 0..side {
+        cells.push(grid.cell(r + 1, c + 1))?;
+    }
+    Ok(())
+}
+
 // The cells of a grid, row by row.
 fn sample_cells(alloc: Global, side: u32, grid: SampleGrid) -> Result<Vec<Cell>, NoMemory>
     requires some { 1 ≤ side }
@@ -62,8 +80,8 @@ fn sample_cells(alloc: Global, side: u32, grid: SampleGrid) -> Result<Vec<Cell>,
     ensures { IfOk result (λ cells. cells.items ≡ (by_place side (cell_in grid)).cells) }
 {
     let mut cells = Vec::with_capacity(alloc, (side * side) as usize)?;
-    for at in 0..side * side {
-        cells.push(grid.cell(at / side + 1, at % side + 1))?;
+    for r in 0..side {
+        push_row(&mut cells, side, grid, r)?;
     }
     Ok(cells)
 }

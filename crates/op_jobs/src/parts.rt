@@ -2,12 +2,17 @@
 ghost use Rattle.std.specs.Prelude.{◌≡◌, ◌<◌, ◌≤◌};
 ghost use Rattle.op_jobs.specs.Parts.{part_start};
 
-/// Into how many parts so many rows are cut: one for each worker, each of 64 rows or more. Fewer than two mean that they aren't cut.
-pub(crate) fn parts_of(rows: u32, workers: u32) -> u32
-    ensures few { result ≤ workers }
-    ensures some { result ≤ rows }
+use layer_tiles::Extent;
+
+/// So many cells are found faster at a time than more: what is found of them stays near the processor.
+const PART_CELLS: u32 = 200_000;
+
+/// Into how many parts the rows of a map are cut: as many for each worker, each of 64 rows or more. Fewer than two mean that they aren't cut.
+pub(crate) fn parts_of(extent: Extent, workers: u32) -> u32
+    ensures some { result ≤ extent.rows }
 {
-    workers.min(rows / 64)
+    let each = extent.cells() / PART_CELLS / workers.max(1) + 1;
+    each.saturating_mul(workers).min(extent.rows() / 64)
 }
 
 /// The row at which a part begins.

@@ -290,7 +290,7 @@ impl Maker for Statements {
         workers: u32,
         tally: &mut M,
     ) -> Result<Option<(Ground, u64)>, NoMemory> {
-        let parts = parts_of(extent.rows(), workers);
+        let parts = parts_of(extent, workers);
         if kept.is_some() || parts < 2 || !is_banded(op) {
             return Ok(None);
         }
