@@ -56,12 +56,7 @@ impl SampleGrid {
 }
 
 // One row more of a grid: row r + 1.
-fn push_row(
-    cells: &mut Vec<Cell>,
-    side: u32,
-    grid: SampleGrid,
-    r: u32,
-) -> Result<(), NoMemory>
+fn push_row(cells: &mut Vec<Cell>, side: u32, grid: SampleGrid, r: u32) -> Result<(), NoMemory>
     requires most { side ≤ 1224 }
     requires row { r < side }
     requires before { cells.old.items ≡ cells_to side grid (r * side) }

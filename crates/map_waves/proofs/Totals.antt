@@ -7,7 +7,7 @@ use Rattle.std.proofs.lemmas.List.Sums.{sum_by-cons}
 use Rattle.map_waves.specs.Answers.{total_of}
 use Rattle.map_waves.specs.Tasks.{AreBetween}
 
-sum_next : (f : ℕ → ℕ) (a n : ℕ) → sum_by f (range_with_len a (suc n)) ≡ sum_by f (range_with_len a n) + f (a + n)
+pub sum_next : (f : ℕ → ℕ) (a n : ℕ) → sum_by f (range_with_len a (suc n)) ≡ sum_by f (range_with_len a n) + f (a + n)
 sum_next f a zero =
     let here = sum_by-cons f a [] in
     let same : f (a + 0) ≡ f a = let e : a + 0 ≡ a = omega arith in ap f e in

@@ -30,8 +30,8 @@ impl<'o, 'a, O, B, W> Model for Jobs<'o, 'a, O, B, W> {
 
 /// Makes a statement's jobs, does single ones, and gathers their pieces.
 pub trait Maker {
-    ghost use Rattle.std.specs.Prelude.{ℕ, ◌≡◌, ◌*◌, ◌^◌, ◌<◌, ◌≤◌, List, length, Ok, Some, Option, Result, IfOk, IfErr, IfSome, slice_get};
-    ghost use Rattle.std.specs.List.{All};
+    ghost use Rattle.std.specs.Prelude.{ℕ, ◌≡◌, ◌*◌, ◌^◌, ◌<◌, ◌≤◌, List, length, Ok, Some, Option, Result, IfOk, IfErr, IfSome, slice_get, sum_by};
+    ghost use Rattle.std.specs.List.{All, range_with_len};
     ghost use Rattle.map_nums.specs.Grids.{Size, Cells};
     ghost use Rattle.map_defs.specs.Ops.{Op, terms_of};
     ghost use Rattle.layer_tiles.specs.Changes.{ChangeState};
@@ -79,8 +79,11 @@ pub trait Maker {
     /// What may be found of a part: of so many, by its number.
     ghost part: { Size → Op → List ChangeState → ℕ → ℕ → Self.Part → Type 0 };
 
-    /// The looks that a ground takes at most.
+    /// The looks that a ground and finding all its parts take at most.
     ghost grounding: { Size → Op → Option Cells → List ChangeState → ℕ };
+
+    /// The looks that finding a part takes at most: of so many, by its number.
+    ghost finding: { Size → Op → List ChangeState → ℕ → ℕ → ℕ };
 
     /// What the jobs rest on.
     ghost sound: { JobsState Self.Op Self.Beside Self.Own → Type 0 };
@@ -114,10 +117,12 @@ pub trait Maker {
         ensures ground { IfOk result (λ found. IfSome found (λ q. grounded extent (means op.now) operands.now q.1 q.0)) }
         ensures few { IfOk result (λ found. IfSome found (λ q. q.1 < 2 ^ 32)) }
         ensures fit { grounding extent (means op.now) (was_of (kept_now kept.entry)) operands.now ≤ 60 * length (damage_by extent (means op.now) (was_of (kept_now kept.entry)) operands.now) }
-        ensures looks { RisesBy (grounding extent (means op.now) (was_of (kept_now kept.entry)) operands.now) 0 (M.counts tally.old) (M.counts tally.new) };
+        ensures looks { RisesBy (grounding extent (means op.now) (was_of (kept_now kept.entry)) operands.now) 0 (M.counts tally.old) (M.counts tally.new) }
+        ensures parts { let was = was_of (kept_now kept.entry) in
+            IfOk result (λ found. IfSome found (λ q. (c : TallyState) → RisesBy (sum_by (finding extent (means op.now) operands.now q.1) (range_with_len 0 q.1)) 0 (M.counts tally.new) c → RisesBy (grounding extent (means op.now) was operands.now) 0 (M.counts tally.old) c)) };
 
-    /// Finds one of so many parts. It reads nothing.
-    fn find_part(
+    /// Finds one of so many parts.
+    fn find_part<M: Tally>(
         alloc: Global,
         op: &Self::Op,
         operands: &Operands<'_>,
@@ -125,10 +130,12 @@ pub trait Maker {
         ground: &Self::Ground,
         count: u64,
         k: u64,
+        tally: &mut M,
     ) -> Result<Self::Part, NoMemory>
         requires ground { ∥ grounded extent (means op.now) operands.now count ground.now ∥₁ }
         requires below { k < count }
-        ensures { IfOk result (part extent (means op.now) operands.now count k) };
+        ensures part { IfOk result (part extent (means op.now) operands.now count k) }
+        ensures looks { RisesBy (finding extent (means op.now) operands.now count k) 0 (M.counts tally.old) (M.counts tally.new) };
 
     /// The jobs of a statement: those of its whole damage, from what is kept, or of all tiles where nothing is; of the parts that were
     /// found, where they were.

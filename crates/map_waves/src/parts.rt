@@ -1,6 +1,6 @@
 //! Parts of layers that were not there, found by workers side by side.
-ghost use Rattle.std.specs.Prelude.{◌≡◌, ℕ, ◌*◌, ◌^◌, ◌<◌, ◌≤◌, false, length, Some, Ok, slice_get, IfOk, IfSome};
-ghost use Rattle.std.specs.List.{All};
+ghost use Rattle.std.specs.Prelude.{◌≡◌, ℕ, ◌*◌, ◌^◌, ◌<◌, ◌≤◌, false, length, Some, Ok, slice_get, IfOk, IfSome, sum_by};
+ghost use Rattle.std.specs.List.{All, range_with_len};
 ghost use Rattle.map_defs.specs.Ops.{terms_of};
 ghost use Rattle.layer_tiles.specs.Tallies.{RisesBy};
 ghost use Rattle.map_waves.specs.Operands.{IsOperand};
@@ -35,7 +35,7 @@ impl<'p, 'a, K: Maker> Work for Parts<'p, 'a, K> {
 
     ghost jobs = { λ w. w.count };
 
-    ghost looks = { λ w k. 0 };
+    ghost looks = { λ w k. K.finding w.extent (K.means w.op.now) w.operands.now w.count k };
 
     ghost picks = { λ w k. 0 };
 
@@ -45,7 +45,7 @@ impl<'p, 'a, K: Maker> Work for Parts<'p, 'a, K> {
         &self,
         _seat: &Seat,
         ticket: u64,
-        _tally: &mut M,
+        tally: &mut M,
     ) -> Result<K::Part, NoMemory> {
         K::find_part(
             self.alloc,
@@ -55,6 +55,7 @@ impl<'p, 'a, K: Maker> Work for Parts<'p, 'a, K> {
             self.ground,
             self.count,
             ticket,
+            tally,
         )
     }
 }
@@ -97,7 +98,7 @@ fn find_all<K: Maker + Sync, M: Tally + Send, G: Gate + Sync, R: Threads + Sync>
     requires workers { (0 < workers) × (workers ≤ 64) }
     requires whole { 1 < workers → ((M.counts tally.old).is_part ≡ false) × ((M.counts tally.old).parts_out ≡ 0) }
     ensures found { IfOk result (λ parts. AreFound K.grounded K.part extent (K.means op.now) operands.now ground.now parts.items) }
-    ensures quiet { RisesBy 0 0 (M.counts tally.old) (M.counts tally.new) }
+    ensures looks { RisesBy (sum_by (K.finding extent (K.means op.now) operands.now count) (range_with_len 0 count)) 0 (M.counts tally.old) (M.counts tally.new) }
 {
     let hands = u64::from(workers).min(count).max(1) as u32;
     let work: Parts<'_, '_, K> = Parts {

@@ -20,12 +20,12 @@ use Rattle.drainage_flow.specs.Operands.{HasCells}
 use Rattle.drainage_flow.specs.Repairs.{IsFlowRepair}
 use Rattle.map_waves.specs.Operands.{IsOperand}
 use Rattle.map_waves.specs.Statements.{damage_by}
-use Rattle.op_jobs.specs.Fresh.{is_banded, IsGrounded, IsCosts, IsDowns, IsBand, IsPart, grounding}
+use Rattle.op_jobs.specs.Fresh.{is_banded, AreBothCells, IsCosts, IsDowns, IsBand, IsPart, grounding}
 use Rattle.op_jobs.specs.Owning.{IsMadeFresh}
 use Rattle.op_jobs.specs.Pieces.{IsWholeMade}
 use Rattle.op_jobs.specs.Ranges.{HasRanges}
 use Rattle.op_jobs.specs.Sound.{first_by}
-use Rattle.op_jobs.specs.declared.ground.Ground.{Ground}
+use Rattle.op_jobs.specs.declared.ground.BothCells.{BothCells}
 use Rattle.op_jobs.specs.declared.ground.Part.{Part}
 use Rattle.op_jobs.specs.declared.own.Own.{Own}
 use Rattle.op_jobs.specs.declared.own.Own.TheVariants as an_own
@@ -55,8 +55,8 @@ first_least (an_own.Made patch work) d = omega arith
 
 -- ---- a list for each operand
 
-pub grounded_in : (s : Size) (op : Op) (xs : List ChangeState) (n : ℕ) (ground : Ground) (a b : ChangeState) → xs ≡ a ∷ b ∷ [] → IsTrue (is_banded op) → HasRanges op → All (IsOperand s) xs → 0 < n → n ≤ s.rows → ground.first.items ≡ a.cells → ground.second.items ≡ b.cells → length a.cells ≡ cells_in a.size
-    → length b.cells ≡ cells_in b.size → IsGrounded s op xs n ground
+pub grounded_in : (s : Size) (op : Op) (xs : List ChangeState) (n : ℕ) (ground : BothCells) (a b : ChangeState) → xs ≡ a ∷ b ∷ [] → IsTrue (is_banded op) → HasRanges op → All (IsOperand s) xs → 0 < n → n ≤ s.rows → ground.first.items ≡ a.cells → ground.second.items ≡ b.cells → length a.cells ≡ cells_in a.size
+    → length b.cells ≡ cells_in b.size → AreBothCells s op xs n ground
 grounded_in s op xs n ground a b both banded formed are some few first second count count' =
     let these : All (IsOperand s) (a ∷ b ∷ []) = subst (λ (ys : List ChangeState). All (IsOperand s) ys) both are in record {
       banded = banded;

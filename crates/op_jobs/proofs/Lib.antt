@@ -13,6 +13,7 @@ pub mod Starts
 pub mod SpreadBands
 pub mod FlowBands
 pub mod FreshOps
+pub mod ZonalParts
 pub mod Patching
 pub mod Quiet
 pub mod Ranges

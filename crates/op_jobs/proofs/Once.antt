@@ -1,5 +1,5 @@
 -- What jobs rest on holds in one way at most.
-use Rattle.std.proofs.Common.{ℕ, List, [], ◌∷◌, Option, Some, None}
+use Rattle.std.proofs.Common.{◌≡◌, ℕ, List, [], ◌∷◌, Option, Some, None, subst}
 use Rattle.std.proofs.Math.Logic.{∥∥₁_elim}
 use Rattle.std.proofs.Props.{props}
 use Rattle.std.specs.Coded.{×_prop, Unit-prop}
@@ -23,8 +23,10 @@ use Rattle.map_waves.specs.Keeping.{IsRightKept}
 use Rattle.map_waves.specs.declared.keeping.Kept.{Kept}
 use Rattle.op_jobs.specs.Beside.{IsNothing, IsBook, AreViewers, suits}
 use Rattle.op_jobs.specs.Owning.{IsLocalOf, IsOwn}
-use Rattle.op_jobs.specs.Fresh.{IsGrounded}
+use Rattle.op_jobs.specs.Fresh.{AreBothCells, IsCounted, IsGrounded}
+use Rattle.op_jobs.specs.declared.ground.BothCells.{BothCells}
 use Rattle.op_jobs.specs.declared.ground.Ground.{Ground}
+use Rattle.op_jobs.specs.declared.ground.Ground.TheVariants as a_ground
 use Rattle.op_jobs.specs.Ranges.{IsInRange, HasRanges}
 use Rattle.op_jobs.specs.Sound.{StatementJobs, IsSound}
 use Rattle.op_jobs.specs.declared.beside.Beside.{Beside}
@@ -136,11 +138,21 @@ own_once s op operands was (an_own.Made patch work) = hlevel props
 
 -- ---- what parts are found from
 
+cells_once : (s : Size) (op : Op) (operands : List ChangeState) (n : ℕ) (cells : BothCells) → IsProp (AreBothCells s op operands n cells)
+cells_once s op operands n cells = let formed : IsProp (HasRanges op) = op_once op in hlevel (formed, props)
+
 grounded_once : (s : Size) (op : Op) (operands : List ChangeState) (n : ℕ) (ground : Ground) → IsProp (IsGrounded s op operands n ground)
-grounded_once s op operands n ground = let formed : IsProp (HasRanges op) = op_once op in hlevel (formed, props)
+grounded_once s op operands n (a_ground.Cells cells) = cells_once s op operands n cells
+grounded_once s op operands n a_ground.Tiles = hlevel props
 
 pub grounded_of : (s : Size) (op : Op) (operands : List ChangeState) (n : ℕ) (ground : Ground) → ∥ IsGrounded s op operands n ground ∥₁ → IsGrounded s op operands n ground
 grounded_of s op operands n ground is = ∥∥₁_elim is (grounded_once s op operands n ground) (λ x. x)
+
+pub cells_of_ground : (s : Size) (op : Op) (operands : List ChangeState) (n : ℕ) (ground : Ground) (cells : BothCells) → ground ≡ a_ground.Cells cells → ∥ IsGrounded s op operands n ground ∥₁ → AreBothCells s op operands n cells
+cells_of_ground s op operands n ground cells e is = subst (IsGrounded s op operands n) e (grounded_of s op operands n ground is)
+
+pub counted_of : (s : Size) (op : Op) (operands : List ChangeState) (n : ℕ) (ground : Ground) → ground ≡ a_ground.Tiles → ∥ IsGrounded s op operands n ground ∥₁ → IsCounted s op operands n
+counted_of s op operands n ground e is = subst (IsGrounded s op operands n) e (grounded_of s op operands n ground is)
 
 -- ---- all of it
 

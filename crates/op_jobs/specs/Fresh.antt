@@ -1,19 +1,25 @@
--- Layers that were not there, in bands of rows.
-use Rattle.std.specs.Prelude.{◌≡◌, ℕ, suc, ◌-◌, ◌*◌, ◌<◌, ◌≤◌, List, length, Option, Some, None, Bool, true, false, IsTrue}
+-- Layers that were not there, of parts.
+use Rattle.std.specs.Prelude.{◌≡◌, ℕ, suc, ◌-◌, ◌*◌, ◌<◌, ◌≤◌, List, length, Option, Some, None, Bool, true, false, IsTrue, slice_get, if◌then◌else◌}
+use Rattle.std.specs.List.{All}
 use Rattle.map_nums.specs.Grids.{Size, Cells, cells_in}
 use Rattle.map_nums.specs.Tiles.{tiles_in}
-use Rattle.map_defs.specs.Ops.{Op, flow_op, spread_op}
+use Rattle.map_defs.specs.Ops.{Op, zonal_op, flow_op, spread_op}
 use Rattle.map_defs.specs.Operate.{operand}
 use Rattle.layer_tiles.specs.Changes.{ChangeState}
 use Rattle.layer_tiles.specs.Operands.{cells_after}
 use Rattle.friction_spread.specs.Costs.{GroundState}
 use Rattle.friction_spread.specs.Bands.{ground_of, IsCostBand}
 use Rattle.drainage_flow.specs.Bands.{AreDowns}
+use Rattle.zonal_totals.specs.Ranges.{AreTileCounts}
+use Rattle.map_waves.specs.Operands.{IsOperand}
+use Rattle.op_jobs.specs.Classes.{is_zonal}
 use Rattle.op_jobs.specs.Parts.{part_start}
 use Rattle.op_jobs.specs.Ranges.{HasRanges}
+use Rattle.op_jobs.specs.declared.ground.BothCells.{BothCells}
 use Rattle.op_jobs.specs.declared.ground.Ground.{Ground}
+use Rattle.op_jobs.specs.declared.ground.Ground.TheVariants as a_ground
 use Rattle.op_jobs.specs.declared.ground.Part.{Part}
-use Rattle.op_jobs.specs.declared.ground.Part.TheVariants.{Costs, Downs}
+use Rattle.op_jobs.specs.declared.ground.Part.TheVariants.{Costs, Downs, Counts}
 
 -- workers make its layer in bands where it was not there
 abbrev pub is_banded : Op → Bool
@@ -22,7 +28,7 @@ is_banded (spread_op limit t u) = true
 is_banded op = false
 
 -- all cells of both operands, for n bands
-pub record IsGrounded (s : Size) (op : Op) (operands : List ChangeState) (n : ℕ) (ground : Ground) : Type 0 where
+pub record AreBothCells (s : Size) (op : Op) (operands : List ChangeState) (n : ℕ) (ground : BothCells) : Type 0 where
   pub banded : IsTrue (is_banded op)
   pub formed : HasRanges op
   pub some : 0 < n
@@ -32,24 +38,53 @@ pub record IsGrounded (s : Size) (op : Op) (operands : List ChangeState) (n : �
   pub first_count : length ground.first.items ≡ cells_in s
   pub second_count : length ground.second.items ≡ cells_in s
 
+-- a zonal statement's operands, for n parts of their tiles
+pub record IsCounted (s : Size) (op : Op) (operands : List ChangeState) (n : ℕ) : Type 0 where
+  pub zonal : IsTrue (is_zonal op)
+  pub some : 0 < n
+  pub few : n ≤ s.rows
+  pub operands_are : All (IsOperand s) operands
+  pub two : length operands ≡ 2
+
+abbrev pub IsGrounded : Size → Op → List ChangeState → ℕ → Ground → Type 0
+IsGrounded s op operands n (a_ground.Cells ground) = AreBothCells s op operands n ground
+IsGrounded s op operands n a_ground.Tiles = IsCounted s op operands n
+
 -- each tile of both is looked at, where no layer is kept
 abbrev pub grounding : Size → Op → Option Cells → List ChangeState → ℕ
 grounding s op None operands = 2 * tiles_in s
 grounding s op (Some was) operands = 0
 
--- ---- what is found of band k of n
+-- by part k of n, of its tiles; a band is found from the lists
+abbrev pub finding : Size → Op → List ChangeState → ℕ → ℕ → ℕ
+finding s op operands n k = if is_banded op then 0 else 2 * (part_start (tiles_in s) n (suc k) - part_start (tiles_in s) n k)
+
+-- ---- what is found of part k of n
 
 abbrev pub IsCosts : GroundState → ℕ → ℕ → Part → Type 0
 IsCosts g n k (Costs band) = IsCostBand g (part_start g.size.rows n k) (part_start g.size.rows n (suc k)) band
 IsCosts g n k (Downs downs) = ⊥
+IsCosts g n k (Counts counts) = ⊥
 
 abbrev pub IsDowns : Size → Cells → ℕ → ℕ → Part → Type 0
 IsDowns s surface n k (Costs band) = ⊥
+IsDowns s surface n k (Counts counts) = ⊥
 IsDowns s surface n k (Downs downs) = AreDowns s surface (part_start s.rows n k * s.columns) ((part_start s.rows n (suc k) - part_start s.rows n k) * s.columns) downs.items
+
+abbrev pub IsCounts : Size → Cells → Cells → ℕ → ℕ → Part → Type 0
+IsCounts s values zones n k (Costs band) = ⊥
+IsCounts s values zones n k (Downs downs) = ⊥
+IsCounts s values zones n k (Counts counts) = AreTileCounts s values zones (part_start (tiles_in s) n k) (part_start (tiles_in s) n (suc k)) counts
+
+-- all parts of a zonal statement's tiles
+pub record AreAllCounts (s : Size) (values zones : Cells) (parts : List Part) : Type 0 where
+  pub some : 0 < length parts
+  pub each : (k : ℕ) (p : Part) → slice_get parts k ≡ Some p → IsCounts s values zones (length parts) k p
 
 abbrev pub IsBand : Op → Size → Cells → Cells → ℕ → ℕ → Part → Type 0
 IsBand (spread_op limit t u) s sources friction n k part = IsCosts (ground_of s sources friction limit) n k part
 IsBand (flow_op t u) s surface weights n k part = IsDowns s surface n k part
+IsBand (zonal_op stat t u) s values zones n k part = IsCounts s values zones n k part
 IsBand op s first second n k part = ⊥
 
 abbrev pub IsPart : Size → Op → List ChangeState → ℕ → ℕ → Part → Type 0

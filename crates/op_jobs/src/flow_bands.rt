@@ -9,7 +9,7 @@ ghost use Rattle.op_jobs.specs.Fresh.{IsDowns};
 ghost use Rattle.op_jobs.specs.Parts.{part_start};
 ghost use Rattle.op_jobs.specs.declared.ground.Part.{Part};
 
-use crate::ground::{Ground, Part};
+use crate::ground::{BothCells, Part};
 use crate::parts::part_start;
 use drainage_flow::{Repair, downs_between, flow_along};
 use layer_tiles::{Cell, Extent, KernelRefusal};
@@ -20,7 +20,7 @@ use std::alloc::Global;
 pub(crate) fn find_downs(
     alloc: Global,
     extent: Extent,
-    ground: &Ground,
+    ground: &BothCells,
     parts: u32,
     k: u64,
 ) -> Result<Vec<Option<u32>>, NoMemory>
@@ -64,7 +64,7 @@ fn downs_of(
 pub(crate) fn flow_by(
     alloc: Global,
     extent: Extent,
-    ground: &Ground,
+    ground: &BothCells,
     parts: Vec<Part>,
 ) -> Result<Option<Repair>, NoMemory>
     requires first { length ground.now.first.items ≡ cells_in extent }

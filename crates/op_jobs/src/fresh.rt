@@ -1,17 +1,18 @@
 //! Layers that were not there, which workers make in bands of rows.
-ghost use Rattle.std.specs.Prelude.{◌≡◌, ℕ, ◌*◌, ◌<◌, ◌≤◌, length, None, Some, slice_get, IfOk, IfSome, IsTrue};
+ghost use Rattle.std.specs.Prelude.{◌≡◌, ℕ, List, ◌*◌, ◌<◌, ◌≤◌, length, None, Some, slice_get, IfOk, IfSome, IsTrue};
 ghost use Rattle.std.specs.List.{All};
-ghost use Rattle.map_nums.specs.Grids.{cells_in};
+ghost use Rattle.map_nums.specs.Grids.{Size, cells_in};
 ghost use Rattle.map_nums.specs.Numbers.{greatest_value};
 ghost use Rattle.map_nums.specs.Tiles.{tiles_in};
 ghost use Rattle.map_defs.specs.Operate.{operand};
-ghost use Rattle.map_defs.specs.Ops.{Term, terms_of, flow_op, spread_op};
+ghost use Rattle.map_defs.specs.Ops.{Op as Meant, Term, terms_of, flow_op, spread_op};
+ghost use Rattle.layer_tiles.specs.Changes.{ChangeState};
 ghost use Rattle.layer_tiles.specs.Operands.{cells_after};
 ghost use Rattle.layer_tiles.specs.Tallies.{RisesBy};
 ghost use Rattle.statement_parser.specs.Views.{op_view};
 ghost use Rattle.map_waves.specs.Found.{AreFound};
 ghost use Rattle.map_waves.specs.Operands.{IsOperand};
-ghost use Rattle.op_jobs.specs.Fresh.{is_banded, IsGrounded, IsCosts, IsDowns, IsPart};
+ghost use Rattle.op_jobs.specs.Fresh.{is_banded, AreBothCells, IsGrounded, IsCosts, IsDowns, IsPart};
 ghost use Rattle.op_jobs.specs.Owning.{IsMadeFresh};
 ghost use Rattle.op_jobs.specs.Pieces.{IsWholeMade};
 ghost use Rattle.op_jobs.specs.Ranges.{HasRanges};
@@ -19,7 +20,7 @@ ghost use Rattle.op_jobs.specs.declared.ground.Part.{Part};
 ghost use Rattle.friction_spread.specs.Bands.{ground_of};
 
 use crate::flow_bands::{find_downs, flow_by};
-use crate::ground::{Ground, Part};
+use crate::ground::{BothCells, Ground, Part};
 use crate::spread_bands::{find_costs, spread_by};
 use crate::whole::both_of;
 use flat_cells::cells_of;
@@ -46,14 +47,14 @@ pub(crate) fn lay<M: Tally>(
     extent: Extent,
     parts: u32,
     tally: &mut M,
-) -> Result<Ground, NoMemory>
+) -> Result<BothCells, NoMemory>
     requires formed { HasRanges (op_view op.now) }
     requires banded { IsTrue (is_banded (op_view op.now)) }
     requires operands_are { All (IsOperand extent) operands.now }
     requires terms { length operands.now ≡ length (terms_of (op_view op.now)) }
     requires some { 0 < parts }
     requires few { parts ≤ extent.rows }
-    ensures ground { IfOk result (IsGrounded extent (op_view op.now) operands.now parts) }
+    ensures ground { IfOk result (AreBothCells extent (op_view op.now) operands.now parts) }
     ensures looks { RisesBy (2 * tiles_in extent) 0 (M.counts tally.old) (M.counts tally.new) }
 {
     let (one, other) = both_of(operands);
@@ -61,7 +62,20 @@ pub(crate) fn lay<M: Tally>(
     let _other = other.extent();
     let first = cells_of(alloc, one, tally)?;
     let second = cells_of(alloc, other, tally)?;
-    Ok(Ground { first, second })
+    Ok(BothCells { first, second })
+}
+
+/// What was found of bands, with the cells that it was found from.
+pub(crate) fn bands_found(found: Option<(Ground, Vec<Part>)>) -> Option<(BothCells, Vec<Part>)>
+    ensures { (s : Size) (op : Meant) (operands : List ChangeState) → IfSome found (λ q. AreFound IsGrounded IsPart s op operands q.0 q.1.items) → IfSome result (λ q. AreFound AreBothCells IsPart s op operands q.0 q.1.items) }
+{
+    let Some((ground, parts)) = found else {
+        return None;
+    };
+    match ground {
+        Ground::Cells(cells) => Some((cells, parts)),
+        Ground::Tiles => None,
+    }
 }
 
 /// What is found of one of so many bands.
@@ -70,11 +84,11 @@ pub(crate) fn find_band(
     op: &Op,
     operands: &Operands<'_>,
     extent: Extent,
-    ground: &Ground,
+    ground: &BothCells,
     count: u64,
     k: u64,
 ) -> Result<Part, NoMemory>
-    requires ground { IsGrounded extent (op_view op.now) operands.now count ground.now }
+    requires ground { AreBothCells extent (op_view op.now) operands.now count ground.now }
     requires below { k < count }
     ensures { IfOk result (IsPart extent (op_view op.now) operands.now count k) }
 {
@@ -100,7 +114,7 @@ fn fresh_spread(
     operands: &Operands<'_>,
     extent: Extent,
     limit: u32,
-    ground: &Ground,
+    ground: &BothCells,
     parts: Vec<Part>,
 ) -> Result<(Patch, u64), NoMemory>
     requires limit { limit ≤ greatest_value }
@@ -125,7 +139,7 @@ fn fresh_flow(
     alloc: Global,
     operands: &Operands<'_>,
     extent: Extent,
-    ground: &Ground,
+    ground: &BothCells,
     parts: Vec<Part>,
 ) -> Result<Option<(Patch, u64)>, NoMemory>
     requires two { length operands.now ≡ 2 }
@@ -153,12 +167,12 @@ pub(crate) fn make_fresh(
     op: &Op,
     operands: &Operands<'_>,
     extent: Extent,
-    ground: &Ground,
+    ground: &BothCells,
     parts: Vec<Part>,
 ) -> Result<Option<(Patch, u64)>, NoMemory>
     requires operands_are { All (IsOperand extent) operands.now }
     requires terms { length operands.now ≡ length (terms_of (op_view op.now)) }
-    requires found { AreFound IsGrounded IsPart extent (op_view op.now) operands.now ground.now parts.items }
+    requires found { AreFound AreBothCells IsPart extent (op_view op.now) operands.now ground.now parts.items }
     ensures { IfOk result (λ found. IfSome found (λ r. IsMadeFresh extent (op_view op.now) operands.now None r.0 r.1)) }
 {
     match op {

@@ -2,19 +2,31 @@
 
 use friction_spread::CostBand;
 use layer_tiles::Cell;
+use zonal_totals::TileCounts;
 
 /// All cells of both operands.
 #[derive(Drop)]
-pub struct Ground {
+pub struct BothCells {
     pub first: Vec<Cell>,
     pub second: Vec<Cell>,
 }
 
-/// What is found of a band of rows.
+/// What parts are found from.
+#[derive(Drop)]
+pub enum Ground {
+    /// All cells of both operands, for bands of rows.
+    Cells(BothCells),
+    /// The operands, whose tiles are read part by part.
+    Tiles,
+}
+
+/// What is found of a part.
 #[derive(Drop)]
 pub enum Part {
-    /// The least costs by paths that stay in these rows.
+    /// The least costs of a band of rows by paths that stay in it.
     Costs(CostBand),
-    /// The places to which these rows' cells drain.
+    /// The places to which the cells of a band of rows drain.
     Downs(Vec<Option<u32>>),
+    /// How often each value and each tile occurs in each zone, in some tiles.
+    Counts(TileCounts),
 }

@@ -26,10 +26,11 @@ mod whole_spread;
 mod zonal;
 mod zonal_jobs;
 mod zonal_kernel;
+mod zonal_parts;
 mod zonal_zones;
 
 pub use beside::Beside;
-pub use ground::{Ground, Part};
+pub use ground::{BothCells, Ground, Part};
 pub use own::{Own, TileJobs};
 pub use pieces::Piece;
 pub use statements::Statements;

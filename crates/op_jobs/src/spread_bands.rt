@@ -13,7 +13,7 @@ ghost use Rattle.op_jobs.specs.Parts.{part_start};
 ghost use Rattle.op_jobs.specs.declared.ground.Part.{Part};
 ghost use Rattle.op_jobs.specs.declared.ground.Part.TheVariants.{Costs};
 
-use crate::ground::{Ground, Part};
+use crate::ground::{BothCells, Part};
 use crate::parts::part_start;
 use friction_spread::{CostBand, Repair, costs_of_band, spread_of_bands};
 use layer_tiles::{Extent, Value};
@@ -24,7 +24,7 @@ use std::alloc::Global;
 pub(crate) fn find_costs(
     alloc: Global,
     extent: Extent,
-    ground: &Ground,
+    ground: &BothCells,
     limit: u32,
     parts: u32,
     k: u64,
@@ -76,7 +76,7 @@ fn bands_of(alloc: Global, parts: Vec<Part>) -> Result<Vec<CostBand>, NoMemory>
 pub(crate) fn spread_by(
     alloc: Global,
     extent: Extent,
-    ground: &Ground,
+    ground: &BothCells,
     limit: u32,
     parts: Vec<Part>,
 ) -> Result<Repair, NoMemory>

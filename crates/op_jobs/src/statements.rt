@@ -13,7 +13,7 @@ ghost use Rattle.map_waves.specs.Keeping.{kept_now, was_of, IsRightKept};
 ghost use Rattle.map_waves.specs.Operands.{IsOperand};
 ghost use Rattle.map_waves.specs.Statements.{damage_by, work_by};
 ghost use Rattle.op_jobs.specs.Beside.{suits};
-ghost use Rattle.op_jobs.specs.Fresh.{IsGrounded, IsPart};
+ghost use Rattle.op_jobs.specs.Fresh.{AreBothCells, IsGrounded, IsPart};
 ghost use Rattle.op_jobs.specs.Classes.{is_plain, is_sight, is_zonal};
 ghost use Rattle.op_jobs.specs.Owning.{IsOwn, count_of};
 ghost use Rattle.op_jobs.specs.Ranges.{HasRanges};
@@ -21,8 +21,8 @@ ghost use Rattle.op_jobs.specs.Sound.{is_made, is_whole};
 
 use crate::beside::Beside;
 use crate::damage::reached_tiles;
-use crate::fresh::{find_band, is_banded, lay, make_fresh};
-use crate::ground::{Ground, Part};
+use crate::fresh::{bands_found, find_band, is_banded, lay, make_fresh};
+use crate::ground::{BothCells, Ground, Part};
 use crate::own::Own;
 use crate::parts::parts_of;
 use crate::pieces::Piece;
@@ -30,6 +30,7 @@ use crate::sight_jobs::sight_jobs;
 use crate::tiles::{do_tile, gather_tiles, tile_jobs};
 use crate::whole_jobs::{do_whole, gather_made, gather_whole};
 use crate::zonal_jobs::zonal_jobs;
+use crate::zonal_parts::count_part;
 use damage_sets::TileSet;
 use layer_tiles::{Extent, KernelRefusal, Operands, Tally};
 use map_nums::NoMemory;
@@ -68,6 +69,7 @@ fn zonal_own<M: Tally>(
     operands: &Operands<'_>,
     kept: Option<&Kept<Beside>>,
     extent: Extent,
+    found: Option<(Ground, Vec<Part>)>,
     tally: &mut M,
 ) -> Result<Own, Halt>
     requires formed { HasRanges (op_view op.now) }
@@ -75,11 +77,12 @@ fn zonal_own<M: Tally>(
     requires operands_are { All (IsOperand extent) operands.now }
     requires terms { length operands.now ≡ length (terms_of (op_view op.now)) }
     requires right { IsRightKept suits extent (op_view op.now) operands.now (kept_now kept) }
+    requires found { IfSome found (λ q. AreFound IsGrounded IsPart extent (op_view op.now) operands.now q.0 q.1.items) }
     ensures own { IfOk result (IsOwn extent (op_view op.entry.now) operands.entry.now (was_of (kept_now kept.entry))) }
     ensures halt { IfErr result (IsHalt extent (op_view op.entry.now) (cells_after operands.entry.now)) }
     ensures looks { RisesBy (26 * length (damage_by extent (op_view op.entry.now) (was_of (kept_now kept.entry)) operands.entry.now)) 0 (M.counts tally.old) (M.counts tally.new) }
 {
-    match zonal_jobs(alloc, op, operands, kept, extent, tally) {
+    match zonal_jobs(alloc, op, operands, kept, extent, found, tally) {
         Ok(jobs) => Ok(Own::Tiles(jobs)),
         Err(NoMemory) => Err(Halt::NoMemory),
     }
@@ -115,13 +118,13 @@ fn fresh_own(
     op: &Op,
     operands: &Operands<'_>,
     extent: Extent,
-    ground: &Ground,
+    ground: &BothCells,
     parts: Vec<Part>,
 ) -> Result<Own, NoMemory>
     requires class { IsTrue (has_work (op_view op.now)) }
     requires operands_are { All (IsOperand extent) operands.now }
     requires terms { length operands.now ≡ length (terms_of (op_view op.now)) }
-    requires found { AreFound IsGrounded IsPart extent (op_view op.now) operands.now ground.now parts.items }
+    requires found { AreFound AreBothCells IsPart extent (op_view op.now) operands.now ground.now parts.items }
     ensures { IfOk result (IsOwn extent (op_view op.now) operands.now None) }
 {
     match make_fresh(alloc, op, operands, extent, ground, parts)? {
@@ -151,8 +154,8 @@ fn whole_own<M: Tally>(
     ensures looks { RisesBy (26 * length (damage_by extent (op_view op.entry.now) (was_of (kept_now kept.entry)) operands.entry.now)) 0 (M.counts tally.old) (M.counts tally.new) }
 {
     if kept.is_none() {
-        if let Some((ground, parts)) = found {
-            return match fresh_own(alloc, op, operands, extent, &ground, parts) {
+        if let Some((cells, parts)) = bands_found(found) {
+            return match fresh_own(alloc, op, operands, extent, &cells, parts) {
                 Ok(own) => Ok(own),
                 Err(NoMemory) => Err(Halt::NoMemory),
             };
@@ -187,7 +190,7 @@ fn own_of<M: Tally>(
         Op::Flow { .. } | Op::Spread { .. } | Op::Region { .. } => {
             whole_own(alloc, op, operands, kept, extent, found, tally)
         }
-        Op::Zonal { .. } => zonal_own(alloc, op, operands, kept, extent, tally),
+        Op::Zonal { .. } => zonal_own(alloc, op, operands, kept, extent, found, tally),
         Op::Sight { .. } => sight_own(alloc, op, operands, kept, extent, tally),
         _ => plain_own(alloc, op, operands, kept, extent, tally),
     }
@@ -243,7 +246,7 @@ impl Maker for Statements {
     ghost use Rattle.map_waves.specs.Jobs.{was_in, AreOver};
     ghost use Rattle.statement_parser.specs.Views.{op_view};
     ghost use Rattle.op_jobs.specs.Beside.{suits as what_suits};
-    ghost use Rattle.op_jobs.specs.Fresh.{IsGrounded, IsPart, grounding};
+    ghost use Rattle.op_jobs.specs.Fresh.{IsGrounded, IsPart, grounding, finding};
     ghost use Rattle.op_jobs.specs.Ranges.{HasRanges};
     ghost use Rattle.op_jobs.specs.Sound.{IsSound, IsPiece, ArePieces, first as first_looks, looks as job_looks, picks as job_picks};
 
@@ -271,6 +274,8 @@ impl Maker for Statements {
 
     ghost grounding = { grounding };
 
+    ghost finding = { finding };
+
     ghost sound = { IsSound };
 
     ghost first = { first_looks };
@@ -291,14 +296,20 @@ impl Maker for Statements {
         tally: &mut M,
     ) -> Result<Option<(Ground, u64)>, NoMemory> {
         let parts = parts_of(extent, workers);
-        if kept.is_some() || parts < 2 || !is_banded(op) {
+        if kept.is_some() || parts < 2 {
             return Ok(None);
         }
-        let ground = lay(alloc, op, operands, extent, parts, tally)?;
-        Ok(Some((ground, u64::from(parts))))
+        if let Op::Zonal { .. } = op {
+            return Ok(Some((Ground::Tiles, u64::from(parts))));
+        }
+        if !is_banded(op) {
+            return Ok(None);
+        }
+        let cells = lay(alloc, op, operands, extent, parts, tally)?;
+        Ok(Some((Ground::Cells(cells), u64::from(parts))))
     }
 
-    fn find_part(
+    fn find_part<M: Tally>(
         alloc: Global,
         op: &Op,
         operands: &Operands<'_>,
@@ -306,8 +317,12 @@ impl Maker for Statements {
         ground: &Ground,
         count: u64,
         k: u64,
+        tally: &mut M,
     ) -> Result<Part, NoMemory> {
-        find_band(alloc, op, operands, extent, ground, count, k)
+        match ground {
+            Ground::Cells(cells) => find_band(alloc, op, operands, extent, cells, count, k),
+            Ground::Tiles => count_part(alloc, operands, extent, count, k, tally),
+        }
     }
 
     fn jobs_of<'o, 'a, M: Tally>(

@@ -11,10 +11,13 @@ ghost use Rattle.layer_tiles.specs.Tallies.{RisesBy};
 ghost use Rattle.zonal_totals.specs.Books.{IsBookOf};
 ghost use Rattle.map_waves.specs.Operands.{IsOperand};
 ghost use Rattle.map_waves.specs.Statements.{damage_by, made};
+ghost use Rattle.op_jobs.specs.Fresh.{AreAllCounts};
 ghost use Rattle.op_jobs.specs.Zonal.{IsRightBook, zonal_tiles};
 
 use crate::damage::{all_tiles, tiles_of};
+use crate::ground::{Ground, Part};
 use crate::zonal_kernel::zonal_tile;
+use crate::zonal_parts::counted_book;
 use crate::zonal_zones::add_zones;
 use damage_sets::{Class, damaged};
 use layer_tiles::{Extent, KernelRefusal, Operands, Tally, Tile};
@@ -30,10 +33,12 @@ pub(crate) fn zonal_begin<M: Tally>(
     operands: &Operands<'_>,
     kept: Option<&Book>,
     extent: Extent,
+    found: Option<(Ground, Vec<Part>)>,
     tally: &mut M,
 ) -> Result<(Book, Vec<u32>), NoMemory>
     requires two { length operands.now ≡ 2 }
     requires operands { All (IsOperand extent) operands.now }
+    requires found { IfSome found (λ q. AreAllCounts extent (operand (cells_after operands.now) 0) (operand (cells_after operands.now) 1) q.1.items) }
     requires no_product { stat ≢ Stat.Product }
     requires right { IfSome kept (λ book. IsRightBook stat extent operands.now book.now) }
     ensures size { IfOk result (λ r. r.0.size ≡ extent) }
@@ -42,25 +47,30 @@ pub(crate) fn zonal_begin<M: Tally>(
     ensures looks { (t u : Term) (was : Option Cells) → is_some was ≡ is_some kept.entry → RisesBy (8 * length (damage_by extent (zonal_op stat t u) was operands.now)) 0 (M.counts tally.old) (M.counts tally.new) }
 {
     match kept {
-        None => first_book(alloc, operands, extent, tally),
+        None => first_book(alloc, operands, extent, found, tally),
         Some(book) => changed_book(alloc, stat, operands, book, tally),
     }
 }
 
-/// The book of a statement of which none is kept, and all tiles.
-fn first_book<M: Tally>(
+/// The book of a statement of which none is kept: from what was counted in the parts of the map, where that was found.
+fn fresh_book<M: Tally>(
     alloc: Global,
     operands: &Operands<'_>,
     extent: Extent,
+    found: Option<(Ground, Vec<Part>)>,
     tally: &mut M,
-) -> Result<(Book, Vec<u32>), NoMemory>
+) -> Result<Book, NoMemory>
     requires two { length operands.now ≡ 2 }
     requires operands { All (IsOperand extent) operands.now }
-    ensures size { IfOk result (λ r. r.0.size ≡ extent) }
-    ensures book { IfOk result (λ r. IsBookOf r.0 (operand (cells_after operands.now) 0) (operand (cells_after operands.now) 1)) }
-    ensures damage { IfOk result (λ r. r.1.items ≡ tiles extent) }
+    requires found { IfSome found (λ q. AreAllCounts extent (operand (cells_after operands.now) 0) (operand (cells_after operands.now) 1) q.1.items) }
+    ensures size { IfOk result (λ book. book.size ≡ extent) }
+    ensures book { IfOk result (λ book. IsBookOf book (operand (cells_after operands.now) 0) (operand (cells_after operands.now) 1)) }
     ensures looks { RisesBy (2 * tiles_in extent) 0 (M.counts tally.old) (M.counts tally.new) }
 {
+    if let Some((_, parts)) = found {
+        let book = counted_book(alloc, extent, parts)?;
+        return Ok(book);
+    }
     let Some(values) = operands.get(0) else {
         unreachable!()
     };
@@ -68,6 +78,26 @@ fn first_book<M: Tally>(
         unreachable!()
     };
     let book = Book::fresh(alloc, values, zones, tally)?;
+    Ok(book)
+}
+
+/// The book of a statement of which none is kept, and all tiles.
+fn first_book<M: Tally>(
+    alloc: Global,
+    operands: &Operands<'_>,
+    extent: Extent,
+    found: Option<(Ground, Vec<Part>)>,
+    tally: &mut M,
+) -> Result<(Book, Vec<u32>), NoMemory>
+    requires two { length operands.now ≡ 2 }
+    requires operands { All (IsOperand extent) operands.now }
+    requires found { IfSome found (λ q. AreAllCounts extent (operand (cells_after operands.now) 0) (operand (cells_after operands.now) 1) q.1.items) }
+    ensures size { IfOk result (λ r. r.0.size ≡ extent) }
+    ensures book { IfOk result (λ r. IsBookOf r.0 (operand (cells_after operands.now) 0) (operand (cells_after operands.now) 1)) }
+    ensures damage { IfOk result (λ r. r.1.items ≡ tiles extent) }
+    ensures looks { RisesBy (2 * tiles_in extent) 0 (M.counts tally.old) (M.counts tally.new) }
+{
+    let book = fresh_book(alloc, operands, extent, found, tally)?;
     let list = all_tiles(alloc, extent)?;
     Ok((book, list))
 }

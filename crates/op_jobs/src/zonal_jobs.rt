@@ -1,5 +1,5 @@
 //! The jobs of Zonal statements: a job for each tile of the damage, over the book after the edit.
-ghost use Rattle.std.specs.Prelude.{◌≡◌, ◌≢◌, ◌*◌, ◌<◌, length, IfOk, IsTrue};
+ghost use Rattle.std.specs.Prelude.{◌≡◌, ◌≢◌, ◌*◌, ◌<◌, length, IfOk, IfSome, IsTrue};
 ghost use Rattle.std.specs.List.{All};
 ghost use Rattle.std.specs.Option.{option_copied};
 ghost use Rattle.map_defs.specs.Operate.{operand};
@@ -9,15 +9,18 @@ ghost use Rattle.layer_tiles.specs.Operands.{cells_after};
 ghost use Rattle.layer_tiles.specs.Tallies.{RisesBy};
 ghost use Rattle.layer_tiles.specs.Tiles.{tiles_in};
 ghost use Rattle.statement_parser.specs.Views.{op_view};
+ghost use Rattle.map_waves.specs.Found.{AreFound};
 ghost use Rattle.map_waves.specs.Keeping.{kept_now, was_of, IsRightKept};
 ghost use Rattle.map_waves.specs.Operands.{IsOperand};
 ghost use Rattle.map_waves.specs.Statements.{damage_by, made};
 ghost use Rattle.op_jobs.specs.Beside.{suits, book_in, IsBook};
 ghost use Rattle.op_jobs.specs.Classes.{is_zonal};
+ghost use Rattle.op_jobs.specs.Fresh.{IsGrounded, IsPart};
 ghost use Rattle.op_jobs.specs.Owning.{AreTileJobs};
 ghost use Rattle.op_jobs.specs.Ranges.{HasRanges};
 
 use crate::beside::Beside;
+use crate::ground::{Ground, Part};
 use crate::own::TileJobs;
 use crate::zonal::{zonal_begin, zonal_piece};
 use layer_tiles::{Extent, KernelRefusal, Operands, Tally, Tile};
@@ -47,6 +50,7 @@ pub(crate) fn zonal_jobs<M: Tally>(
     operands: &Operands<'_>,
     kept: Option<&Kept<Beside>>,
     extent: Extent,
+    found: Option<(Ground, Vec<Part>)>,
     tally: &mut M,
 ) -> Result<TileJobs, NoMemory>
     requires formed { HasRanges (op_view op.now) }
@@ -54,13 +58,14 @@ pub(crate) fn zonal_jobs<M: Tally>(
     requires operands_are { All (IsOperand extent) operands.now }
     requires terms { length operands.now ≡ length (terms_of (op_view op.now)) }
     requires right { IsRightKept suits extent (op_view op.now) operands.now (kept_now kept) }
+    requires found { IfSome found (λ q. AreFound IsGrounded IsPart extent (op_view op.now) operands.now q.0 q.1.items) }
     ensures jobs { IfOk result (AreTileJobs extent (op_view op.entry.now) operands.entry.now (was_of (kept_now kept.entry))) }
     ensures looks { RisesBy (8 * length (damage_by extent (op_view op.entry.now) (was_of (kept_now kept.entry)) operands.entry.now)) 0 (M.counts tally.old) (M.counts tally.new) }
 {
     let Op::Zonal { stat, .. } = op else {
         unreachable!();
     };
-    let (book, tiles) = zonal_begin(alloc, *stat, operands, book_of(kept), extent, tally)?;
+    let (book, tiles) = zonal_begin(alloc, *stat, operands, book_of(kept), extent, found, tally)?;
     Ok(TileJobs {
         tiles,
         local: None,

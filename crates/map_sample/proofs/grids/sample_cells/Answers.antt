@@ -1,4 +1,4 @@
-use Rattle.std.proofs.Common.{◌≡◌, ◌*◌, suc, ap, ◌∙◌, arith}
+use Rattle.std.proofs.Common.{ap, ◌∙◌, arith}
 use Rattle.map_sample.specs.Grids.{cells_to}
 use Rattle.map_sample.proofs.grids.sample_cells.Goals as goal
 

@@ -3,6 +3,7 @@ use Rattle.std.specs.Vec.Iter.{into_iter_items}
 use Rattle.map_waves.proofs.Looking.{left_first}
 use Rattle.op_jobs.specs.Fresh.{IsDowns}
 use Rattle.op_jobs.proofs.FlowBands.{AreDownsTo, downs_more, downs_end}
+use Rattle.op_jobs.proofs.ZonalParts.{only_downs}
 use Rattle.op_jobs.proofs.flow_bands.downs_of.Goals as goal
 
 pub unreachable-requires-in_default-one : goal.unreachable-requires-in_default-one
@@ -11,7 +12,7 @@ unreachable-requires-in_default-one c =
     let rs = c.args.parts.items in
     let head : drop k rs ≡ c.in-Some.one ∷ into_iter_items c.next.new.self = sym c.loop-place.invariant.rest ∙ c.in-Some.ensures.items in
     let first = left_first k rs (into_iter_items c.next.new.self) c.in-Some.one head in
-    subst (IsDowns c.args.extent c.args.surface.now (length rs) k) c.in_default-one.is (c.requires.each k c.in-Some.one first.0)
+    only_downs c.args.extent c.args.surface.now (length rs) k c.in-Some.one c.in_default-one.not-Downs (c.requires.each k c.in-Some.one first.0)
 
 pub loop-place-preserved : goal.loop-place-preserved
 loop-place-preserved c =

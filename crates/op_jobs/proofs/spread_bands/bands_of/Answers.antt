@@ -1,10 +1,10 @@
-use Rattle.std.proofs.Common.{◌≡◌, [], ◌∷◌, ◌++◌, length, drop, Some, slice_get, sym, ap, subst, ◌∙◌, arith}
+use Rattle.std.proofs.Common.{◌≡◌, [], ◌∷◌, ◌++◌, length, drop, Some, slice_get, sym, ap, ◌∙◌, arith}
 use Rattle.std.proofs.lemmas.List.{length_push}
 use Rattle.std.specs.Vec.Iter.{into_iter_items}
 use Rattle.map_waves.proofs.Phasing.{each_pushed}
 use Rattle.map_waves.proofs.Looking.{left_first}
-use Rattle.op_jobs.specs.Fresh.{IsCosts}
 use Rattle.op_jobs.specs.declared.ground.Part.TheVariants.{Costs}
+use Rattle.op_jobs.proofs.ZonalParts.{only_costs}
 use Rattle.op_jobs.proofs.spread_bands.bands_of.Goals as goal
 
 pub unreachable-requires-in_default-one : goal.unreachable-requires-in_default-one
@@ -13,7 +13,7 @@ unreachable-requires-in_default-one c =
     let rs = c.args.parts.items in
     let head : drop k rs ≡ c.in-Some.one ∷ into_iter_items c.next.new.self = sym c.loop-place.invariant.rest ∙ c.in-Some.ensures.items in
     let first = left_first k rs (into_iter_items c.next.new.self) c.in-Some.one head in
-    subst (IsCosts c.requires.0 c.requires.1 k) c.in_default-one.is (c.requires.2 k c.in-Some.one first.0)
+    only_costs c.requires.0 c.requires.1 k c.in-Some.one c.in_default-one.not-Costs (c.requires.2 k c.in-Some.one first.0)
 
 pub loop-place-preserved : goal.loop-place-preserved
 loop-place-preserved c =

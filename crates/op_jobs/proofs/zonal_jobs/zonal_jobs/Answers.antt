@@ -6,12 +6,16 @@ use Rattle.map_waves.specs.Keeping.{kept_now, was_of, IsRightKept}
 use Rattle.map_waves.specs.Statements.{damage_by}
 use Rattle.op_jobs.specs.Beside.{suits}
 use Rattle.op_jobs.proofs.Kept.{right_book, book_there}
+use Rattle.op_jobs.proofs.ZonalParts.{counts_found}
 use Rattle.op_jobs.proofs.zonal_jobs.zonal_jobs.Goals as goal
 
 pub zonal_begin-requires-clause-right : goal.zonal_begin-requires-clause-right
 zonal_begin-requires-clause-right g c =
     let P : Op → Type 0 = λ o. IsRightKept suits c.args.extent o c.args.operands.now (kept_now c.args.kept) in
     right_book c.args.extent c.in-Zonal.stat (term_view c.in-Zonal.of) (term_view c.in-Zonal.zones) c.args.operands.now (kept_now c.args.kept) c.book_of.result c.book_of.ensures (subst P (ap op_view c.in-Zonal.is) c.requires.right)
+
+pub zonal_begin-requires-clause-found : goal.zonal_begin-requires-clause-found
+zonal_begin-requires-clause-found g c = counts_found c.args.extent (op_view c.args.op.now) c.args.operands.now c.args.found c.in-Zonal.stat (term_view c.in-Zonal.of) (term_view c.in-Zonal.zones) (ap op_view c.in-Zonal.is) c.requires.found
 
 pub returns-in_err-book-clause-looks : goal.returns-in_err-book-clause-looks
 returns-in_err-book-clause-looks g c =

@@ -1,0 +1,175 @@
+-- What parts of a map's tiles count, and the looks that it takes.
+use Rattle.std.proofs.Common.{◌≡◌, ℕ, zero, suc, ◌+◌, ◌-◌, ◌*◌, ◌<◌, Bool, true, false, List, [], ◌∷◌, length, Option, Some, None, slice_get, refl, sym, ap, subst, ◌∙◌, arith, IsTrue, cond, Result, IfOk}
+use Rattle.std.specs.Prelude.{IfSome, Vec, is_some}
+use Rattle.std.specs.Borrow.{Bor}
+use Rattle.std.specs.List.{All, sum_by, range_with_len}
+use Rattle.std.specs.declared.alloc.Global.{Global}
+use Rattle.std.proofs.lemmas.List.Sums.{sum_by-cons}
+use Rattle.map_nums.specs.declared.Stat.{Stat}
+use Rattle.map_nums.specs.Grids.{Size, Cells}
+use Rattle.map_nums.specs.Tiles.{tiles_in}
+use Rattle.map_defs.specs.Operate.{operand}
+use Rattle.map_defs.specs.Ops.{Op, Term, local_op, difference_op, ratio_op, rating_op, focal_op, zonal_op, form_op, direction_op, flow_op, spread_op, sight_op, region_op}
+use Rattle.layer_tiles.specs.Changes.{ChangeState}
+use Rattle.layer_tiles.specs.Operands.{cells_after}
+use Rattle.layer_tiles.specs.Tallies.{TallyState, RisesBy}
+use Rattle.layer_tiles.proofs.Rising.{rises_then, rises_within}
+use Rattle.zonal_totals.specs.Ranges.{CountsState, AreTileCounts, AreRanges}
+use Rattle.friction_spread.specs.Costs.{GroundState}
+use Rattle.friction_spread.specs.declared.bands.CostBand.{CostBand}
+use Rattle.map_waves.specs.Found.{AreFound}
+use Rattle.map_waves.specs.Operands.{IsOperand}
+use Rattle.map_waves.specs.Keeping.{kept_now, was_of}
+use Rattle.map_waves.specs.declared.keeping.Kept.{Kept}
+use Rattle.map_waves.proofs.Totals.{sum_next}
+use Rattle.op_jobs.specs.Classes.{is_zonal}
+use Rattle.op_jobs.specs.Fresh.{is_banded, AreBothCells, IsCosts, IsDowns, IsCounts, AreAllCounts, IsGrounded, IsBand, IsPart, grounding, finding}
+use Rattle.op_jobs.specs.Parts.{part_start}
+use Rattle.op_jobs.specs.declared.beside.Beside.{Beside}
+use Rattle.op_jobs.specs.declared.ground.BothCells.{BothCells}
+use Rattle.op_jobs.specs.declared.ground.Ground.{Ground}
+use Rattle.op_jobs.specs.declared.ground.Ground.TheVariants as a_ground
+use Rattle.op_jobs.specs.declared.ground.Part.{Part}
+use Rattle.op_jobs.specs.declared.ground.Part.TheVariants.{Costs, Downs, Counts}
+use Rattle.op_jobs.proofs.Starts.{part_first, part_last, part_rises}
+use Rattle.op_jobs.proofs.ZonalBook.{values_are, zones_are, second_in}
+
+-- ---- what holds of each zonal operation holds of this one
+
+no : false ≡ true → ⊥
+no e = cc
+
+pub zonal_is : (op : Op) → IsTrue (is_zonal op) → (P : Op → Type 0) → ((stat : Stat) (t u : Term) → P (zonal_op stat t u)) → P op
+zonal_is (local_op stat ts) z P h = absurd (no z)
+zonal_is (difference_op t u) z P h = absurd (no z)
+zonal_is (ratio_op t u) z P h = absurd (no z)
+zonal_is (rating_op t rates) z P h = absurd (no z)
+zonal_is (focal_op stat r t) z P h = absurd (no z)
+zonal_is (zonal_op stat t u) z P h = h stat t u
+zonal_is (form_op f t) z P h = absurd (no z)
+zonal_is (direction_op t) z P h = absurd (no z)
+zonal_is (flow_op t u) z P h = absurd (no z)
+zonal_is (spread_op limit t u) z P h = absurd (no z)
+zonal_is (sight_op sight t u) z P h = absurd (no z)
+zonal_is (region_op t) z P h = absurd (no z)
+
+-- ---- looks
+
+counted_to : (all n m : ℕ) → 0 < n → sum_by (λ (k : ℕ). 2 * (part_start all n (suc k) - part_start all n k)) (range_with_len 0 m) ≡ 2 * part_start all n m
+counted_to all n zero some = omega (arith, part_first all n some)
+counted_to all n (suc m) some =
+    let f : ℕ → ℕ = λ k. 2 * (part_start all n (suc k) - part_start all n k) in
+    let more : sum_by f (range_with_len 0 (suc m)) ≡ sum_by f (range_with_len 0 m) + 2 * (part_start all n (suc m) - part_start all n m) = (let here : 0 + m ≡ m = omega arith in sum_next f 0 m ∙ ap (λ j. sum_by f (range_with_len 0 m) + 2 * (part_start all n (suc j) - part_start all n j)) here) in
+    omega (arith, more, counted_to all n m some, part_rises all n 0 m some (omega arith))
+
+-- the parts of a zonal statement's tiles
+pub tiles_counted : (s : Size) (op : Op) (operands : List ChangeState) (n : ℕ) → IsTrue (is_zonal op) → 0 < n → sum_by (finding s op operands n) (range_with_len 0 n) ≡ 2 * tiles_in s
+tiles_counted s op operands n z some =
+    zonal_is op z (λ o. sum_by (finding s o operands n) (range_with_len 0 n) ≡ 2 * tiles_in s) (λ stat t u. counted_to (tiles_in s) n n some ∙ ap (λ m. 2 * m) (part_last (tiles_in s) n some))
+
+quiet : (xs : List ℕ) → sum_by (λ (k : ℕ). 0) xs ≡ 0
+quiet [] = refl
+quiet (x ∷ xs) = omega (arith, quiet xs, sum_by-cons (λ (k : ℕ). 0) x xs)
+
+-- bands
+pub bands_quiet : (s : Size) (op : Op) (operands : List ChangeState) (n : ℕ) → IsTrue (is_banded op) → sum_by (finding s op operands n) (range_with_len 0 n) ≡ 0
+bands_quiet s op operands n banded =
+    let P : Bool → Type 0 = λ b. sum_by (λ (k : ℕ). let v : ℕ = cond b 0 (2 * (part_start (tiles_in s) n (suc k) - part_start (tiles_in s) n k)) in v) (range_with_len 0 n) ≡ 0 in
+    subst P (sym banded) (quiet (range_with_len 0 n))
+
+pub none_was : (kept : Option (Bor (Kept Beside))) → false ≡ is_some kept → was_of (kept_now kept) ≡ None
+none_was None e = refl
+none_was (Some k) e = absurd (no e)
+
+pub all_found : (s : Size) (op : Op) (was : Option Cells) (operands : List ChangeState) (n : ℕ) (a b : TallyState) → was ≡ None → IsTrue (is_zonal op) → 0 < n → RisesBy (sum_by (finding s op operands n) (range_with_len 0 n)) 0 a b → RisesBy (grounding s op was operands) 0 a b
+all_found s op was operands n a b none z some r =
+    let looks : grounding s op was operands ≡ 2 * tiles_in s = ap (λ w. grounding s op w operands) none in
+    rises_within (sum_by (finding s op operands n) (range_with_len 0 n)) 0 (grounding s op was operands) 0 a b (omega (arith, looks, tiles_counted s op operands n z some)) (omega arith) r
+
+-- the ground of bands takes all looks
+pub bands_found : (s : Size) (op : Op) (was : Option Cells) (operands : List ChangeState) (n : ℕ) (a b c : TallyState) → was ≡ None → IsTrue (is_banded op) → RisesBy (2 * tiles_in s) 0 a b → RisesBy (sum_by (finding s op operands n) (range_with_len 0 n)) 0 b c → RisesBy (grounding s op was operands) 0 a c
+bands_found s op was operands n a b c none banded r q =
+    let looks : grounding s op was operands ≡ 2 * tiles_in s = ap (λ w. grounding s op w operands) none in
+    let y = sum_by (finding s op operands n) (range_with_len 0 n) in
+    rises_within (2 * tiles_in s + y) (0 + 0) (grounding s op was operands) 0 a c (omega (arith, looks, bands_quiet s op operands n banded)) (omega arith) (rises_then (2 * tiles_in s) 0 y 0 a b c r q)
+
+-- ---- what is found
+
+pub part_counted : {E : Type 0} (s : Size) (op : Op) (operands : List ChangeState) (n k : ℕ) (r : Result Part E) → IsTrue (is_zonal op) → IfOk r (IsCounts s (operand (cells_after operands) 0) (operand (cells_after operands) 1) n k) → IfOk r (IsPart s op operands n k)
+part_counted s op operands n k r z = zonal_is op z (λ o. IfOk r (IsCounts s (operand (cells_after operands) 0) (operand (cells_after operands) 1) n k) → IfOk r (IsPart s o operands n k)) (λ stat t u h. h)
+
+pub part_rises_by : (s : Size) (op : Op) (operands : List ChangeState) (n k : ℕ) (a b : TallyState) → IsTrue (is_zonal op) → RisesBy (2 * (part_start (tiles_in s) n (suc k) - part_start (tiles_in s) n k)) 0 a b → RisesBy (finding s op operands n k) 0 a b
+part_rises_by s op operands n k a b z = zonal_is op z (λ o. RisesBy (2 * (part_start (tiles_in s) n (suc k) - part_start (tiles_in s) n k)) 0 a b → RisesBy (finding s o operands n k) 0 a b) (λ stat t u r. r)
+
+pub counts_are : (s : Size) (xs : List ChangeState) (v z : ChangeState) (n m k all first end : ℕ) (c : CountsState) → xs ≡ v ∷ z ∷ [] → All (IsOperand s) xs → all ≡ tiles_in s → m ≡ n → first ≡ part_start all m k → end ≡ part_start all m (k + 1) → AreTileCounts z.size v.cells z.cells first end c
+    → IsCounts s (operand (cells_after xs) 0) (operand (cells_after xs) 1) n k (Counts c)
+counts_are s xs v z n m k all first end c both are ea en ef ee h =
+    let start : (j : ℕ) → part_start all m j ≡ part_start (tiles_in s) n j = λ j. ap (λ a. part_start a m j) ea ∙ ap (λ a. part_start (tiles_in s) a j) en in
+    let on : k + 1 ≡ suc k = omega arith in
+    let size = (second_in xs v z both (IsOperand s) are).size in
+    let V = operand (cells_after xs) 0 in
+    let Z = operand (cells_after xs) 1 in
+    subst (λ (e : ℕ). AreTileCounts s V Z (part_start (tiles_in s) n k) e c) (ee ∙ ap (part_start all m) on ∙ start (suc k))
+    (subst (λ (f : ℕ). AreTileCounts s V Z f end c) (ef ∙ start k)
+    (subst (λ (q : Size). AreTileCounts q V Z first end c) size
+    (subst (λ (ys : Cells). AreTileCounts z.size V ys first end c) (sym (zones_are xs v z both)) (subst (λ (ys : Cells). AreTileCounts z.size ys z.cells first end c) (sym (values_are xs v z both)) h))))
+
+some_parts : (s : Size) (op : Op) (operands : List ChangeState) (n : ℕ) (ground : Ground) → IsGrounded s op operands n ground → 0 < n
+some_parts s op operands n (a_ground.Cells cells) is = is.some
+some_parts s op operands n a_ground.Tiles is = is.some
+
+pub all_counts : (s : Size) (op : Op) (operands : List ChangeState) (ground : Ground) (parts : List Part) (stat : Stat) (t u : Term) → op ≡ zonal_op stat t u → AreFound IsGrounded IsPart s op operands ground parts → AreAllCounts s (operand (cells_after operands) 0) (operand (cells_after operands) 1) parts
+all_counts s op operands ground parts stat t u is found = record {
+  some = some_parts s op operands (length parts) ground found.from;
+  each = λ k p e. subst (λ (o : Op). IsBand o s (operand (cells_after operands) 0) (operand (cells_after operands) 1) (length parts) k p) is (found.each k p e);
+}
+
+pub counts_found : (s : Size) (op : Op) (operands : List ChangeState) (found : Option (Ground × Vec Part Global)) (stat : Stat) (t u : Term) → op ≡ zonal_op stat t u → IfSome found (λ q. AreFound IsGrounded IsPart s op operands q.0 q.1.items)
+    → IfSome found (λ q. AreAllCounts s (operand (cells_after operands) 0) (operand (cells_after operands) 1) q.1.items)
+counts_found s op operands None stat t u is h = tt
+counts_found s op operands (Some q) stat t u is h = all_counts s op operands q.0 q.1.items stat t u is h
+
+pub found_cells : (s : Size) (op : Op) (operands : List ChangeState) (ground : Ground) (cells : BothCells) (parts : List Part) → ground ≡ a_ground.Cells cells → AreFound IsGrounded IsPart s op operands ground parts → AreFound AreBothCells IsPart s op operands cells parts
+found_cells s op operands ground cells parts is found = record {
+  from = subst (λ (g : Ground). IsGrounded s op operands (length parts) g) is found.from;
+  each = found.each;
+}
+
+-- ---- parts of one kind are no others
+
+pub only_costs : (g : GroundState) (n k : ℕ) (p : Part) → ((b : CostBand) → p ≡ Costs b → ⊥) → IsCosts g n k p → ⊥
+only_costs g n k (Costs b) other is = other b refl
+only_costs g n k (Downs d) other is = is
+only_costs g n k (Counts c) other is = is
+
+pub only_downs : (s : Size) (surface : Cells) (n k : ℕ) (p : Part) → ((d : Vec (Option ℕ) Global) → p ≡ Downs d → ⊥) → IsDowns s surface n k p → ⊥
+only_downs s surface n k (Costs b) other is = is
+only_downs s surface n k (Downs d) other is = other d refl
+only_downs s surface n k (Counts c) other is = is
+
+pub only_counts : (s : Size) (values zones : Cells) (n k : ℕ) (p : Part) → ((c : CountsState) → p ≡ Counts c → ⊥) → IsCounts s values zones n k p → ⊥
+only_counts s values zones n k (Costs b) other is = is
+only_counts s values zones n k (Downs d) other is = is
+only_counts s values zones n k (Counts c) other is = other c refl
+
+-- ---- the book of them
+
+module _ (s : Size) (values zones : Cells) (n : ℕ) (some : 0 < n) where
+  abbrev all : ℕ
+  all = tiles_in s
+
+  ranges_from : (cs : List CountsState) (k : ℕ) → k + length cs ≡ n → ((j : ℕ) (c : CountsState) → slice_get cs j ≡ Some c → AreTileCounts s values zones (part_start all n (k + j)) (part_start all n (suc (k + j))) c) → AreRanges s values zones (part_start all n k) all cs
+  ranges_from [] k end each = let last : k ≡ n = omega (arith, end) in ap (part_start all n) last ∙ part_last all n some
+  ranges_from (c ∷ cs) k end each =
+      let here : k + 0 ≡ k = omega arith in (
+        part_start all n (suc k),
+        omega (arith, part_rises all n 0 k some (omega arith)),
+        subst (λ j. AreTileCounts s values zones (part_start all n j) (part_start all n (suc j)) c) here (each 0 c refl),
+        ranges_from cs (suc k) (omega (arith, end)) (λ j d e. let next : k + suc j ≡ suc k + j = omega arith in subst (λ i. AreTileCounts s values zones (part_start all n i) (part_start all n (suc i)) d) next (each (suc j) d e)),
+      )
+
+pub ranges_are : (s : Size) (values zones : Cells) (cs : List CountsState) (parts : List Part) → AreAllCounts s values zones parts → length cs ≡ length parts → ((k : ℕ) (c : CountsState) → slice_get cs k ≡ Some c → slice_get parts k ≡ Some (Counts c)) → AreRanges s values zones 0 (tiles_in s) cs
+ranges_are s values zones cs parts are count from =
+    subst (λ m. AreRanges s values zones m (tiles_in s) cs) (part_first (tiles_in s) (length parts) are.some)
+    (ranges_from s values zones (length parts) are.some cs 0 (omega (arith, count))
+    (λ k c e. let here : k ≡ 0 + k = omega arith in subst (λ i. AreTileCounts s values zones (part_start (tiles_in s) (length parts) i) (part_start (tiles_in s) (length parts) (suc i)) c) here (are.each k (Counts c) (from k c e))))
