@@ -1,6 +1,6 @@
 //! Statements that call a procedure.
-use crate::trials::Step::{Lacks, Refuses, Shows, Takes};
-use crate::trials::{Said, Trial};
+use crate::trials::Step::{Lacks, Loads, Procedures, Refuses, Shows, Takes, TakesEach};
+use crate::trials::{Said, tried};
 use live_engine::Which;
 use std::test::Fail;
 
@@ -10,9 +10,8 @@ const TWICE: &str =
 
 #[test]
 fn a_call_stands_for_the_statements_of_its_procedure(rt: HostRuntime) -> Result<(), Fail> {
-    let mut trial = Trial::new(&rt, 3, 3, 1)?;
-    trial.loads("A", 1)?;
-    trial.plays(&[
+    let steps = [
+        Loads("A", 1),
         Takes(TWICE, 0, 0),
         Takes("B = Twice(A, 3)", 2, 2),
         Takes("paint A 3 3 3 3 5", 3, 3),
@@ -22,17 +21,15 @@ fn a_call_stands_for_the_statements_of_its_procedure(rt: HostRuntime) -> Result<
         Refuses("B = Twice(A)", Said::Terms(1, 2)),
         Refuses("B = Nope(A)", Said::NoProcedure),
         Refuses(TWICE, Said::Exists),
-    ])?;
-    assert!(rt; trial.engine().procedure(0).is_some());
-    assert!(rt; trial.engine().procedure(1).is_none());
-    Ok(())
+        Procedures(1),
+    ];
+    tried(&rt, 3, 3, 1, &steps)
 }
 
 #[test]
 fn a_call_is_rewritten(rt: HostRuntime) -> Result<(), Fail> {
-    let mut trial = Trial::new(&rt, 3, 3, 1)?;
-    trial.loads("A", 1)?;
-    trial.plays(&[
+    let steps = [
+        Loads("A", 1),
         Takes(TWICE, 0, 0),
         Takes("B = Twice(A, 3)", 2, 2),
         Takes("C = LocalSum of B and 1", 1, 1),
@@ -45,31 +42,32 @@ fn a_call_is_rewritten(rt: HostRuntime) -> Result<(), Fail> {
         Takes("B = Twice(Q, 3)", 0, 0),
         Lacks("B.x", "Q"),
         Lacks("C", "Q"),
-    ])
+    ];
+    tried(&rt, 3, 3, 1, &steps)
 }
 
 #[test]
 fn a_cycle_through_two_statements(rt: HostRuntime) -> Result<(), Fail> {
-    let mut trial = Trial::new(&rt, 1, 1, 1)?;
-    trial.plays(&[
+    let steps = [
         Takes(TWICE, 0, 0),
         Takes("B = Twice(C, 1)", 0, 0),
         Refuses("C = LocalSum of B and 1", Said::Cycle),
         Refuses("C = Twice(C, 1)", Said::Cycle),
         Takes("new C 7", 3, 3),
         Shows("B", 0, 16),
-    ])
+    ];
+    tried(&rt, 1, 1, 1, &steps)
 }
 
 #[test]
 fn the_statements_of_calls_are_limited(rt: HostRuntime) -> Result<(), Fail> {
-    let mut trial = Trial::new(&rt, 1, 1, 1)?;
-    trial.plays(&[Takes(TWICE, 0, 0)])?;
-    trial.takes_each("A", " = Twice(Q, 1)", 31, 0)?;
-    trial.plays(&[
+    let steps = [
+        Takes(TWICE, 0, 0),
+        TakesEach("A", " = Twice(Q, 1)", 31, 0),
         Takes("B = LocalSum of Q and 1", 0, 0),
         Refuses("C = Twice(Q, 1)", Said::Limit(Which::Statements)),
         Takes("B = Twice(Q, 1)", 0, 0),
         Refuses("C = LocalSum of Q and 1", Said::Limit(Which::Statements)),
-    ])
+    ];
+    tried(&rt, 1, 1, 1, &steps)
 }

@@ -1,13 +1,12 @@
 //! Names that go, while others stay.
-use crate::trials::Step::{Lacks, Shows, Stamps, Takes};
-use crate::trials::Trial;
+use crate::trials::Step::{Lacks, Loads, Marks, Shows, Stamps, Takes};
+use crate::trials::tried;
 use std::test::Fail;
 
 #[test]
 fn statements_follow_the_sources_that_stay(rt: HostRuntime) -> Result<(), Fail> {
-    let mut trial = Trial::new(&rt, 3, 3, 1)?;
-    trial.loads("A", 1)?;
-    trial.plays(&[
+    let steps = [
+        Loads("A", 1),
         Takes("new C 10", 1, 1),
         Takes("new E 100", 1, 1),
         Takes("S = LocalSum of A and 1", 1, 1),
@@ -24,23 +23,21 @@ fn statements_follow_the_sources_that_stay(rt: HostRuntime) -> Result<(), Fail> 
         Stamps("A", &[9]),
         Takes("new C 20", 2, 2),
         Shows("T", 0, 22),
-    ])
+    ];
+    tried(&rt, 3, 3, 1, &steps)
 }
 
 #[test]
 fn labels_and_symbols_go_with_their_name(rt: HostRuntime) -> Result<(), Fail> {
-    let mut trial = Trial::new(&rt, 3, 3, 1)?;
-    trial.loads("A", 1)?;
-    trial.plays(&[
+    let steps = [
+        Loads("A", 1),
         Takes("new C 10", 1, 1),
         Takes("label A 1 wet", 0, 0),
         Takes("label C 10 dry", 0, 0),
         Takes("symbol C 10 ~", 0, 0),
-    ])?;
-    assert_eq!(rt; trial.engine().labels().count(), 2);
-    assert_eq!(rt; trial.engine().symbols().count(), 1);
-    trial.plays(&[Takes("drop C", 0, 0)])?;
-    assert_eq!(rt; trial.engine().labels().count(), 1);
-    assert_eq!(rt; trial.engine().symbols().count(), 0);
-    Ok(())
+        Marks(2, 1),
+        Takes("drop C", 0, 0),
+        Marks(1, 0),
+    ];
+    tried(&rt, 3, 3, 1, &steps)
 }

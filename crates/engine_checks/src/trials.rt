@@ -5,7 +5,7 @@ ghost use Rattle.statement_parser.specs.Views.{edit_view};
 ghost use Rattle.live_engine.specs.Accepts.{IsFormedEdit};
 
 use layer_tiles::{Cell, Extent, Layer, Value};
-use live_engine::{Accepted, Edit, Engine, Refusal, Which};
+use live_engine::{Accepted, Edit, Engine, Entry, Refusal, Which};
 use map_lines::parse_line;
 use map_outside::Counts;
 use map_words::Name;
@@ -34,31 +34,31 @@ pub enum Said {
     NoMemory,
 }
 
-fn told(answer: Result<Accepted, Refusal>) -> Said {
+fn told(answer: &Result<Accepted, Refusal>) -> Said {
     match answer {
         Ok(Accepted { number, counts }) => {
-            Said::Accepted(number, [counts.changed, counts.evaluated, counts.worked])
+            Said::Accepted(*number, [counts.changed, counts.evaluated, counts.worked])
         }
         Err(Refusal::Unknown(_)) => Said::Unknown,
         Err(Refusal::Derived(_)) => Said::Derived,
         Err(Refusal::Exists(_)) => Said::Exists,
-        Err(Refusal::Size(rows, columns)) => Said::Size(rows, columns),
-        Err(Refusal::Limit(which)) => Said::Limit(which),
+        Err(Refusal::Size(rows, columns)) => Said::Size(*rows, *columns),
+        Err(Refusal::Limit(which)) => Said::Limit(*which),
         Err(Refusal::Cycle(_)) => Said::Cycle,
-        Err(Refusal::Viewers(_, count)) => Said::Viewers(count),
-        Err(Refusal::Overflow(_, row, column)) => Said::Overflow(row, column),
+        Err(Refusal::Viewers(_, count)) => Said::Viewers(*count),
+        Err(Refusal::Overflow(_, row, column)) => Said::Overflow(*row, *column),
         Err(Refusal::NoProcedure(_)) => Said::NoProcedure,
-        Err(Refusal::Terms(given, wanted)) => Said::Terms(given, wanted),
+        Err(Refusal::Terms(given, wanted)) => Said::Terms(*given, *wanted),
         Err(Refusal::NoMemory) => Said::NoMemory,
     }
 }
 
 /// What was said to an edit, and what it read.
 #[derive(Clone, Copy)]
-pub struct Answer {
-    pub said: Said,
-    pub looks: u64,
-    pub picks: u64,
+struct Answer {
+    said: Said,
+    looks: u64,
+    picks: u64,
 }
 
 fn edit_of(alloc: Global, line: &[u8]) -> Option<LineEdit>
@@ -104,11 +104,27 @@ fn stamps_of(alloc: Global, layer: &Layer) -> Result<Vec<u64>, Fail> {
     Ok(stamps)
 }
 
+/// What stands at a place of the list of names.
+#[derive(Clone, Copy, Debug, PartialEq, Eq)]
+pub enum Stands {
+    Source,
+    Statement,
+    Nothing,
+}
+
 /// What is tried, one after another.
 #[derive(Clone, Copy)]
 pub enum Step<'a> {
+    /// A layer of this value in each cell is loaded, and all its tiles change.
+    Loads(&'a str, Value),
+    /// A load of a layer of so many rows and columns is refused for this.
+    RefusesLoad(&'a str, u32, u32, Said),
     /// A line is accepted as the next edit, with so many tiles that changed and that were evaluated, and without work.
     Takes(&'a str, u64, u64),
+    /// A line is accepted with so many tiles that changed, all that were evaluated, at most so many looks, and no picks.
+    Reads(&'a str, u64, u64),
+    /// So many lines with the numbers from 0 on between these texts are accepted, each with so many tiles, all changed and evaluated.
+    TakesEach(&'a str, &'a str, u8, u64),
     /// A line is refused for this.
     Refuses(&'a str, Said),
     /// A layer has this value at this place, row by row from 0.
@@ -117,11 +133,19 @@ pub enum Step<'a> {
     Lacks(&'a str, &'a str),
     /// A layer has these stamps.
     Stamps(&'a str, &'a [u64]),
+    /// So many edits were accepted.
+    Number(u64),
+    /// This stands at a place of the list of names.
+    Names(u32, Stands),
+    /// There are so many procedures.
+    Procedures(u32),
+    /// There are so many labels and so many symbols.
+    Marks(usize, usize),
 }
 
 /// An engine on trial, and how many workers it has.
 #[derive(Drop)]
-pub struct Trial<'a, R> {
+struct Trial<'a, R> {
     rt: &'a R,
     engine: Engine,
     workers: u32,
@@ -130,23 +154,6 @@ pub struct Trial<'a, R> {
 }
 
 impl<'a, R: AllocGlobal + Abort + Threads + Sync> Trial<'a, R> {
-    /// An engine without names, with so many workers.
-    pub fn new(rt: &'a R, rows: u32, columns: u32, workers: u32) -> Result<Trial<'a, R>, Fail>
-        requires some { 1 ≤ workers }
-        requires most { workers ≤ 64 }
-    {
-        let extent = Extent::new(rows, columns).ok_or("limits")?;
-        Ok(Trial {
-            rt,
-            engine: Engine::new(rt.alloc(), extent),
-            workers,
-        })
-    }
-
-    pub fn engine(&self) -> &Engine {
-        &self.engine
-    }
-
     fn edit(&mut self, edit: Edit) -> Answer
         requires { IsFormedEdit edit }
     {
@@ -160,14 +167,13 @@ impl<'a, R: AllocGlobal + Abort + Threads + Sync> Trial<'a, R> {
             &mut tally,
         );
         Answer {
-            said: told(answer),
+            said: told(&answer),
             looks: tally.looks(),
             picks: tally.picks(),
         }
     }
 
-    /// The answer to a line, which is an edit.
-    pub fn line(&mut self, text: &str) -> Result<Answer, Fail> {
+    fn line(&mut self, text: &str) -> Result<Answer, Fail> {
         let edit = edit_of(self.rt.alloc(), text.as_bytes()).ok_or("no edit")?;
         Ok(self.edit(Edit::Line(edit)))
     }
@@ -178,13 +184,25 @@ impl<'a, R: AllocGlobal + Abort + Threads + Sync> Trial<'a, R> {
         Ok(())
     }
 
+    fn next(&self) -> u64 {
+        self.engine.number().saturating_add(1)
+    }
+
     fn takes(&mut self, text: &str, changed: u64, evaluated: u64) -> Result<(), Fail> {
-        let number = self.engine.number().saturating_add(1);
+        let number = self.next();
         self.says(text, Said::Accepted(number, [changed, evaluated, 0]))
     }
 
-    /// This is said to a load of a layer of so many rows and columns, with this value in each cell.
-    pub fn says_to_load(
+    fn reads(&mut self, text: &str, tiles: u64, looks: u64) -> Result<(), Fail> {
+        let number = self.next();
+        let answer = self.line(text)?;
+        assert_eq!(self.rt; answer.said, Said::Accepted(number, [tiles, tiles, 0]));
+        assert!(self.rt; answer.looks <= looks);
+        assert_eq!(self.rt; answer.picks, 0);
+        Ok(())
+    }
+
+    fn says_to_load(
         &mut self,
         name: &str,
         extent: Extent,
@@ -197,11 +215,27 @@ impl<'a, R: AllocGlobal + Abort + Threads + Sync> Trial<'a, R> {
         Ok(())
     }
 
-    /// The first edit is a load of this value in each cell, and changes all tiles.
-    pub fn loads(&mut self, name: &str, value: Value) -> Result<(), Fail> {
+    fn loads(&mut self, name: &str, value: Value) -> Result<(), Fail> {
         let extent = self.engine.extent();
         let tiles = u64::from(extent.tiles());
-        self.says_to_load(name, extent, value, Said::Accepted(1, [tiles, tiles, 0]))
+        let number = self.next();
+        self.says_to_load(
+            name,
+            extent,
+            value,
+            Said::Accepted(number, [tiles, tiles, 0]),
+        )
+    }
+
+    fn refuses_load(
+        &mut self,
+        name: &str,
+        rows: u32,
+        columns: u32,
+        cause: Said,
+    ) -> Result<(), Fail> {
+        let extent = Extent::new(rows, columns).ok_or("limits")?;
+        self.says_to_load(name, extent, 1, cause)
     }
 
     fn layer(&self, name: &str) -> Result<&Layer, Fail> {
@@ -230,36 +264,97 @@ impl<'a, R: AllocGlobal + Abort + Threads + Sync> Trial<'a, R> {
         Ok(())
     }
 
-    fn does(&mut self, step: Step<'_>) -> Result<(), Fail> {
-        match step {
-            Step::Takes(text, changed, evaluated) => self.takes(text, changed, evaluated),
-            Step::Refuses(text, cause) => self.says(text, cause),
-            Step::Shows(name, at, value) => self.shows(name, at, Some(value)),
-            Step::Lacks(name, lacking) => self.lacks(name, lacking),
-            Step::Stamps(name, stamps) => self.has_stamps(name, stamps),
-        }
-    }
-
-    /// All of this is so, one after another.
-    pub fn plays(&mut self, steps: &[Step<'_>]) -> Result<(), Fail> {
-        for step in steps {
-            self.does(*step)?;
-        }
+    fn has_number(&self, want: u64) -> Result<(), Fail> {
+        assert_eq!(self.rt; self.engine.number(), want);
         Ok(())
     }
 
-    /// So many lines with the numbers from 0 on in them are accepted, each with so many tiles, all changed and evaluated.
-    pub fn takes_each(
-        &mut self,
-        before: &str,
-        after: &str,
-        count: u8,
-        tiles: u64,
-    ) -> Result<(), Fail> {
+    fn has_name(&self, place: u32, want: Stands) -> Result<(), Fail> {
+        let stands = match self.engine.entry(place) {
+            Some(Entry::Source(_)) => Stands::Source,
+            Some(Entry::Statement(_, _)) => Stands::Statement,
+            None => Stands::Nothing,
+        };
+        assert_eq!(self.rt; stands, want);
+        Ok(())
+    }
+
+    fn has_procedures(&self, count: u32) -> Result<(), Fail> {
+        for place in 0..count {
+            assert!(self.rt; self.engine.procedure(place).is_some());
+        }
+        assert!(self.rt; self.engine.procedure(count).is_none());
+        Ok(())
+    }
+
+    fn has_marks(&self, labels: usize, symbols: usize) -> Result<(), Fail> {
+        assert_eq!(self.rt; self.engine.labels().count(), labels);
+        assert_eq!(self.rt; self.engine.symbols().count(), symbols);
+        Ok(())
+    }
+
+    fn takes_each(&mut self, before: &str, after: &str, count: u8, tiles: u64) -> Result<(), Fail> {
         for k in 0..count {
             let text = format!(in self.rt.alloc(); "{before}{k}{after}")?;
             self.takes(&text, tiles, tiles)?;
         }
         Ok(())
     }
+
+    fn does(&mut self, step: Step<'_>) -> Result<(), Fail> {
+        match step {
+            Step::Loads(name, value) => self.loads(name, value),
+            Step::RefusesLoad(name, rows, columns, cause) => {
+                self.refuses_load(name, rows, columns, cause)
+            }
+            Step::Takes(text, changed, evaluated) => self.takes(text, changed, evaluated),
+            Step::Reads(text, tiles, looks) => self.reads(text, tiles, looks),
+            Step::TakesEach(before, after, count, tiles) => {
+                self.takes_each(before, after, count, tiles)
+            }
+            Step::Refuses(text, cause) => self.says(text, cause),
+            _ => self.seen(step),
+        }
+    }
+
+    /// What is seen of the engine is so.
+    fn seen(&self, step: Step<'_>) -> Result<(), Fail> {
+        match step {
+            Step::Shows(name, at, value) => self.shows(name, at, Some(value)),
+            Step::Lacks(name, lacking) => self.lacks(name, lacking),
+            Step::Stamps(name, stamps) => self.has_stamps(name, stamps),
+            Step::Number(number) => self.has_number(number),
+            Step::Names(place, stands) => self.has_name(place, stands),
+            Step::Procedures(count) => self.has_procedures(count),
+            Step::Marks(labels, symbols) => self.has_marks(labels, symbols),
+            _ => Ok(()),
+        }
+    }
+
+    fn plays(&mut self, steps: &[Step<'_>]) -> Result<(), Fail> {
+        for step in steps {
+            self.does(*step)?;
+        }
+        Ok(())
+    }
+}
+
+/// An engine without names, with so many workers, over a map of so many rows and columns: all of this is so, one after another.
+pub fn tried<R: AllocGlobal + Abort + Threads + Sync>(
+    rt: &R,
+    rows: u32,
+    columns: u32,
+    workers: u32,
+    steps: &[Step<'_>],
+) -> Result<(), Fail>
+    requires some { 1 ≤ workers }
+    requires most { workers ≤ 64 }
+{
+    let extent = Extent::new(rows, columns).ok_or("limits")?;
+    let mut trial = Trial {
+        rt,
+        engine: Engine::new(rt.alloc(), extent),
+        workers,
+    };
+    trial.plays(steps)
 }

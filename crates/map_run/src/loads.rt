@@ -1,9 +1,14 @@
 //! One load: its file is fetched and loaded, and its reply is put.
-ghost use Rattle.std.specs.Prelude.{◌≡◌, ℕ, None, Some, IfOk, IsTrue};
+ghost use Rattle.std.specs.Prelude.{◌≡◌, ℕ, List, Option, None, Some, Err, Vec, IfOk, IsTrue};
+ghost use Rattle.std.specs.declared.alloc.Global.{Global as AllGlobal};
 ghost use Rattle.map_words.specs.Names.{is_plain};
 ghost use Rattle.map_machine.specs.Loads.{Opened, ready, turned_away, first_load, next_load, long_file_reply};
 ghost use Rattle.map_machine.specs.LoadReads.{first_load_reads, next_load_reads};
-ghost use Rattle.layer_tiles.specs.Tallies.{KeepsParts};
+ghost use Rattle.map_machine.specs.States.{MapState};
+ghost use Rattle.map_session.specs.Answered.{Opens};
+ghost use Rattle.map_outside.specs.Causes.{FetchCounts};
+ghost use Rattle.map_outside.specs.Contents.{Files, Fetches};
+ghost use Rattle.layer_tiles.specs.Tallies.{TallyState, KeepsParts};
 ghost use Rattle.map_run.specs.FaultCounts.{RunCounts};
 ghost use Rattle.map_run.specs.Loads.{Loads, LoadsAs, load_on, load_reads_on, opened_stage, file_stage};
 ghost use Rattle.map_run.specs.Progress.{IsUndivided};
@@ -19,7 +24,7 @@ use layer_tiles::Tally;
 use map_machine::Kind;
 use map_nums::NoMemory;
 use map_outside::{FetchFault, PutFault, Shelf, Sink};
-use map_session::{Begun, Session};
+use map_session::{Begun, Reply, Session};
 use map_words::{Name, NameRefusal};
 use std::alloc::Global;
 use std::thread::Threads;
@@ -54,11 +59,8 @@ pub fn accept<K: Sink>(session: Session, sink: &mut K, reply: &[u8]) -> Result<S
     ensures counts { (shelf source : ℕ) → RunCounts shelf shelf source source (K.faults sink.old) (K.faults sink.new) (status_of result) }
     ensures loads { LoadsAs (ready session reply.now) (K.held sink.old) (K.held sink.new) result }
 {
-    match put_reply(sink, reply) {
-        Ok(()) => Ok(session),
-        Err(PutFault::Failed) => Err(Stop::SinkFault),
-        Err(PutFault::NoMemory) => Err(Stop::NoMemory),
-    }
+    put_reply(sink, reply)?;
+    Ok(session)
 }
 
 /// Puts the reply to a load that was refused, and stops.
@@ -70,6 +72,17 @@ pub fn refuse<K: Sink>(sink: &mut K, reply: &[u8]) -> Result<Session, Stop>
         Ok(()) => Err(Stop::Load),
         Err(PutFault::Failed) => Err(Stop::SinkFault),
         Err(PutFault::NoMemory) => Err(Stop::NoMemory),
+    }
+}
+
+/// Puts the reply to a load. The session goes on where the load was accepted, and the run stops where it was refused.
+pub fn put_loaded<K: Sink>(session: Session, reply: &Reply, sink: &mut K) -> Result<Session, Stop>
+    ensures counts { (shelf source : ℕ) → RunCounts shelf shelf source source (K.faults sink.old) (K.faults sink.new) (status_of result) }
+    ensures loads { (old : MapState) (o : Opened) → Opens old session reply.now o → LoadsAs o (K.held sink.old) (K.held sink.new) result }
+{
+    match reply.kind {
+        Kind::Accepted => accept(session, sink, &reply.bytes),
+        _ => refuse(sink, &reply.bytes),
     }
 }
 
@@ -139,10 +152,7 @@ fn load_next<K: Sink, M: Tally + Send, G: Gate + Sync, R: Threads + Sync>(
         setup.gate,
         tally,
     )?;
-    match reply.kind {
-        Kind::Accepted => accept(session, sink, &reply.bytes),
-        _ => refuse(sink, &reply.bytes),
-    }
+    put_loaded(session, &reply, sink)
 }
 
 // Loads the bytes of a file, the first where there is no session yet.
@@ -169,6 +179,26 @@ fn load_bytes<K: Sink, M: Tally + Send, G: Gate + Sync, R: Threads + Sync>(
     }
 }
 
+// Stops the run, since a file was not fetched; one that is too long is refused.
+fn not_fetched<K: Sink>(
+    alloc: Global,
+    name: &str,
+    most: u64,
+    fault: FetchFault,
+    sink: &mut K,
+) -> Result<Session, Stop>
+    ensures counts { (before now source : ℕ) → FetchCounts {T = Vec ℕ AllGlobal} before now (Err fault) → RunCounts before now source source (K.faults sink.old) (K.faults sink.new) (status_of result) }
+    ensures loads { (files : Option Files) (session : Option MapState) (file : List ℕ) (tally : TallyState) → Fetches files file most (Err fault) → Loads files (λ f. file_stage most session name.now (f file))
+        (record { held = K.held sink.old; faults = K.faults sink.old; tally = tally })
+        (record { held = K.held sink.new; faults = K.faults sink.new; tally = tally }) result }
+{
+    match fault {
+        FetchFault::Long => refuse_long(alloc, name, most, sink),
+        FetchFault::Failed => Err(Stop::ShelfFault),
+        FetchFault::NoMemory => Err(Stop::NoMemory),
+    }
+}
+
 /// Fetches a file, loads it and puts the reply.
 pub fn load_file<F: Shelf, K: Sink, M: Tally + Send, G: Gate + Sync, R: Threads + Sync>(
     setup: &Setup<'_, G, R>,
@@ -191,8 +221,6 @@ pub fn load_file<F: Shelf, K: Sink, M: Tally + Send, G: Gate + Sync, R: Threads 
 {
     match shelf.fetch(setup.alloc, pair.file, setup.limits.file) {
         Ok(bytes) => load_bytes(setup, session, pair.name, &bytes, sink, tally),
-        Err(FetchFault::Long) => refuse_long(setup.alloc, pair.name, setup.limits.file, sink),
-        Err(FetchFault::Failed) => Err(Stop::ShelfFault),
-        Err(FetchFault::NoMemory) => Err(Stop::NoMemory),
+        Err(fault) => not_fetched(setup.alloc, pair.name, setup.limits.file, fault, sink),
     }
 }

@@ -1,8 +1,12 @@
 //! The model file: its lines are played before the session.
-ghost use Rattle.std.specs.Prelude.{◌≡◌, ℕ, IfOk, IsTrue};
+ghost use Rattle.std.specs.Prelude.{◌≡◌, ℕ, List, Option, Err, Vec, IfOk, IsTrue};
+ghost use Rattle.std.specs.declared.alloc.Global.{Global as AllGlobal};
 ghost use Rattle.map_machine.specs.Lines.{lines_of, last_line};
 ghost use Rattle.map_machine.specs.ModelFiles.{long_model_reply};
-ghost use Rattle.layer_tiles.specs.Tallies.{KeepsParts};
+ghost use Rattle.map_machine.specs.States.{MapState};
+ghost use Rattle.map_outside.specs.Causes.{FetchCounts};
+ghost use Rattle.map_outside.specs.Contents.{Files, Fetches};
+ghost use Rattle.layer_tiles.specs.Tallies.{TallyState, KeepsParts};
 ghost use Rattle.map_run.specs.FaultCounts.{RunCounts};
 ghost use Rattle.map_machine.specs.Loads.{turned_away};
 ghost use Rattle.map_run.specs.Loads.{Loads, LoadsAs, model_lines_stage, model_file_stage};
@@ -128,6 +132,25 @@ fn refuse_long<K: Sink>(alloc: Global, most: u64, sink: &mut K) -> Result<Sessio
     refuse(sink, &text)
 }
 
+// Stops the run, since the file was not fetched; one that is too long is refused.
+fn not_fetched<K: Sink>(
+    alloc: Global,
+    most: u64,
+    fault: FetchFault,
+    sink: &mut K,
+) -> Result<Session, Stop>
+    ensures counts { (before now source : ℕ) → FetchCounts {T = Vec ℕ AllGlobal} before now (Err fault) → RunCounts before now source source (K.faults sink.old) (K.faults sink.new) (status_of result) }
+    ensures loads { (files : Option Files) (session : MapState) (file : List ℕ) (tally : TallyState) → Fetches files file most (Err fault) → Loads files (λ f. model_file_stage most (f file) session)
+        (record { held = K.held sink.old; faults = K.faults sink.old; tally = tally })
+        (record { held = K.held sink.new; faults = K.faults sink.new; tally = tally }) result }
+{
+    match fault {
+        FetchFault::Long => refuse_long(alloc, most, sink),
+        FetchFault::Failed => Err(Stop::ShelfFault),
+        FetchFault::NoMemory => Err(Stop::NoMemory),
+    }
+}
+
 /// Fetches the model file and plays its lines, up to one that is refused or ends the file's part.
 pub fn load_model<F: Shelf, K: Sink, M: Tally + Send, G: Gate + Sync, R: Threads + Sync>(
     setup: &Setup<'_, G, R>,
@@ -147,8 +170,6 @@ pub fn load_model<F: Shelf, K: Sink, M: Tally + Send, G: Gate + Sync, R: Threads
 {
     match shelf.fetch(setup.alloc, file, setup.limits.file) {
         Ok(bytes) => play_lines(setup, session, &bytes, sink, tally),
-        Err(FetchFault::Long) => refuse_long(setup.alloc, setup.limits.file, sink),
-        Err(FetchFault::Failed) => Err(Stop::ShelfFault),
-        Err(FetchFault::NoMemory) => Err(Stop::NoMemory),
+        Err(fault) => not_fetched(setup.alloc, setup.limits.file, fault, sink),
     }
 }

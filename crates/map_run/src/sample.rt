@@ -1,5 +1,6 @@
 //! The sample: its grids are made in memory and loaded, and then its lines are answered.
-ghost use Rattle.std.specs.Prelude.{◌≡◌, ◌≤◌, ℕ, map};
+ghost use Rattle.std.specs.Prelude.{◌≡◌, ◌≤◌, ℕ, map, IfOk, IsTrue};
+ghost use Rattle.map_words.specs.Names.{is_plain};
 ghost use Rattle.layer_tiles.specs.Tallies.{KeepsParts};
 ghost use Rattle.map_machine.specs.Loads.{grid_load};
 ghost use Rattle.map_machine.specs.LoadReads.{grid_load_reads};
@@ -16,17 +17,30 @@ ghost use Rattle.map_run.specs.Stages.{Comes};
 ghost use Rattle.map_run.specs.Stops.{status_of};
 
 use crate::lines::{Fed, answer_line};
-use crate::loads::{accept, plain_name, refuse};
+use crate::loads::{plain_name, put_loaded};
 use crate::setup::Setup;
 use crate::stop::Stop;
 use crate::workers::Side;
-use layer_tiles::Tally;
-use map_machine::Kind;
+use layer_tiles::{Layer, Tally};
+use map_nums::NoMemory;
 use map_outside::Sink;
 use map_sample::{SAMPLE_GRIDS, SAMPLE_LINES, SampleGrid, sample_layer, sample_line};
 use map_session::Session;
+use map_words::Name;
+use std::alloc::Global;
 use std::thread::Threads;
 use tile_workers::Gate;
+
+// Makes a grid, and its name.
+fn made_grid(alloc: Global, side: Side, grid: SampleGrid) -> Result<(Name, Layer), NoMemory>
+    ensures name { IfOk result (λ r. r.0 ≡ name_of grid) }
+    ensures plain { IfOk result (λ r. IsTrue (is_plain r.0)) }
+    ensures layer { IfOk result (λ r. record { size = r.1.size; cells = r.1.cells } ≡ by_place side.count (cell_in grid)) }
+{
+    let name = plain_name(alloc, grid.name())?;
+    let layer = sample_layer(alloc, side.count, grid)?;
+    Ok((name, layer))
+}
 
 // Makes a grid, loads it and puts the reply.
 fn load_grid<K: Sink, M: Tally + Send, G: Gate + Sync, R: Threads + Sync>(
@@ -44,8 +58,7 @@ fn load_grid<K: Sink, M: Tally + Send, G: Gate + Sync, R: Threads + Sync>(
         (record { held = K.held sink.old; faults = K.faults sink.old; tally = M.counts tally.old })
         (record { held = K.held sink.new; faults = K.faults sink.new; tally = M.counts tally.new }) result }
 {
-    let name = plain_name(setup.alloc, grid.name())?;
-    let layer = sample_layer(setup.alloc, side.count, grid)?;
+    let (name, layer) = made_grid(setup.alloc, side, grid)?;
     let reply = session.load_layer(
         setup.rt,
         setup.alloc,
@@ -55,10 +68,7 @@ fn load_grid<K: Sink, M: Tally + Send, G: Gate + Sync, R: Threads + Sync>(
         setup.gate,
         tally,
     )?;
-    match reply.kind {
-        Kind::Accepted => accept(session, sink, &reply.bytes),
-        _ => refuse(sink, &reply.bytes),
-    }
+    put_loaded(session, &reply, sink)
 }
 
 // Loads grids into a session, in order.
