@@ -143,12 +143,13 @@ pub enum Step<'a> {
     Marks(usize, usize),
 }
 
-/// An engine on trial, and how many workers it has.
+/// An engine on trial, how many workers it has, and how many edits it has to have accepted.
 #[derive(Drop)]
 struct Trial<'a, R> {
     rt: &'a R,
     engine: Engine,
     workers: u32,
+    accepted: u64,
     ghost some: { 1 ≤ workers },
     ghost most: { workers ≤ 64 },
 }
@@ -181,11 +182,18 @@ impl<'a, R: AllocGlobal + Abort + Threads + Sync> Trial<'a, R> {
     fn says(&mut self, text: &str, want: Said) -> Result<(), Fail> {
         let answer = self.line(text)?;
         assert_eq!(self.rt; answer.said, want, "{text}");
+        self.count(want);
         Ok(())
     }
 
     fn next(&self) -> u64 {
-        self.engine.number().saturating_add(1)
+        self.accepted.saturating_add(1)
+    }
+
+    fn count(&mut self, said: Said) {
+        if let Said::Accepted(number, _) = said {
+            self.accepted = number;
+        }
     }
 
     fn takes(&mut self, text: &str, changed: u64, evaluated: u64) -> Result<(), Fail> {
@@ -199,6 +207,7 @@ impl<'a, R: AllocGlobal + Abort + Threads + Sync> Trial<'a, R> {
         assert_eq!(self.rt; answer.said, Said::Accepted(number, [tiles, tiles, 0]));
         assert!(self.rt; answer.looks <= looks);
         assert_eq!(self.rt; answer.picks, 0);
+        self.accepted = number;
         Ok(())
     }
 
@@ -212,6 +221,7 @@ impl<'a, R: AllocGlobal + Abort + Threads + Sync> Trial<'a, R> {
         let edit = load_of(self.rt.alloc(), extent, name.as_bytes(), value).ok_or("no layer")?;
         let answer = self.edit(edit);
         assert_eq!(self.rt; answer.said, want, "{name}");
+        self.count(want);
         Ok(())
     }
 
@@ -327,7 +337,7 @@ impl<'a, R: AllocGlobal + Abort + Threads + Sync> Trial<'a, R> {
             Step::Names(place, stands) => self.has_name(place, stands),
             Step::Procedures(count) => self.has_procedures(count),
             Step::Marks(labels, symbols) => self.has_marks(labels, symbols),
-            _ => Ok(()),
+            _ => Err(Fail::from("a step that tries nothing")),
         }
     }
 
@@ -355,6 +365,7 @@ pub fn tried<R: AllocGlobal + Abort + Threads + Sync>(
         rt,
         engine: Engine::new(rt.alloc(), extent),
         workers,
+        accepted: 0,
     };
     trial.plays(steps)
 }
