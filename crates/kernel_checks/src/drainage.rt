@@ -119,6 +119,35 @@ fn begins(
     }
 }
 
+/// Whether the flow is this, with this work, after this patch of the surface.
+fn repairs_to(
+    alloc: Global,
+    surface: &Layer,
+    weights: &Layer,
+    patch: &Patch,
+    wanted: &[Value],
+    work: u64,
+) -> bool
+    requires weights { weights.now.size ≡ surface.now.size }
+    requires patch { patch.now.size ≡ surface.now.size }
+{
+    let Ok((base, _)) = first(alloc, surface, weights) else {
+        return false;
+    };
+    match again(alloc, &base, surface, patch, weights) {
+        Ok((values, worked)) => worked == work && hold(&values, wanted),
+        Err(_) => false,
+    }
+}
+
+/// A patch with tile 0 of these values.
+fn patch_with(alloc: Global, extent: Extent, values: &[Value]) -> Result<Patch, Fail>
+    ensures { IfOk result (λ patch. patch.size ≡ extent) }
+{
+    let layer = layer_of(alloc, extent, values)?;
+    Ok(patch_of(alloc, &layer)?)
+}
+
 /// Whether the flow is this, with this work, after tile 0 of the surface became that of another.
 fn becomes(
     alloc: Global,
@@ -131,14 +160,8 @@ fn becomes(
 ) -> Result<bool, Fail> {
     let surface = layer_of(alloc, extent, surface)?;
     let weights = layer_of(alloc, extent, weights)?;
-    let patch = patch_of(alloc, &layer_of(alloc, extent, other)?)?;
-    let Ok((base, _)) = first(alloc, &surface, &weights) else {
-        return Ok(false);
-    };
-    match again(alloc, &base, &surface, &patch, &weights) {
-        Ok((values, worked)) => Ok(worked == work && hold(&values, wanted)),
-        Err(_) => Ok(false),
-    }
+    let patch = patch_with(alloc, extent, other)?;
+    Ok(repairs_to(alloc, &surface, &weights, &patch, wanted, work))
 }
 
 /// The cell where the flow is first out of range.

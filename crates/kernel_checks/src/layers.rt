@@ -8,6 +8,7 @@ use layer_tiles::{
 };
 use map_outside::Counts;
 use std::alloc::Global;
+use std::process::Abort;
 use std::test::Fail;
 
 #[test]
@@ -129,19 +130,30 @@ fn a_change_shows_both_states(rt: HostRuntime) -> Result<(), Fail> {
     Ok(())
 }
 
+/// The tiles of a layer have these stamps.
+fn has_stamps(rt: &(impl AllocGlobal + Abort), layer: &Layer, want: &[u64]) -> Result<(), Fail> {
+    let stamps = stamps_of(rt.alloc(), layer)?;
+    assert_eq!(rt; stamps.as_slice(), want);
+    Ok(())
+}
+
+/// A copy of a layer may be stamped anew.
+fn restamps(rt: &(impl AllocGlobal + Abort), layer: &Layer, want: &[u64]) -> Result<(), Fail> {
+    let mut twin = layer.copy(rt.alloc())?;
+    twin.restamp(9);
+    has_stamps(rt, &twin, want)
+}
+
 #[test]
 fn committed_tiles_are_stamped(rt: HostRuntime) -> Result<(), Fail> {
     let extent = Extent::new(33, 33).ok_or("limits")?;
     assert!(rt; 3 < extent.tiles());
+    let patch = patch_of(rt.alloc(), extent, 1, 5, 3, 7)?;
     let mut layer = Layer::constant(rt.alloc(), extent, cell(5), 1)?;
-    layer.commit(patch_of(rt.alloc(), extent, 1, 5, 3, 7)?, 2);
+    layer.commit(patch, 2);
     assert_eq!(rt; value_at(&layer, 1088, &mut Counts::new()), Some(7));
-    let mut twin = layer.copy(rt.alloc())?;
-    twin.restamp(9);
-    for (of, stamps) in [(&layer, [1, 1, 1, 2]), (&twin, [9, 9, 9, 9])] {
-        assert_eq!(rt; stamps_of(rt.alloc(), of)?.as_slice(), stamps.as_slice());
-    }
-    Ok(())
+    has_stamps(&rt, &layer, &[1, 1, 1, 2])?;
+    restamps(&rt, &layer, &[9, 9, 9, 9])
 }
 
 #[test]

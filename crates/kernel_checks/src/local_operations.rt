@@ -110,6 +110,36 @@ fn overflow_in_either_tile(rt: HostRuntime) -> Result<(), Fail> {
     Ok(())
 }
 
+/// The first row of the tile that an operation makes of one layer.
+fn row_of(
+    alloc: Global,
+    op: &LocalOp,
+    layer: &Layer,
+    tally: &mut Counts,
+) -> Option<Vec<Option<Value>>>
+    requires { Takes (op_of op.now) 1 }
+{
+    if layer.extent().tiles() == 0 {
+        return None;
+    }
+    let mut operands = Operands::new();
+    operands.push(Change::same(layer));
+    let made = local_tile(alloc, op, &operands, 0, tally).ok()?;
+    values_of(alloc, &made).ok()
+}
+
+/// An operation of one layer makes this row, by one look.
+fn rates_to(rt: &(impl AllocGlobal + Abort), op: &LocalOp, layer: &Layer, want: &[Option<Value>])
+    requires { Takes (op_of op.now) 1 }
+{
+    let mut tally = Counts::new();
+    match row_of(rt.alloc(), op, layer, &mut tally) {
+        Some(row) => assert_eq!(rt; row.as_slice(), want),
+        None => panic!(rt; "no row"),
+    }
+    assert_eq!(rt; (tally.looks(), tally.picks()), (1, 0));
+}
+
 #[test]
 fn ratings(rt: HostRuntime) -> Result<(), Fail> {
     let rates = [
@@ -125,29 +155,48 @@ fn ratings(rt: HostRuntime) -> Result<(), Fail> {
         },
     ];
     let op = LocalOp::Rating(Rates::of(rt.alloc(), &rates)?);
-    let layer = layer_of(
-        rt.alloc(),
-        Extent::new(1, 4).ok_or("limits")?,
-        &[3, 5, 6, -1],
-    )?;
-    assert!(rt; 0 < layer.extent().tiles());
-    let mut operands = Operands::new();
-    operands.push(Change::same(&layer));
-    let mut tally = Counts::new();
-    let made = local_tile(rt.alloc(), &op, &operands, 0, &mut tally)?;
-    let values = values_of(rt.alloc(), &made)?;
-    assert_eq!(rt;
-        values.as_slice(),
-        [Some(9), None, Some(6), Some(-1)].as_slice()
-    );
-    assert_eq!(rt; (tally.looks(), tally.picks()), (1, 0));
+    let extent = Extent::new(1, 4).ok_or("limits")?;
+    let layer = layer_of(rt.alloc(), extent, &[3, 5, 6, -1])?;
+    rates_to(&rt, &op, &layer, &[Some(9), None, Some(6), Some(-1)]);
     Ok(())
+}
+
+/// The first row of a statistic of a layer, a cell everywhere and the layer again.
+fn row_of_three(
+    alloc: Global,
+    stat: Stat,
+    layer: &Layer,
+    middle: Cell,
+) -> Option<Vec<Option<Value>>> {
+    if layer.extent().tiles() == 0 {
+        return None;
+    }
+    let mut operands = Operands::new();
+    operands.push(Change::same(layer));
+    operands.push(Change::constant(layer.extent(), middle));
+    operands.push(Change::same(layer));
+    let op = LocalOp::Stat(stat);
+    let made = local_tile(alloc, &op, &operands, 0, &mut Counts::new()).ok()?;
+    values_of(alloc, &made).ok()
+}
+
+/// A statistic of a layer of one cell, a cell and the layer again is this.
+fn is_of_three(
+    rt: &(impl AllocGlobal + Abort),
+    stat: Stat,
+    layer: &Layer,
+    middle: Cell,
+    want: Option<Value>,
+) {
+    match row_of_three(rt.alloc(), stat, layer, middle) {
+        Some(row) => assert_eq!(rt; row.as_slice(), [want].as_slice(), "{stat:?}"),
+        None => panic!(rt; "no row"),
+    }
 }
 
 #[test]
 fn statistics_of_three(rt: HostRuntime) -> Result<(), Fail> {
     let one = layer_of(rt.alloc(), Extent::new(1, 1).ok_or("limits")?, &[5])?;
-    assert!(rt; 0 < one.extent().tiles());
     for (stat, want) in [
         (Stat::Sum, 12),
         (Stat::Product, 50),
@@ -159,16 +208,8 @@ fn statistics_of_three(rt: HostRuntime) -> Result<(), Fail> {
         (Stat::Minority, 2),
         (Stat::Variety, 2),
     ] {
-        for (middle, wanted) in [(cell(2), Some(want)), (Cell::null(), None)] {
-            let mut operands = Operands::new();
-            operands.push(Change::same(&one));
-            operands.push(Change::constant(one.extent(), middle));
-            operands.push(Change::same(&one));
-            let op = LocalOp::Stat(stat);
-            let made = local_tile(rt.alloc(), &op, &operands, 0, &mut Counts::new())?;
-            let values = values_of(rt.alloc(), &made)?;
-            assert_eq!(rt; values.as_slice(), [wanted].as_slice(), "{stat:?}");
-        }
+        is_of_three(&rt, stat, &one, cell(2), Some(want));
+        is_of_three(&rt, stat, &one, Cell::null(), None);
     }
     Ok(())
 }

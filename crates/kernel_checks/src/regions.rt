@@ -4,10 +4,11 @@ ghost use Rattle.map_defs.specs.Regions.{AreRegions};
 ghost use Rattle.layer_tiles.specs.Tiles.{tiles_in};
 
 use crate::makers::{NULL, cell, layer_of, values_of};
-use layer_tiles::{Cell, Change, Extent, Layer, NoMemory, Patch};
+use layer_tiles::{Cell, Change, Extent, Layer, NoMemory, Patch, Value};
 use map_outside::Counts;
 use region_labels::label_repair;
 use std::alloc::Global;
+use std::process::Abort;
 use std::test::Fail;
 
 /// The labels of a map that had none, and the work.
@@ -59,75 +60,97 @@ fn repair(
     Ok(repair.worked)
 }
 
+/// The labels of a layer are these, where null stands for none.
+fn has(rt: &(impl AllocGlobal + Abort), labels: &Layer, want: &[Value]) -> Result<(), Fail> {
+    let values = values_of(rt.alloc(), labels)?;
+    let mut wanted = Vec::new(rt.alloc());
+    for value in want {
+        wanted.push(cell(*value).get())?;
+    }
+    assert_eq!(rt; values.as_slice(), wanted.as_slice());
+    Ok(())
+}
+
+/// What is tried: these numbers have these labels, with this work, and where a cell becomes another, these labels with this work.
+#[derive(Clone, Copy)]
+struct Trial<'a> {
+    numbers: &'a [Value],
+    labels: &'a [Value],
+    work: u64,
+    row: u32,
+    column: u32,
+    other: Value,
+    after: &'a [Value],
+    repair: u64,
+}
+
+/// A change of the numbers has these labels.
+fn repairs(
+    rt: &(impl AllocGlobal + Abort),
+    numbers: &Layer,
+    labels: &mut Layer,
+    trial: Trial<'_>,
+) -> Result<(), Fail>
+    requires some { 0 < tiles_in numbers.now.size }
+    requires labels { labels.old.size ≡ numbers.now.size }
+    requires right { AreRegions numbers.now.size numbers.now.cells labels.old.cells }
+{
+    let other = cell(trial.other);
+    let patch = painted(rt.alloc(), numbers, trial.row, trial.column, other)?;
+    let worked = repair(rt.alloc(), numbers, labels, &patch)?;
+    assert_eq!(rt; worked, trial.repair);
+    has(rt, labels, trial.after)
+}
+
+/// The numbers of a trial have its labels, before and after.
+fn labels(rt: &(impl AllocGlobal + Abort), numbers: &Layer, trial: Trial<'_>) -> Result<(), Fail>
+    requires { 0 < tiles_in numbers.now.size }
+{
+    let (mut labels, work) = first_labels(rt.alloc(), numbers)?;
+    assert_eq!(rt; work, trial.work);
+    has(rt, &labels, trial.labels)?;
+    repairs(rt, numbers, &mut labels, trial)
+}
+
+/// Over so many rows and columns a trial has its labels, before and after.
+fn tried(
+    rt: &(impl AllocGlobal + Abort),
+    rows: u32,
+    columns: u32,
+    trial: Trial<'_>,
+) -> Result<(), Fail> {
+    let extent = Extent::new(rows, columns).ok_or("limits")?;
+    assert!(rt; 0 < extent.tiles());
+    let numbers = layer_of(rt.alloc(), extent, trial.numbers)?;
+    labels(rt, &numbers, trial)
+}
+
 #[test]
 fn a_region_splits(rt: HostRuntime) -> Result<(), Fail> {
-    let extent = Extent::new(1, 5).ok_or("limits")?;
-    assert!(rt; 0 < extent.tiles());
-    let numbers = layer_of(rt.alloc(), extent, &[7, 7, 7, 7, 7])?;
-    let (mut labels, work) = first_labels(rt.alloc(), &numbers)?;
-    assert_eq!(rt; work, 10);
-    assert_eq!(rt;
-        values_of(rt.alloc(), &labels)?.as_slice(),
-        [Some(1), Some(1), Some(1), Some(1), Some(1)].as_slice()
-    );
-    let patch = painted(rt.alloc(), &numbers, 0, 2, cell(8))?;
-    assert_eq!(rt; repair(rt.alloc(), &numbers, &mut labels, &patch)?, 6);
-    assert_eq!(rt;
-        values_of(rt.alloc(), &labels)?.as_slice(),
-        [Some(1), Some(1), Some(3), Some(4), Some(4)].as_slice()
-    );
-    Ok(())
+    let trial = Trial {
+        numbers: &[7, 7, 7, 7, 7],
+        labels: &[1, 1, 1, 1, 1],
+        work: 10,
+        row: 0,
+        column: 2,
+        other: 8,
+        after: &[1, 1, 3, 4, 4],
+        repair: 6,
+    };
+    tried(&rt, 1, 5, trial)
 }
 
 #[test]
 fn corners_join_and_a_null_parts(rt: HostRuntime) -> Result<(), Fail> {
-    let extent = Extent::new(3, 4).ok_or("limits")?;
-    assert!(rt; 0 < extent.tiles());
-    let numbers = layer_of(
-        rt.alloc(),
-        extent,
-        &[5, NULL, 5, 5, NULL, 5, NULL, 6, 5, NULL, 6, 6],
-    )?;
-    let (mut labels, work) = first_labels(rt.alloc(), &numbers)?;
-    assert_eq!(rt; work, 20);
-    let one = Some(1);
-    assert_eq!(rt;
-        values_of(rt.alloc(), &labels)?.as_slice(),
-        [
-            one,
-            None,
-            one,
-            one,
-            None,
-            one,
-            None,
-            Some(8),
-            one,
-            None,
-            Some(8),
-            Some(8)
-        ]
-        .as_slice()
-    );
-    let patch = painted(rt.alloc(), &numbers, 1, 1, Cell::null())?;
-    assert_eq!(rt; repair(rt.alloc(), &numbers, &mut labels, &patch)?, 8);
-    assert_eq!(rt;
-        values_of(rt.alloc(), &labels)?.as_slice(),
-        [
-            one,
-            None,
-            Some(3),
-            Some(3),
-            None,
-            None,
-            None,
-            Some(8),
-            Some(9),
-            None,
-            Some(8),
-            Some(8)
-        ]
-        .as_slice()
-    );
-    Ok(())
+    let trial = Trial {
+        numbers: &[5, NULL, 5, 5, NULL, 5, NULL, 6, 5, NULL, 6, 6],
+        labels: &[1, NULL, 1, 1, NULL, 1, NULL, 8, 1, NULL, 8, 8],
+        work: 20,
+        row: 1,
+        column: 1,
+        other: NULL,
+        after: &[1, NULL, 3, 3, NULL, NULL, NULL, 8, 9, NULL, 8, 8],
+        repair: 8,
+    };
+    tried(&rt, 3, 4, trial)
 }

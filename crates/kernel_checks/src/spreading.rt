@@ -110,6 +110,31 @@ fn begins(
     Ok(worked == work && hold(&values_of(alloc, &costs)?, wanted))
 }
 
+/// Whether costs are these, with this work, after this patch of the frictions.
+fn repairs_to(
+    alloc: Global,
+    sources: &Layer,
+    friction: &Layer,
+    patch: &Patch,
+    wanted: &[Value],
+    work: u64,
+) -> Result<bool, Fail>
+    requires friction { friction.now.size ≡ sources.now.size }
+    requires patch { patch.now.size ≡ sources.now.size }
+{
+    let (base, _) = first(alloc, sources, friction, MOST)?;
+    let (values, worked) = again(alloc, &base, sources, friction, patch, MOST)?;
+    Ok(worked == work && hold(&values, wanted))
+}
+
+/// A patch with tile 0 of these values.
+fn patch_with(alloc: Global, extent: Extent, values: &[Value]) -> Result<Patch, Fail>
+    ensures { IfOk result (λ patch. patch.size ≡ extent) }
+{
+    let layer = layer_of(alloc, extent, values)?;
+    Ok(tile_of(alloc, &layer)?)
+}
+
 /// Whether costs are these, with this work, after tile 0 of the frictions became that of other ones.
 fn becomes(
     alloc: Global,
@@ -122,10 +147,8 @@ fn becomes(
 ) -> Result<bool, Fail> {
     let sources = layer_of(alloc, extent, sources)?;
     let friction = layer_of(alloc, extent, friction)?;
-    let patch = tile_of(alloc, &layer_of(alloc, extent, other)?)?;
-    let (base, _) = first(alloc, &sources, &friction, MOST)?;
-    let (values, worked) = again(alloc, &base, &sources, &friction, &patch, MOST)?;
-    Ok(worked == work && hold(&values, wanted))
+    let patch = patch_with(alloc, extent, other)?;
+    repairs_to(alloc, &sources, &friction, &patch, wanted, work)
 }
 
 /// A source in the first of five cells.

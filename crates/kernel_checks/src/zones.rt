@@ -6,6 +6,7 @@ use layer_tiles::{Change, Extent, Layer, NoMemory, Patch, Value};
 use map_nums::Stat;
 use map_outside::Counts;
 use std::alloc::Global;
+use std::process::Abort;
 use std::test::Fail;
 use zonal_totals::{Book, BookPatch};
 
@@ -128,20 +129,49 @@ fn changed_zones(patch: &BookPatch) -> [Option<Value>; 3] {
     [patch.zone(0), patch.zone(1), patch.zone(2)]
 }
 
+/// A zone of a book has this sum, after a patch that sum, and then lies in these tiles.
+fn has_sums(
+    rt: &impl Abort,
+    book: &Book,
+    patch: &BookPatch,
+    zone: Value,
+    sums: [Value; 2],
+    tiles: [Option<u32>; 3],
+)
+    requires { patch.now.after.size ≡ book.now.size }
+{
+    let found = [sum(book, zone), sum_after(book, patch, zone)];
+    assert_eq!(rt; found, [Some(sums[0]), Some(sums[1])]);
+    assert_eq!(rt; tiles_after(book, patch, zone), tiles);
+}
+
+/// One cell of zone 1 in a book of ones became one of zone 2.
+fn moves(rt: &impl Abort, book: &Book, patch: &BookPatch)
+    requires { patch.now.after.size ≡ book.now.size }
+{
+    assert_eq!(rt; changed_zones(patch), [Some(1), Some(2), None]);
+    has_sums(rt, book, patch, 1, [33, 32], [Some(0), Some(2), None]);
+    has_sums(rt, book, patch, 2, [32, 33], [Some(0), Some(1), None]);
+}
+
 #[test]
 fn a_cell_changes_its_zone(rt: HostRuntime) -> Result<(), Fail> {
     let zones = three_parts(rt.alloc())?;
     let patch = first_cell(rt.alloc(), &zones, 2)?;
     let mut tally = Counts::new();
     let (book, after) = with_ones(rt.alloc(), &zones, &patch, &mut tally)?;
-    assert_eq!(rt; changed_zones(&after), [Some(1), Some(2), None]);
-    assert_eq!(rt; [sum(&book, 1), sum(&book, 2)], [Some(33), Some(32)]);
-    let sums = [sum_after(&book, &after, 1), sum_after(&book, &after, 2)];
-    assert_eq!(rt; sums, [Some(32), Some(33)]);
-    assert_eq!(rt; tiles_after(&book, &after, 1), [Some(0), Some(2), None]);
-    assert_eq!(rt; tiles_after(&book, &after, 2), [Some(0), Some(1), None]);
+    moves(&rt, &book, &after);
     assert!(rt; tally.looks() <= 4 && tally.picks() == 0);
     Ok(())
+}
+
+/// Two zones have one value each, before and after a patch.
+fn have_one_value(rt: &impl Abort, book: &Book, patch: &BookPatch)
+    requires { patch.now.after.size ≡ book.now.size }
+{
+    assert_eq!(rt; [variety(book, 1), variety(book, 2)], [Some(1); 2]);
+    let after = [variety_after(book, patch, 1), variety_after(book, patch, 2)];
+    assert_eq!(rt; after, [Some(1); 2]);
 }
 
 #[test]
@@ -149,13 +179,17 @@ fn variety_stays(rt: HostRuntime) -> Result<(), Fail> {
     let zones = three_parts(rt.alloc())?;
     let patch = first_cell(rt.alloc(), &zones, 2)?;
     let (book, after) = with_themselves(rt.alloc(), &zones, &patch)?;
-    let seen = [
-        variety(&book, 1),
-        variety(&book, 2),
-        variety_after(&book, &after, 1),
-        variety_after(&book, &after, 2),
-    ];
-    assert_eq!(rt; seen, [Some(1); 4]);
+    have_one_value(&rt, &book, &after);
+    Ok(())
+}
+
+/// A book takes its patch, and a copy from before keeps its sum.
+fn takes(rt: &(impl AllocGlobal + Abort), book: &mut Book, patch: BookPatch) -> Result<(), Fail>
+    requires { patch.after.size ≡ book.old.size }
+{
+    let before = book.copy(rt.alloc())?;
+    book.commit(patch);
+    assert_eq!(rt; [sum(&before, 1), sum(book, 1)], [Some(33), Some(32)]);
     Ok(())
 }
 
@@ -164,8 +198,5 @@ fn a_book_takes_its_patch(rt: HostRuntime) -> Result<(), Fail> {
     let zones = three_parts(rt.alloc())?;
     let patch = first_cell(rt.alloc(), &zones, 2)?;
     let (mut book, after) = with_ones(rt.alloc(), &zones, &patch, &mut Counts::new())?;
-    let before = book.copy(rt.alloc())?;
-    book.commit(after);
-    assert_eq!(rt; [sum(&before, 1), sum(&book, 1)], [Some(33), Some(32)]);
-    Ok(())
+    takes(&rt, &mut book, after)
 }

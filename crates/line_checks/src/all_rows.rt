@@ -1,59 +1,24 @@
 //! Lines of the language where all of its rows are there.
-use crate::texts::canonical;
-use map_nums::Stat;
-use statement_parser::{
-    Command, Form, Line, LineEdit, LineRefusal, Operation, Rows, parse_line, print_procedure,
-};
+use crate::texts::{Table, look_at, refusal};
+use statement_parser::LineRefusal;
 use std::alloc::Global;
 use std::process::Abort;
 use std::test::Fail;
 
-/// The operations beside `LocalSum` that the lines below name.
-const OPERATIONS: [Operation; 11] = [
-    Operation::Local(Stat::Product),
-    Operation::Local(Stat::Mean),
-    Operation::Focal(Stat::Sum),
-    Operation::Focal(Stat::Mean),
-    // Not in the table: no row makes a Focal product.
-    Operation::Focal(Stat::Product),
-    Operation::Proximity,
-    Operation::Insularity,
-    Operation::Zonal(Stat::Variety),
-    Operation::Incremental(Form::Gradient),
-    Operation::Incremental(Form::Aspect),
-    Operation::Drainage,
-];
-
-const COMMANDS: [Command; 14] = [
-    Command::Procedure,
-    Command::Paint,
-    Command::New,
-    Command::Drop,
-    Command::Label,
-    Command::Symbol,
-    Command::Value,
-    Command::Grid,
-    Command::Show,
-    Command::Legend,
-    Command::Table,
-    Command::Stamps,
-    Command::List,
-    Command::Quit,
-];
-
-fn read(alloc: Global, line: &[u8]) -> Result<Line, LineRefusal> {
-    let rows = Rows {
-        operations: &OPERATIONS,
-        commands: &COMMANDS,
-        sight: true,
-        calls: true,
-    };
-    parse_line(alloc, &rows, line)
+/// A line is refused for this, or read where there is nothing.
+fn gives(rt: &(impl AllocGlobal + Abort), line: &[u8], want: Option<LineRefusal>) {
+    assert_eq!(rt; refusal(rt.alloc(), Table::All, line), want, "{line:?}");
 }
 
-/// Why a line is refused.
-fn refusal(alloc: Global, line: &[u8]) -> Option<LineRefusal> {
-    read(alloc, line).err()
+/// A statement or a procedure has this canonical text, and so has a copy of it.
+fn reads(rt: &(impl AllocGlobal + Abort), line: &[u8], text: &[u8]) {
+    match look_at(rt.alloc(), Table::All, line) {
+        Ok(found) => {
+            assert_eq!(rt; found.text.as_deref(), Some(text));
+            assert_eq!(rt; found.copy.as_deref(), Some(text));
+        }
+        Err(_) => panic!(rt; "not read"),
+    }
 }
 
 #[test]
@@ -100,17 +65,12 @@ fn refused_lines_of_all_rows(rt: HostRuntime) {
         (b"legend A.paint", LineRefusal::Syntax(8)),
     ];
     for (line, want) in lines {
-        assert_eq!(rt; refusal(rt.alloc(), line), Some(want));
+        gives(&rt, line, Some(want));
     }
 }
 
-/// The canonical text of a statement.
-fn reprinted(alloc: Global, line: &[u8]) -> Option<Vec<u8>> {
-    canonical(alloc, &read(alloc, line).ok()?)
-}
-
 #[test]
-fn defaults_are_left_out(rt: HostRuntime) -> Result<(), Fail> {
+fn defaults_are_left_out(rt: HostRuntime) {
     let texts: [(&[u8], &[u8]); 7] = [
         (b"C=FocalMean of A at 1", b"C = FocalMean of A at 1"),
         (
@@ -136,10 +96,8 @@ fn defaults_are_left_out(rt: HostRuntime) -> Result<(), Fail> {
         (b"C=Twice ( A,-0 , 007 )", b"C = Twice(A, 0, 7)"),
     ];
     for (line, want) in texts {
-        let text = reprinted(rt.alloc(), line).ok_or("not read")?;
-        assert_eq!(rt; text.as_slice(), want);
+        reads(&rt, line, want);
     }
-    Ok(())
 }
 
 /// The refused lines of worked sessions and model files that the grammar alone decides.
@@ -161,22 +119,16 @@ fn refused_lines_of_sessions(rt: HostRuntime) {
         ),
     ];
     for (line, want) in lines {
-        assert_eq!(rt; refusal(rt.alloc(), line), Some(want));
+        gives(&rt, line, Some(want));
     }
 }
 
 #[test]
 fn refused_long_lines_of_sessions(rt: HostRuntime) -> Result<(), Fail> {
     let brackets = vec![in rt.alloc(); b'('; 2000]?;
-    assert_eq!(rt;
-        refusal(rt.alloc(), &brackets),
-        Some(LineRefusal::Syntax(1))
-    );
+    gives(&rt, &brackets, Some(LineRefusal::Syntax(1)));
     let letters = vec![in rt.alloc(); b'x'; 4097]?;
-    assert_eq!(rt;
-        refusal(rt.alloc(), &letters),
-        Some(LineRefusal::Long(4097))
-    );
+    gives(&rt, &letters, Some(LineRefusal::Long(4097)));
     Ok(())
 }
 
@@ -194,19 +146,35 @@ fn refused_labels_and_symbols(rt: HostRuntime) {
         (b"symbol A x y", LineRefusal::Syntax(10)),
     ];
     for (line, want) in lines {
-        assert_eq!(rt; refusal(rt.alloc(), line), Some(want));
+        gives(&rt, line, Some(want));
     }
+}
+
+/// A label whose text has 64 bytes, and this behind it.
+fn long_label(alloc: Global, behind: &[u8]) -> Result<Vec<u8>, Fail> {
+    let mut line = Vec::from_slice(alloc, b"label A 5 ")?;
+    for _ in 0..64 {
+        line.push(b'7')?;
+    }
+    line.extend_from_slice(behind)?;
+    Ok(line)
+}
+
+/// A label whose text has 64 bytes is refused for this with what stands behind it, or read.
+fn ends(
+    rt: &(impl AllocGlobal + Abort),
+    behind: &[u8],
+    want: Option<LineRefusal>,
+) -> Result<(), Fail> {
+    let line = long_label(rt.alloc(), behind)?;
+    gives(rt, &line, want);
+    Ok(())
 }
 
 #[test]
 fn a_text_ends_at_sixty_four(rt: HostRuntime) -> Result<(), Fail> {
-    let mut line = Vec::from_slice(rt.alloc(), b"label A 5 ")?;
-    line.extend_from_slice(&vec![in rt.alloc(); b'7'; 64]?)?;
-    line.push(b' ')?;
-    assert_eq!(rt; refusal(rt.alloc(), &line), None);
-    line.push(b'x')?;
-    assert_eq!(rt; refusal(rt.alloc(), &line), Some(LineRefusal::Syntax(75)));
-    Ok(())
+    ends(&rt, b" ", None)?;
+    ends(&rt, b" x", Some(LineRefusal::Syntax(75)))
 }
 
 #[test]
@@ -254,7 +222,7 @@ fn refused_procedures(rt: HostRuntime) {
         ),
     ];
     for (line, want) in lines {
-        assert_eq!(rt; refusal(rt.alloc(), line), Some(want));
+        gives(&rt, line, Some(want));
     }
 }
 
@@ -269,69 +237,53 @@ fn procedure_of(alloc: Global, count: u8, last: &[u8]) -> Result<Vec<u8>, Fail> 
     Ok(line)
 }
 
+/// A procedure with fifteen statements before the last is refused for this, or read.
+fn closes(
+    rt: &(impl AllocGlobal + Abort),
+    last: &[u8],
+    want: Option<LineRefusal>,
+) -> Result<(), Fail> {
+    let line = procedure_of(rt.alloc(), 15, last)?;
+    gives(rt, &line, want);
+    Ok(())
+}
+
 #[test]
 fn the_sixteenth_statement_is_the_result(rt: HostRuntime) -> Result<(), Fail> {
-    let whole = procedure_of(rt.alloc(), 15, b"result = Q(o)")?;
-    assert_eq!(rt; refusal(rt.alloc(), &whole), None);
-    let other = procedure_of(rt.alloc(), 15, b"p = Q(o)")?;
-    assert_eq!(rt; refusal(rt.alloc(), &other), Some(LineRefusal::Syntax(167)));
-    Ok(())
+    closes(&rt, b"result = Q(o)", None)?;
+    closes(&rt, b"p = Q(o)", Some(LineRefusal::Syntax(167)))
 }
 
-/// Whether a line gives a value of the layer A this text or sign.
-fn is_mark(line: &Line, value: i32, want: &[u8]) -> bool {
-    match line {
-        Line::Edit(
-            LineEdit::Label {
-                name,
-                value: found,
-                text,
-            },
-        ) => name.bytes() == b"A".as_slice() && *found == value && text.bytes() == want,
-        Line::Edit(
-            LineEdit::Symbol {
-                name,
-                value: found,
-                sign,
-            },
-        ) => { name.bytes() == b"A".as_slice() && *found == value && want == [*sign].as_slice() }
-        _ => false,
-    }
-}
-
-/// A line gives a value of a layer this text or sign.
-fn marks(
-    rt: &(impl AllocGlobal + Abort),
-    line: &[u8],
-    value: i32,
-    text: &[u8],
-) -> Result<(), Fail> {
-    let found = read(rt.alloc(), line).ok().ok_or("not read")?;
-    assert!(rt; is_mark(&found, value, text), "{line:?}");
-    Ok(())
-}
-
-#[test]
-fn labels_and_symbols_are_read(rt: HostRuntime) -> Result<(), Fail> {
-    marks(&rt, b"label A 1 dry land", 1, b"dry land")?;
-    marks(&rt, b" label\tA -0 \t x  (y) \t", 0, b"x  (y)")?;
-    marks(&rt, b"label A 5=x", 5, b"=x")?;
-    marks(&rt, b"label A +05 5", 5, b"5")?;
-    marks(&rt, b"symbol A 2 ~", 2, b"~")?;
-    marks(&rt, b"symbol A 5;", 5, b";")?;
-    marks(&rt, b"symbol A 5 7 ", 5, b"7")
-}
-
-/// The canonical text of a procedure.
-fn procedure_text(alloc: Global, line: &[u8]) -> Option<Vec<u8>> {
-    match &read(alloc, line).ok()? {
-        Line::Edit(LineEdit::Procedure(procedure)) => print_procedure(alloc, procedure).ok(),
-        _ => None,
+/// A line of this form gives a value this text or sign.
+fn marks(rt: &(impl AllocGlobal + Abort), line: &[u8], form: &str, value: i32, text: &[u8]) {
+    match look_at(rt.alloc(), Table::All, line) {
+        Ok(found) => {
+            assert_eq!(rt; (found.form, found.value), (form, Some(Some(value))));
+            assert_eq!(rt; found.text.as_deref(), Some(text));
+        }
+        Err(_) => panic!(rt; "not read"),
     }
 }
 
 #[test]
-fn procedures_are_printed(rt: HostRuntime) -> Result<(), Fail> {
+fn labels_and_symbols_are_read(rt: HostRuntime) {
+    marks(&rt, b"label A 1 dry land", "label of A", 1, b"dry land");
+    marks(
+        &rt,
+        b" label\tA -0 \t x  (y) \t",
+        "label of A",
+        0,
+        b"x  (y)",
+    );
+    marks(&rt, b"label A 5=x", "label of A", 5, b"=x");
+    marks(&rt, b"label A +05 5", "label of A", 5, b"5");
+    marks(&rt, b"symbol A 2 ~", "symbol of A", 2, b"~");
+    marks(&rt, b"symbol A 5;", "symbol of A", 5, b";");
+    marks(&rt, b"symbol A 5 7 ", "symbol of A", 5, b"7");
+}
+
+#[test]
+fn procedures_are_printed(rt: HostRuntime) {
     let texts: [(&[u8], &[u8]); 3] = [
         (
             b"procedure Twice(P, K): x = LocalSum of P and K; result = LocalProduct of x and 2",
@@ -347,10 +299,7 @@ fn procedures_are_printed(rt: HostRuntime) -> Result<(), Fail> {
         ),
     ];
     for (line, want) in texts {
-        let text = procedure_text(rt.alloc(), line).ok_or("not read")?;
-        assert_eq!(rt; text.as_slice(), want);
-        let again = procedure_text(rt.alloc(), &text).ok_or("not read")?;
-        assert_eq!(rt; again.as_slice(), want);
+        reads(&rt, line, want);
+        reads(&rt, want, want);
     }
-    Ok(())
 }

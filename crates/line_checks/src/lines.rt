@@ -1,19 +1,13 @@
 //! Lines that are read, refused and printed again.
-use crate::texts::canonical;
-use map_lines::parse_line;
-use statement_parser::{Line, LineEdit, LineRefusal, Op, Request, Term};
+use crate::texts::{Table, look_at, refusal};
+use statement_parser::{LineRefusal, Op, Term};
 use std::alloc::Global;
 use std::process::Abort;
 use std::test::Fail;
 
-/// Why a line is refused.
-fn refusal(alloc: Global, line: &[u8]) -> Option<LineRefusal> {
-    parse_line(alloc, line).err()
-}
-
 /// A line is refused for this.
 fn refused(rt: &(impl AllocGlobal + Abort), line: &[u8], want: LineRefusal) {
-    assert_eq!(rt; refusal(rt.alloc(), line), Some(want));
+    assert_eq!(rt; refusal(rt.alloc(), Table::Program, line), Some(want));
 }
 
 #[test]
@@ -99,55 +93,29 @@ fn rating(alloc: Global, count: u32) -> Result<Vec<u8>, Fail> {
     Ok(line)
 }
 
-#[test]
-fn rates_end_at_thirty_two(rt: HostRuntime) -> Result<(), Fail> {
-    assert_eq!(rt; refusal(rt.alloc(), &rating(rt.alloc(), 32)?), None);
-    refused(&rt, &rating(rt.alloc(), 33)?, LineRefusal::Syntax(438));
+/// A rating with so many rates is refused for this, or read.
+fn rated(
+    rt: &(impl AllocGlobal + Abort),
+    count: u32,
+    want: Option<LineRefusal>,
+) -> Result<(), Fail> {
+    let line = rating(rt.alloc(), count)?;
+    assert_eq!(rt; refusal(rt.alloc(), Table::Program, &line), want);
     Ok(())
 }
 
-/// The form of a line, with its numbers where they are these.
-fn form(alloc: Global, line: &[u8]) -> &'static str {
-    match parse_line(alloc, line) {
-        Ok(line) => form_of(&line),
-        Err(_) => "another",
-    }
-}
-
-fn form_of(line: &Line) -> &'static str {
-    match line {
-        Line::Blank => "blank",
-        Line::Quit => "quit",
-        Line::Ask(request) => form_of_request(request),
-        Line::Edit(edit) => form_of_edit(edit),
-    }
-}
-
-fn form_of_request(request: &Request) -> &'static str {
-    match request {
-        Request::List => "list",
-        Request::Value { r, c, .. } if *r == 1 && *c == 2 => "value at 1 2",
-        _ => "another",
-    }
-}
-
-fn form_of_edit(edit: &LineEdit) -> &'static str {
-    match edit {
-        LineEdit::Drop { .. } => "drop",
-        LineEdit::Paint { r1, c1, r2, c2, .. } if is_one_to_four(*r1, *c1, *r2, *c2) => {
-            "paint from 1 2 to 3 4"
-        }
-        _ => "another",
-    }
-}
-
-fn is_one_to_four(r1: u32, c1: u32, r2: u32, c2: u32) -> bool {
-    r1 == 1 && c1 == 2 && r2 == 3 && c2 == 4
+#[test]
+fn rates_end_at_thirty_two(rt: HostRuntime) -> Result<(), Fail> {
+    rated(&rt, 32, None)?;
+    rated(&rt, 33, Some(LineRefusal::Syntax(438)))
 }
 
 /// A line has this form.
 fn has_form(rt: &(impl AllocGlobal + Abort), line: &[u8], want: &str) {
-    assert_eq!(rt; form(rt.alloc(), line), want);
+    match look_at(rt.alloc(), Table::Program, line) {
+        Ok(found) => assert_eq!(rt; found.form, want),
+        Err(_) => panic!(rt; "not read"),
+    }
 }
 
 #[test]
@@ -160,54 +128,48 @@ fn each_form_is_read(rt: HostRuntime) {
     has_form(&rt, b"paint A 1 2 3 4 null", "paint from 1 2 to 3 4");
 }
 
-/// What each cell of a new layer holds.
-fn new_cell(alloc: Global, line: &[u8]) -> Option<Option<i32>> {
-    match &parse_line(alloc, line).ok()? {
-        Line::Edit(LineEdit::New { cell, .. }) => Some(cell.get()),
-        _ => None,
+/// Each cell of a new layer holds this.
+fn has_cell(rt: &(impl AllocGlobal + Abort), line: &[u8], want: Option<i32>) {
+    match look_at(rt.alloc(), Table::Program, line) {
+        Ok(found) => assert_eq!(rt; found.value, Some(want)),
+        Err(_) => panic!(rt; "not read"),
     }
 }
 
 #[test]
 fn new_layers_have_their_cell(rt: HostRuntime) {
-    assert_eq!(rt;
-        new_cell(rt.alloc(), b"new C -2000000000"),
-        Some(Some(-2_000_000_000))
-    );
-    assert_eq!(rt; new_cell(rt.alloc(), b"new C null"), Some(None));
+    has_cell(&rt, b"new C -2000000000", Some(-2_000_000_000));
+    has_cell(&rt, b"new C null", None);
 }
 
-/// The canonical text of a statement.
-fn reprinted(alloc: Global, line: &[u8]) -> Option<Vec<u8>> {
-    canonical(alloc, &parse_line(alloc, line).ok()?)
-}
-
-/// A statement has this canonical text.
-fn reads(rt: &(impl AllocGlobal + Abort), line: &[u8], text: &[u8]) -> Result<(), Fail> {
-    assert_eq!(rt;
-        reprinted(rt.alloc(), line).ok_or("not read")?.as_slice(),
-        text
-    );
-    Ok(())
+/// A statement has this canonical text, and so has a copy of it.
+fn reads(rt: &(impl AllocGlobal + Abort), line: &[u8], text: &[u8]) {
+    match look_at(rt.alloc(), Table::Program, line) {
+        Ok(found) => {
+            assert_eq!(rt; found.text.as_deref(), Some(text));
+            assert_eq!(rt; found.copy.as_deref(), Some(text));
+        }
+        Err(_) => panic!(rt; "not read"),
+    }
 }
 
 #[test]
-fn texts_are_canonical(rt: HostRuntime) -> Result<(), Fail> {
+fn texts_are_canonical(rt: HostRuntime) {
     reads(
         &rt,
         b"B=LocalSum\tof A and  +03 and -0",
         b"B = LocalSum of A and 3 and 0",
-    )?;
+    );
     reads(
         &rt,
         b"D = LocalRatio of 1 and D",
         b"D = LocalRatio of 1 and D",
-    )?;
+    );
     reads(
         &rt,
         b"R = LocalRating of A with +9 for 01 to 3 with null for -5 to -5",
         b"R = LocalRating of A with 9 for 1 to 3 with null for -5",
-    )
+    );
 }
 
 /// The number that stands at a place of an operation.

@@ -7,12 +7,10 @@ ghost use Rattle.statement_parser.specs.Views.{term_view, written_view};
 ghost use Rattle.statement_parser.specs.Procedures.{procedure_view, body_view};
 ghost use Rattle.procedure_expand.specs.WorkedProcedures.{twice as meant_twice};
 
-use crate::texts::canonical;
-use map_lines::parse_line;
 use map_nums::Stat;
 use map_words::Name;
 use procedure_expand::{ExpandRefusal, Flat, Procs, expand};
-use statement_parser::{Line, LineEdit, Op, Procedure, Term, Written, print_written};
+use statement_parser::{Op, Procedure, Term, Written, print_written};
 use std::alloc::Global;
 use std::test::Fail;
 
@@ -162,28 +160,5 @@ fn procedures_are_found(rt: HostRuntime) -> Result<(), Fail> {
     ];
     assert_eq!(rt; shapes, [Some((2, 2)), Some((2, 2)), None]);
     assert_eq!(rt; procs.count(), 1);
-    Ok(())
-}
-
-/// The edit that a line is.
-fn edit_of(alloc: Global, line: &[u8]) -> Option<LineEdit> {
-    match parse_line(alloc, line) {
-        Ok(Line::Edit(edit)) => Some(edit),
-        _ => None,
-    }
-}
-
-/// The canonical text of a copy of a statement.
-fn copied(alloc: Global, line: &[u8]) -> Option<Vec<u8>> {
-    let edit = edit_of(alloc, line)?;
-    let copy = edit.copy(alloc).ok()?;
-    canonical(alloc, &Line::Edit(copy))
-}
-
-#[test]
-fn edits_are_copied(rt: HostRuntime) -> Result<(), Fail> {
-    let line = b"C = LocalRating of A with 9 for 1 to 3".as_slice();
-    let text = copied(rt.alloc(), line).ok_or("not copied")?;
-    assert_eq!(rt; text.as_slice(), line);
     Ok(())
 }

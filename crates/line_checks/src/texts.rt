@@ -1,11 +1,159 @@
-//! The texts of lines that are read.
-use statement_parser::{Line, LineEdit, print_written};
+//! What is seen of lines that are read.
+use map_nums::Stat;
+use statement_parser::{
+    Command, Form, Line, LineEdit, LineRefusal, Operation, Request, Rows, parse_line,
+    print_procedure, print_written,
+};
 use std::alloc::Global;
 
-/// The canonical text of a statement; none of another line.
-pub(crate) fn canonical(alloc: Global, line: &Line) -> Option<Vec<u8>> {
+/// The rows by which a line is read.
+#[derive(Clone, Copy)]
+pub(crate) enum Table {
+    /// The program's own.
+    Program,
+    /// All commands, sight, calls and these operations.
+    All,
+}
+
+/// The operations beside `LocalSum` that the lines of the tests name.
+const OPERATIONS: [Operation; 11] = [
+    Operation::Local(Stat::Product),
+    Operation::Local(Stat::Mean),
+    Operation::Focal(Stat::Sum),
+    Operation::Focal(Stat::Mean),
+    // Not in the table: no row makes a Focal product.
+    Operation::Focal(Stat::Product),
+    Operation::Proximity,
+    Operation::Insularity,
+    Operation::Zonal(Stat::Variety),
+    Operation::Incremental(Form::Gradient),
+    Operation::Incremental(Form::Aspect),
+    Operation::Drainage,
+];
+
+const COMMANDS: [Command; 14] = [
+    Command::Procedure,
+    Command::Paint,
+    Command::New,
+    Command::Drop,
+    Command::Label,
+    Command::Symbol,
+    Command::Value,
+    Command::Grid,
+    Command::Show,
+    Command::Legend,
+    Command::Table,
+    Command::Stamps,
+    Command::List,
+    Command::Quit,
+];
+
+fn read(alloc: Global, table: Table, line: &[u8]) -> Result<Line, LineRefusal> {
+    let rows = Rows {
+        operations: &OPERATIONS,
+        commands: &COMMANDS,
+        sight: true,
+        calls: true,
+    };
+    match table {
+        Table::Program => map_lines::parse_line(alloc, line),
+        Table::All => parse_line(alloc, &rows, line),
+    }
+}
+
+/// What is seen of a line.
+#[derive(Drop)]
+pub(crate) struct Seen {
+    /// Its form, with its numbers where they are those of a test.
+    pub form: &'static str,
+    /// What each cell of a new layer holds, or which value gets a text or a sign.
+    pub value: Option<Option<i32>>,
+    /// The canonical text of a statement or a procedure, or the text or sign that a value gets.
+    pub text: Option<Vec<u8>>,
+    /// The same of a copy of the line.
+    pub copy: Option<Vec<u8>>,
+}
+
+fn form_of(line: &Line) -> &'static str {
     match line {
-        Line::Edit(LineEdit::Define { name, written }) => print_written(alloc, name, written).ok(),
+        Line::Blank => "blank",
+        Line::Quit => "quit",
+        Line::Ask(request) => form_of_request(request),
+        Line::Edit(edit) => form_of_edit(edit),
+    }
+}
+
+fn form_of_request(request: &Request) -> &'static str {
+    match request {
+        Request::List => "list",
+        Request::Value { r, c, .. } if *r == 1 && *c == 2 => "value at 1 2",
+        _ => "another",
+    }
+}
+
+fn form_of_edit(edit: &LineEdit) -> &'static str {
+    match edit {
+        LineEdit::Drop { .. } => "drop",
+        LineEdit::Paint { r1, c1, r2, c2, .. } if is_one_to_four(*r1, *c1, *r2, *c2) => {
+            "paint from 1 2 to 3 4"
+        }
+        LineEdit::Label { name, .. } if name.bytes() == b"A".as_slice() => "label of A",
+        LineEdit::Symbol { name, .. } if name.bytes() == b"A".as_slice() => "symbol of A",
+        _ => "another",
+    }
+}
+
+fn is_one_to_four(r1: u32, c1: u32, r2: u32, c2: u32) -> bool {
+    r1 == 1 && c1 == 2 && r2 == 3 && c2 == 4
+}
+
+fn value_of(line: &Line) -> Option<Option<i32>> {
+    match line {
+        Line::Edit(LineEdit::New { cell, .. }) => Some(cell.get()),
+        Line::Edit(LineEdit::Label { value, .. }) | Line::Edit(LineEdit::Symbol { value, .. }) => {
+            Some(Some(*value))
+        }
         _ => None,
     }
+}
+
+fn text_of(alloc: Global, edit: &LineEdit) -> Option<Vec<u8>> {
+    match edit {
+        LineEdit::Define { name, written } => print_written(alloc, name, written).ok(),
+        LineEdit::Procedure(procedure) => print_procedure(alloc, procedure).ok(),
+        LineEdit::Label { text, .. } => Vec::from_slice(alloc, text.bytes()).ok(),
+        LineEdit::Symbol { sign, .. } => Vec::from_slice(alloc, &[*sign]).ok(),
+        _ => None,
+    }
+}
+
+fn text_of_copy(alloc: Global, edit: &LineEdit) -> Option<Vec<u8>> {
+    let copy = edit.copy(alloc).ok()?;
+    text_of(alloc, &copy)
+}
+
+fn seen_of(alloc: Global, line: &Line) -> Seen {
+    let (text, copy) = match line {
+        Line::Edit(edit) => (text_of(alloc, edit), text_of_copy(alloc, edit)),
+        _ => (None, None),
+    };
+    Seen {
+        form: form_of(line),
+        value: value_of(line),
+        text,
+        copy,
+    }
+}
+
+/// What is seen of a line, or why it is refused.
+pub(crate) fn look_at(alloc: Global, table: Table, line: &[u8]) -> Result<Seen, LineRefusal> {
+    match read(alloc, table, line) {
+        Ok(line) => Ok(seen_of(alloc, &line)),
+        Err(refusal) => Err(refusal),
+    }
+}
+
+/// Why a line is refused.
+pub(crate) fn refusal(alloc: Global, table: Table, line: &[u8]) -> Option<LineRefusal> {
+    look_at(alloc, table, line).err()
 }
