@@ -1,4 +1,5 @@
 //! Sessions that are played line by line.
+use map_machine::Kind;
 use map_outside::Counts;
 use map_session::{Begun, Reply, Session};
 use map_words::Name;
@@ -41,7 +42,7 @@ pub(crate) fn begun<R: AllocGlobal + Threads + Sync>(
 }
 
 /// What is said to a further grid.
-pub(crate) fn loaded<R: AllocGlobal + Threads + Sync>(
+fn loaded<R: AllocGlobal + Threads + Sync>(
     rt: &R,
     session: &mut Session,
     name: &str,
@@ -65,38 +66,87 @@ pub(crate) fn loaded<R: AllocGlobal + Threads + Sync>(
 }
 
 /// What is said to a line.
-pub(crate) fn said<R: AllocGlobal + Threads + Sync>(
+fn said<R: AllocGlobal + Threads + Sync>(
     rt: &R,
     session: &mut Session,
-    line: &[u8],
+    line: &str,
 ) -> Result<Reply, Fail> {
     let mut tally = Counts::new();
-    let reply = session.step(rt, rt.alloc(), line, WORKERS, &NoGate, &mut tally)?;
+    let reply = session.step(
+        rt,
+        rt.alloc(),
+        line.as_bytes(),
+        WORKERS,
+        &NoGate,
+        &mut tally,
+    )?;
     Ok(reply)
 }
 
-/// A session says these texts to these lines.
-pub(crate) fn answers<R: AllocGlobal + Abort + Threads + Sync>(
+/// What is given to a session, and the text and kind of its reply.
+#[derive(Clone, Copy)]
+pub(crate) enum Step<'a> {
+    Line(&'a str, &'a str),
+    /// A line that ends the session, and is answered by nothing.
+    Ends(&'a str),
+    /// A grid for a name.
+    Load(&'a str, &'a str, Kind, &'a str),
+}
+
+/// A session replies so to this step.
+fn answer<R: AllocGlobal + Abort + Threads + Sync>(
     rt: &R,
     session: &mut Session,
-    steps: &[(&str, &str)],
+    step: Step<'_>,
 ) -> Result<(), Fail> {
-    for (line, want) in steps {
-        let reply = said(rt, session, line.as_bytes())?;
-        assert_eq!(rt; reply.bytes.as_slice(), want.as_bytes(), "{line}");
+    match step {
+        Step::Line(line, want) => {
+            let reply = said(rt, session, line)?;
+            assert_eq!(rt; reply.bytes.as_slice(), want.as_bytes(), "{line}");
+        }
+        Step::Ends(line) => {
+            let reply = said(rt, session, line)?;
+            assert_eq!(rt; (reply.kind, reply.bytes.len()), (Kind::Quit, 0), "{line}");
+        }
+        Step::Load(name, grid, kind, want) => {
+            let reply = loaded(rt, session, name, grid)?;
+            assert_eq!(rt;
+                (reply.kind, reply.bytes.as_slice()),
+                (kind, want.as_bytes()),
+                "{name}"
+            );
+        }
     }
     Ok(())
 }
 
-/// A session by its first grid, which is accepted, says these texts to these lines.
+/// A session replies so to these steps, one after another.
+pub(crate) fn answers<R: AllocGlobal + Abort + Threads + Sync>(
+    rt: &R,
+    session: &mut Session,
+    steps: &[Step<'_>],
+) -> Result<(), Fail> {
+    for step in steps {
+        answer(rt, session, *step)?;
+    }
+    Ok(())
+}
+
+/// A session by its first grid, which is accepted, replies so to these steps.
 pub(crate) fn plays<R: AllocGlobal + Abort + Threads + Sync>(
     rt: &R,
     name: &str,
     grid: &str,
-    steps: &[(&str, &str)],
+    steps: &[Step<'_>],
 ) -> Result<(), Fail> {
     match begun(rt, name, grid)? {
-        Begun::Ready(mut session, _) => answers(rt, &mut session, steps),
+        Begun::Ready(mut session, reply) => {
+            assert_eq!(rt;
+                reply.bytes.as_slice(),
+                b"ok 1 changed 1 evaluated 1 worked 0\n".as_slice()
+            );
+            answers(rt, &mut session, steps)
+        }
         Begun::Refused(_) => Err(Fail::from("refused")),
     }
 }

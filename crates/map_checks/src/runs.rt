@@ -1,10 +1,13 @@
 //! Whole runs, over the forms in memory and over the adapters.
+ghost use Rattle.std.specs.Prelude.{◌<◌};
 
 use map_outside::{
     Counts, FileShelf, MemoryShelf, MemorySink, MemorySource, ReadSource, WriteSink,
 };
 use map_run::{Limits, Status, run, run_within};
 use std::alloc::{AllocError, Global};
+use std::fs::Files;
+use std::process::Abort;
 use std::test::Fail;
 use std::thread::Threads;
 use tile_workers::NoGate;
@@ -63,18 +66,44 @@ fn shelf_of(
     Ok(MemoryShelf::new(held, vec![in alloc; fails.shelf]?))
 }
 
-// A run of these words: its code, and what it wrote.
-fn play_words<R: Threads + Sync>(
-    rt: &R,
+/// A source that gives at most so many bytes at a time.
+fn source_of(
     alloc: Global,
+    session: &[u8],
+    step: usize,
+    fails: Fails,
+) -> Result<MemorySource, AllocError>
+    requires { 0 < step }
+{
+    let bytes = session.to_vec(alloc)?;
+    Ok(MemorySource::new(bytes, step, vec![in alloc; fails.source]?))
+}
+
+fn sink_of(alloc: Global, fails: Fails) -> Result<MemorySink, AllocError> {
+    Ok(MemorySink::new(alloc, vec![in alloc; fails.sink]?))
+}
+
+/// How a run ended, with what it wrote.
+fn ended(
+    alloc: Global,
+    status: Status,
+    sink: &MemorySink,
+) -> Result<(Status, Vec<u8>), AllocError> {
+    Ok((status, sink.bytes().to_vec(alloc)?))
+}
+
+/// How a run of these words ends, and what it writes.
+fn play_words<R: AllocGlobal + Threads + Sync>(
+    rt: &R,
     words: &[String],
     files: &[(&str, &[u8])],
     session: &[u8],
     fails: Fails,
-) -> Result<(u8, Vec<u8>), AllocError> {
+) -> Result<(Status, Vec<u8>), AllocError> {
+    let alloc = rt.alloc();
     let mut shelf = shelf_of(alloc, files, fails)?;
-    let mut source = MemorySource::new(session.to_vec(alloc)?, 12, vec![in alloc; fails.source]?);
-    let mut sink = MemorySink::new(alloc, vec![in alloc; fails.sink]?);
+    let mut source = source_of(alloc, session, 12, fails)?;
+    let mut sink = sink_of(alloc, fails)?;
     let mut tally = Counts::new();
     let status = run(
         rt,
@@ -86,71 +115,69 @@ fn play_words<R: Threads + Sync>(
         &NoGate,
         &mut tally,
     );
-    Ok((status.code(), sink.bytes().to_vec(alloc)?))
+    ended(alloc, status, &sink)
 }
 
-fn play_with<R: Threads + Sync>(
+/// How a run of these words with these limits ends, and what it writes.
+fn play_within<R: AllocGlobal + Threads + Sync>(
     rt: &R,
-    alloc: Global,
-    texts: &[&str],
+    words: &[String],
     files: &[(&str, &[u8])],
     session: &[u8],
-    fails: Fails,
-) -> Result<(u8, Vec<u8>), AllocError> {
-    let words = owned(alloc, texts)?;
-    play_words(rt, alloc, &words, files, session, fails)
-}
-
-// A run over one file.
-fn play<R: Threads + Sync>(
-    rt: &R,
-    alloc: Global,
-    texts: &[&str],
-    file: &[u8],
-    session: &[u8],
-    fails: Fails,
-) -> Result<(u8, Vec<u8>), AllocError> {
-    play_with(rt, alloc, texts, &[("a", file)], session, fails)
-}
-
-// A run with these limits.
-fn play_within<R: Threads + Sync>(
-    rt: &R,
-    alloc: Global,
-    texts: &[&str],
-    files: &[(&str, &[u8])],
-    most: u64,
-    limit: u64,
-    session: &[u8],
+    limits: Limits,
 ) -> Result<(Status, Vec<u8>), AllocError> {
-    let words = owned(alloc, texts)?;
+    let alloc = rt.alloc();
     let mut shelf = shelf_of(alloc, files, NONE)?;
-    let mut source = MemorySource::new(session.to_vec(alloc)?, 5, vec![in alloc]?);
-    let mut sink = MemorySink::new(alloc, vec![in alloc]?);
+    let mut source = source_of(alloc, session, 5, NONE)?;
+    let mut sink = sink_of(alloc, NONE)?;
     let mut tally = Counts::new();
     let status = run_within(
         rt,
         alloc,
-        &words,
-        Limits {
-            file: most,
-            session: limit,
-        },
+        words,
+        limits,
         &mut shelf,
         &mut source,
         &mut sink,
         &NoGate,
         &mut tally,
     );
-    Ok((status, sink.bytes().to_vec(alloc)?))
+    ended(alloc, status, &sink)
+}
+
+/// A run of these words, in which these calls fail, ends with this code and writes this.
+fn plays<R: AllocGlobal + Abort + Threads + Sync>(
+    rt: &R,
+    texts: &[&str],
+    files: &[(&str, &[u8])],
+    session: &[u8],
+    fails: Fails,
+    want: (u8, &[u8]),
+) -> Result<(), Fail> {
+    let words = owned(rt.alloc(), texts)?;
+    let (status, wrote) = play_words(rt, &words, files, session, fails)?;
+    assert_eq!(rt; (status.code(), wrote.as_slice()), want, "{texts:?}");
+    Ok(())
+}
+
+/// A run with these limits over one file ends so and writes this.
+fn keeps_within<R: AllocGlobal + Abort + Threads + Sync>(
+    rt: &R,
+    texts: &[&str],
+    files: &[(&str, &[u8])],
+    session: &[u8],
+    limits: Limits,
+    want: (Status, &[u8]),
+) -> Result<(), Fail> {
+    let words = owned(rt.alloc(), texts)?;
+    let (status, wrote) = play_within(rt, &words, files, session, limits)?;
+    assert_eq!(rt; (status, wrote.as_slice()), want);
+    Ok(())
 }
 
 #[test]
 fn shows_a_sum(rt: HostRuntime) -> Result<(), Fail> {
-    let (code, wrote) = play(&rt, rt.alloc(), &WORDS, FILE, SESSION, NONE)?;
-    assert_eq!(rt; code, 0);
-    assert_eq!(rt; wrote.as_slice(), SHOWN);
-    Ok(())
+    plays(&rt, &WORDS, &[("a", FILE)], SESSION, NONE, (0, SHOWN))
 }
 
 #[test]
@@ -181,16 +208,8 @@ fn answers_lines(rt: HostRuntime) -> Result<(), Fail> {
             b"ok 1 changed 1 evaluated 1 worked 0\nncols 2\nnrows 2\nxllcorner 100.5\nyllcorner -20.000000000000\ncellsize 60.000000000000\nNODATA_value -2000000001\n1 2\n-2000000001 4\n".as_slice(),
         ),
     ] {
-        let (code, wrote) = play(
-            &rt,
-            rt.alloc(),
-            &["run", "1", "-", pair],
-            file,
-            session,
-            NONE,
-        )?;
-        assert_eq!(rt; code, 0);
-        assert_eq!(rt; wrote.as_slice(), replies);
+        let words = ["run", "1", "-", pair];
+        plays(&rt, &words, &[("a", file)], session, NONE, (0, replies))?;
     }
     Ok(())
 }
@@ -219,9 +238,7 @@ fn refuses_a_load(rt: HostRuntime) -> Result<(), Fail> {
             b"refused load A range 1\n".as_slice(),
         ),
     ] {
-        let (code, wrote) = play(&rt, rt.alloc(), &WORDS, file, SESSION, NONE)?;
-        assert_eq!(rt; code, 3);
-        assert_eq!(rt; wrote.as_slice(), reply);
+        plays(&rt, &WORDS, &[("a", file)], SESSION, NONE, (3, reply))?;
     }
     Ok(())
 }
@@ -229,99 +246,80 @@ fn refuses_a_load(rt: HostRuntime) -> Result<(), Fail> {
 #[test]
 fn refuses_a_second_load(rt: HostRuntime) -> Result<(), Fail> {
     let words = ["run", "64", "-", "A=a", "B=b"];
-    let (code, wrote) = play_with(
-        &rt,
-        rt.alloc(),
-        &words,
-        &[("a", FILE), ("b", SEVEN)],
-        b"list\n",
-        NONE,
-    )?;
-    assert_eq!(rt; code, 3);
-    assert_eq!(rt;
-        wrote.as_slice(),
-        b"ok 1 changed 1 evaluated 1 worked 0\nrefused load B size 3 3\n".as_slice()
-    );
-    let (code, wrote) = play_with(
-        &rt,
-        rt.alloc(),
-        &words,
-        &[("a", FILE), ("b", FILE)],
-        b"list\n",
-        NONE,
-    )?;
-    assert_eq!(rt; code, 0);
-    assert_eq!(rt;
-        wrote.as_slice(),
-        b"ok 1 changed 1 evaluated 1 worked 0\nok 2 changed 1 evaluated 1 worked 0\nlist 2\nsource A\nsource B\n".as_slice()
-    );
+    for (file, code, replies) in [
+        (
+            SEVEN,
+            3,
+            b"ok 1 changed 1 evaluated 1 worked 0\nrefused load B size 3 3\n".as_slice(),
+        ),
+        (
+            FILE,
+            0,
+            b"ok 1 changed 1 evaluated 1 worked 0\nok 2 changed 1 evaluated 1 worked 0\nlist 2\nsource A\nsource B\n".as_slice(),
+        ),
+    ] {
+        let files = [("a", FILE), ("b", file)];
+        plays(&rt, &words, &files, b"list\n", NONE, (code, replies))?;
+    }
     Ok(())
 }
 
 #[test]
 fn refuses_words(rt: HostRuntime) -> Result<(), Fail> {
-    for pair in ["A", "=a", "A=", "grid=a", "A.b=a"] {
-        let (code, wrote) = play(
-            &rt,
-            rt.alloc(),
-            &["run", "1", "-", pair],
-            FILE,
-            SESSION,
-            NONE,
-        )?;
-        assert_eq!(rt; (code, wrote.len()), (2, 0), "{pair}");
-    }
-    for workers in ["0", "65", "01", "+1", "", "1 "] {
-        let (code, wrote) = play(
-            &rt,
-            rt.alloc(),
-            &["run", workers, "-", "A=a"],
-            FILE,
-            SESSION,
-            NONE,
-        )?;
-        assert_eq!(rt; (code, wrote.len()), (2, 0), "{workers}");
-    }
-    let (code, wrote) = play(&rt, rt.alloc(), &[], FILE, SESSION, NONE)?;
-    assert_eq!(rt; (code, wrote.len()), (2, 0));
-    let (code, wrote) = play(&rt, rt.alloc(), &["run", "1", "-"], FILE, SESSION, NONE)?;
-    assert_eq!(rt; (code, wrote.len()), (2, 0));
-    let (code, wrote) = play(&rt, rt.alloc(), &["run", "1", "A=a"], FILE, SESSION, NONE)?;
-    assert_eq!(rt; (code, wrote.len()), (2, 0));
+    plays(&rt, &[], &[("a", FILE)], SESSION, NONE, (2, b""))?;
     for words in [
+        ["run", "1", "-", "A"].as_slice(),
+        ["run", "1", "-", "=a"].as_slice(),
+        ["run", "1", "-", "A="].as_slice(),
+        ["run", "1", "-", "grid=a"].as_slice(),
+        ["run", "1", "-", "A.b=a"].as_slice(),
+        ["run", "0", "-", "A=a"].as_slice(),
+        ["run", "65", "-", "A=a"].as_slice(),
+        ["run", "01", "-", "A=a"].as_slice(),
+        ["run", "+1", "-", "A=a"].as_slice(),
+        ["run", "", "-", "A=a"].as_slice(),
+        ["run", "1 ", "-", "A=a"].as_slice(),
+        ["run", "1", "-"].as_slice(),
+        ["run", "1", "A=a"].as_slice(),
         ["sample", "1", "0"].as_slice(),
         ["sample", "1", "1225"].as_slice(),
         ["sample", "1", "01"].as_slice(),
         ["sample", "1", "1", "1"].as_slice(),
         ["sample", "0", "1"].as_slice(),
         ["run", "1", "", "A=a"].as_slice(),
+        ["run", "1", "-", "A=a", "B=a", "A=b"].as_slice(),
     ] {
-        let (code, wrote) = play(&rt, rt.alloc(), words, FILE, SESSION, NONE)?;
-        assert_eq!(rt; (code, wrote.len()), (2, 0));
+        plays(&rt, words, &[("a", FILE)], SESSION, NONE, (2, b""))?;
     }
-    let twice = ["run", "1", "-", "A=a", "B=b", "A=b"];
-    let (code, wrote) = play(&rt, rt.alloc(), &twice, FILE, SESSION, NONE)?;
-    assert_eq!(rt; (code, wrote.len()), (2, 0));
+    Ok(())
+}
+
+/// Words with so many pairs.
+fn words_with(alloc: Global, pairs: u32) -> Result<Vec<String>, AllocError> {
+    let mut words = owned(alloc, &["run", "1", "-"])?;
+    for pair in 0..pairs {
+        words.push(format!(in alloc; "L{pair}=a")?)?;
+    }
+    Ok(words)
+}
+
+/// A run with so many pairs ends with this code and writes so many lines.
+fn loads_pairs<R: AllocGlobal + Abort + Threads + Sync>(
+    rt: &R,
+    pairs: u32,
+    want: (u8, usize),
+) -> Result<(), Fail> {
+    let words = words_with(rt.alloc(), pairs)?;
+    let (status, wrote) = play_words(rt, &words, &[("a", SEVEN)], b"", NONE)?;
+    let lines = wrote.iter().filter(|byte| **byte == b'\n').count();
+    assert_eq!(rt; (status.code(), lines), want, "{pairs}");
     Ok(())
 }
 
 #[test]
 fn loads_up_to_thirty_two_pairs(rt: HostRuntime) -> Result<(), Fail> {
-    let alloc = rt.alloc();
-    for (pairs, code, lines) in [(32, 0, 32), (33, 2, 0)] {
-        let mut words = owned(alloc, &["run", "1", "-"])?;
-        for pair in 0..pairs {
-            words.push(format!(in alloc; "L{pair}=a")?)?;
-        }
-        let came = play_words(&rt, alloc, &words, &[("a", SEVEN)], b"", NONE)?;
-        assert_eq!(rt; came.0, code, "{pairs}");
-        assert_eq!(rt;
-            came.1.iter().filter(|byte| **byte == b'\n').count(),
-            lines,
-            "{pairs}"
-        );
-    }
-    Ok(())
+    loads_pairs(&rt, 32, (0, 32))?;
+    loads_pairs(&rt, 33, (2, 0))
 }
 
 #[test]
@@ -338,9 +336,7 @@ fn stops_at_a_fault_of_the_source(rt: HostRuntime) -> Result<(), Fail> {
             source: call,
             sink: 0,
         };
-        let came = play(&rt, rt.alloc(), &WORDS, FILE, SESSION, fails)?;
-        assert_eq!(rt; came.0, code, "{call}");
-        assert_eq!(rt; came.1.as_slice(), wrote, "{call}");
+        plays(&rt, &WORDS, &[("a", FILE)], SESSION, fails, (code, wrote))?;
     }
     Ok(())
 }
@@ -358,9 +354,7 @@ fn stops_at_a_fault_of_the_sink(rt: HostRuntime) -> Result<(), Fail> {
             source: 0,
             sink: call,
         };
-        let came = play(&rt, rt.alloc(), &WORDS, FILE, SESSION, fails)?;
-        assert_eq!(rt; came.0, code, "{call}");
-        assert_eq!(rt; came.1.as_slice(), wrote, "{call}");
+        plays(&rt, &WORDS, &[("a", FILE)], SESSION, fails, (code, wrote))?;
     }
     Ok(())
 }
@@ -372,24 +366,14 @@ fn stops_at_a_fault_of_the_shelf(rt: HostRuntime) -> Result<(), Fail> {
         source: 0,
         sink: 0,
     };
-    let (code, wrote) = play(&rt, rt.alloc(), &WORDS, FILE, SESSION, fails)?;
-    assert_eq!(rt; (code, wrote.len()), (4, 0));
-    let (code, wrote) = play(
-        &rt,
-        rt.alloc(),
-        &["run", "1", "-", "A=b"],
-        FILE,
-        SESSION,
-        NONE,
-    )?;
-    assert_eq!(rt; (code, wrote.len()), (4, 0));
-    Ok(())
+    plays(&rt, &WORDS, &[("a", FILE)], SESSION, fails, (4, b""))?;
+    let words = ["run", "1", "-", "A=b"];
+    plays(&rt, &words, &[("a", FILE)], SESSION, NONE, (4, b""))
 }
 
 #[test]
 fn keeps_to_the_limits(rt: HostRuntime) -> Result<(), Fail> {
-    let session = b"grid B\ngrid C";
-    for (most, limit, status, wrote) in [
+    for (file, session, status, wrote) in [
         (
             69,
             14,
@@ -406,71 +390,100 @@ fn keeps_to_the_limits(rt: HostRuntime) -> Result<(), Fail> {
         (69, 0, Status::TooLong, LOADED),
         (68, 14, Status::Load, b"refused load A long 68\n".as_slice()),
     ] {
-        let came = play_within(
+        keeps_within(
             &rt,
-            rt.alloc(),
             &WORDS,
             &[("a", FILE)],
-            most,
-            limit,
-            session,
+            b"grid B\ngrid C",
+            Limits { file, session },
+            (status, wrote),
         )?;
-        assert_eq!(rt; came.0, status, "{most} {limit}");
-        assert_eq!(rt; came.1.as_slice(), wrote, "{most} {limit}");
     }
     Ok(())
+}
+
+/// A line of so many blanks, and a further one.
+fn long_session(alloc: Global, blanks: usize) -> Result<Vec<u8>, AllocError> {
+    let mut session = vec![in alloc; b' '; blanks]?;
+    session.extend_from_slice(b"\ngrid B")?;
+    Ok(session)
 }
 
 #[test]
 fn refuses_a_long_line(rt: HostRuntime) -> Result<(), Fail> {
-    let alloc = rt.alloc();
-    let mut session = vec![in alloc; b' '; 4097]?;
-    session.extend_from_slice(b"\ngrid B")?;
-    let came = play_within(&rt, alloc, &WORDS, &[("a", FILE)], 69, 5000, &session)?;
-    assert_eq!(rt; came.0, Status::Done);
-    assert_eq!(rt;
-        came.1.as_slice(),
-        b"ok 1 changed 1 evaluated 1 worked 0\nrefused long 4097\nundefined B: B\n".as_slice()
-    );
-    Ok(())
+    let session = long_session(rt.alloc(), 4097)?;
+    keeps_within(
+        &rt,
+        &WORDS,
+        &[("a", FILE)],
+        &session,
+        Limits {
+            file: 69,
+            session: 5000,
+        },
+        (
+            Status::Done,
+            b"ok 1 changed 1 evaluated 1 worked 0\nrefused long 4097\nundefined B: B\n",
+        ),
+    )
+}
+
+/// How a run over the adapters of a reader and a writer ends.
+fn play_adapted<R: AllocGlobal + Threads + Sync>(
+    rt: &R,
+    words: &[String],
+    shelf: &mut MemoryShelf,
+    wrote: &mut Vec<u8>,
+) -> Status {
+    let mut source = ReadSource::new(SESSION);
+    let mut sink = WriteSink::new(wrote);
+    let mut tally = Counts::new();
+    run(
+        rt,
+        rt.alloc(),
+        words,
+        shelf,
+        &mut source,
+        &mut sink,
+        &NoGate,
+        &mut tally,
+    )
 }
 
 #[test]
-fn runs_over_the_adapters(rt: HostRuntime) -> Result<(), Fail> {
+fn runs_over_a_reader_and_a_writer(rt: HostRuntime) -> Result<(), Fail> {
     let alloc = rt.alloc();
     let words = owned(alloc, &WORDS)?;
     let mut shelf = shelf_of(alloc, &[("a", FILE)], NONE)?;
-    let mut source = ReadSource::new(SESSION);
-    let mut tally = Counts::new();
     let mut wrote = Vec::new(alloc);
-    {
-        let mut sink = WriteSink::new(&mut wrote);
-        let status = run(
-            &rt,
-            alloc,
-            &words,
-            &mut shelf,
-            &mut source,
-            &mut sink,
-            &NoGate,
-            &mut tally,
-        );
-        assert_eq!(rt; status, Status::Done);
-        let mut files = FileShelf::new(&rt);
-        let missing = owned(alloc, &["run", "1", "-", "A=no/such/file"])?;
-        let status = run(
-            &rt,
-            alloc,
-            &missing,
-            &mut files,
-            &mut source,
-            &mut sink,
-            &NoGate,
-            &mut tally,
-        );
-        assert_eq!(rt; status, Status::ShelfFault);
-    }
+    let status = play_adapted(&rt, &words, &mut shelf, &mut wrote);
+    assert_eq!(rt; status, Status::Done);
     assert_eq!(rt; wrote.as_slice(), SHOWN);
+    Ok(())
+}
+
+/// How a run over the files of the system ends that writes to a sink in memory.
+fn play_files<R: AllocGlobal + Files + Threads + Sync>(rt: &R, words: &[String]) -> Status {
+    let mut shelf = FileShelf::new(rt);
+    let mut source = ReadSource::new(SESSION);
+    let mut sink = MemorySink::new(rt.alloc(), Vec::new(rt.alloc()));
+    let mut tally = Counts::new();
+    run(
+        rt,
+        rt.alloc(),
+        words,
+        &mut shelf,
+        &mut source,
+        &mut sink,
+        &NoGate,
+        &mut tally,
+    )
+}
+
+#[test]
+fn misses_a_file_of_the_system(rt: HostRuntime) -> Result<(), Fail> {
+    let words = owned(rt.alloc(), &["run", "1", "-", "A=no/such/file"])?;
+    assert_eq!(rt; play_files(&rt, &words), Status::ShelfFault);
     Ok(())
 }
 
@@ -498,16 +511,9 @@ fn plays_a_model_file(rt: HostRuntime) -> Result<(), Fail> {
             b"ok 1 changed 1 evaluated 1 worked 0\nundefined B: B\n".as_slice(),
         ),
     ] {
-        let came = play_with(
-            &rt,
-            rt.alloc(),
-            &["run", "1", "m", "A=a"],
-            &[("a", FILE), ("m", model)],
-            b"value B 1 1\n",
-            NONE,
-        )?;
-        assert_eq!(rt; came.0, code);
-        assert_eq!(rt; came.1.as_slice(), replies);
+        let files = [("a", FILE), ("m", model)];
+        let words = ["run", "1", "m", "A=a"];
+        plays(&rt, &words, &files, b"value B 1 1\n", NONE, (code, replies))?;
     }
     Ok(())
 }
@@ -515,20 +521,25 @@ fn plays_a_model_file(rt: HostRuntime) -> Result<(), Fail> {
 #[test]
 fn fetches_a_model_file_after_the_loads(rt: HostRuntime) -> Result<(), Fail> {
     let words = ["run", "1", "m", "A=a"];
-    let (code, wrote) = play(&rt, rt.alloc(), &words, FILE, SESSION, NONE)?;
-    assert_eq!(rt; (code, wrote.as_slice()), (4, LOADED));
+    plays(&rt, &words, &[("a", FILE)], SESSION, NONE, (4, LOADED))?;
     let model = vec![in rt.alloc(); b' '; 70]?;
-    let files: [(&str, &[u8]); 2] = [("a", FILE), ("m", &model)];
-    let came = play_within(&rt, rt.alloc(), &words, &files, 69, 5000, SESSION)?;
-    assert_eq!(rt; came.0, Status::Load);
-    assert_eq!(rt;
-        came.1.as_slice(),
-        b"ok 1 changed 1 evaluated 1 worked 0\nrefused model long 69\n".as_slice()
-    );
-    Ok(())
+    keeps_within(
+        &rt,
+        &words,
+        &[("a", FILE), ("m", &model)],
+        SESSION,
+        Limits {
+            file: 69,
+            session: 5000,
+        },
+        (
+            Status::Load,
+            b"ok 1 changed 1 evaluated 1 worked 0\nrefused model long 69\n",
+        ),
+    )
 }
 
-// What a sample of one row and one column writes, up to so many of its edits.
+/// What a sample of one row and one column writes, up to so many of its edits.
 fn smallest_sample(alloc: Global, edits: u32) -> Result<Vec<u8>, AllocError> {
     let mut text = Vec::new(alloc);
     for number in 1..61 {
@@ -546,29 +557,40 @@ fn smallest_sample(alloc: Global, edits: u32) -> Result<Vec<u8>, AllocError> {
     Ok(text)
 }
 
+/// What a sample of one row and one column writes.
+fn whole_sample(alloc: Global) -> Result<Vec<u8>, AllocError> {
+    let mut text = smallest_sample(alloc, 60)?;
+    text.extend_from_slice(b"legend M 1\n0 1 0\n")?;
+    Ok(text)
+}
+
+const SAMPLE: [&str; 3] = ["sample", "1", "1"];
+
 #[test]
-fn runs_over_a_sample(rt: HostRuntime) -> Result<(), Fail> {
-    let alloc = rt.alloc();
-    let words = ["sample", "1", "1"];
-    let mut all = smallest_sample(alloc, 60)?;
-    all.extend_from_slice(b"legend M 1\n0 1 0\n")?;
+fn a_sample_needs_no_shelf_and_no_source(rt: HostRuntime) -> Result<(), Fail> {
+    let all = whole_sample(rt.alloc())?;
     let fails = Fails {
         shelf: 1,
         source: 1,
         sink: 0,
     };
-    let (code, wrote) = play_with(&rt, alloc, &words, &[], b"list\n", fails)?;
-    assert_eq!(rt; code, 0);
-    assert_eq!(rt; wrote.as_slice(), all.as_slice());
-    for edits in [0, 3, 10] {
-        let fails = Fails {
-            shelf: 0,
-            source: 0,
-            sink: edits as u64 + 1,
-        };
-        let (code, wrote) = play_with(&rt, alloc, &words, &[], b"", fails)?;
-        assert_eq!(rt; code, 6);
-        assert_eq!(rt; wrote.as_slice(), smallest_sample(alloc, edits)?.as_slice());
-    }
-    Ok(())
+    plays(&rt, &SAMPLE, &[], b"list\n", fails, (0, &all))
+}
+
+/// A sample whose sink fails after so many edits writes the replies to these.
+fn stops_after<R: AllocGlobal + Abort + Threads + Sync>(rt: &R, edits: u32) -> Result<(), Fail> {
+    let front = smallest_sample(rt.alloc(), edits)?;
+    let fails = Fails {
+        shelf: 0,
+        source: 0,
+        sink: edits as u64 + 1,
+    };
+    plays(rt, &SAMPLE, &[], b"", fails, (6, &front))
+}
+
+#[test]
+fn a_sample_stops_at_a_fault_of_the_sink(rt: HostRuntime) -> Result<(), Fail> {
+    stops_after(&rt, 0)?;
+    stops_after(&rt, 3)?;
+    stops_after(&rt, 10)
 }

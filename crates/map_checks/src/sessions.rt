@@ -1,24 +1,27 @@
 //! Sessions byte for byte; another program gave what they say.
-use crate::plays::{CELL, SQUARE, answers, begun, loaded, plays, said};
+use crate::plays::Step::{Ends, Line, Load};
+use crate::plays::{CELL, SQUARE, answers, plays};
 use layer_tiles::{Cell, Extent, Layer};
 use map_machine::Kind;
 use map_outside::Counts;
-use map_session::{Begun, Session};
+use map_session::{Reply, Session};
 use map_words::Name;
 use std::alloc::Global;
+use std::process::Abort;
 use std::test::Fail;
+use std::thread::Threads;
 use tile_workers::NoGate;
 
 #[test]
 fn cycle_through_two_statements(rt: HostRuntime) -> Result<(), Fail> {
     let steps = [
-        (
+        Line(
             "A = LocalSum of B and 1",
             "ok 2 changed 0 evaluated 0 worked 0\n",
         ),
-        ("B = LocalSum of A and 1", "refused cycle B\n"),
-        ("B = LocalSum of B and 1", "refused cycle B\n"),
-        ("list", "list 2\nsource S\nA = LocalSum of B and 1\n"),
+        Line("B = LocalSum of A and 1", "refused cycle B\n"),
+        Line("B = LocalSum of B and 1", "refused cycle B\n"),
+        Line("list", "list 2\nsource S\nA = LocalSum of B and 1\n"),
     ];
     plays(&rt, "S", CELL, &steps)
 }
@@ -26,15 +29,15 @@ fn cycle_through_two_statements(rt: HostRuntime) -> Result<(), Fail> {
 #[test]
 fn missing_existing_unknown(rt: HostRuntime) -> Result<(), Fail> {
     let steps = [
-        (
+        Line(
             "C = LocalSum of A and Q",
             "ok 2 changed 0 evaluated 0 worked 0\n",
         ),
-        ("value C 1 1", "undefined C: Q\n"),
-        ("A = LocalSum of A and 1", "refused exists A\n"),
-        ("drop Q", "refused unknown Q\n"),
-        ("label Z 1 x", "refused unknown Z\n"),
-        ("legend Q", "undefined Q: Q\n"),
+        Line("value C 1 1", "undefined C: Q\n"),
+        Line("A = LocalSum of A and 1", "refused exists A\n"),
+        Line("drop Q", "refused unknown Q\n"),
+        Line("label Z 1 x", "refused unknown Z\n"),
+        Line("legend Q", "undefined Q: Q\n"),
     ];
     plays(&rt, "A", SQUARE, &steps)
 }
@@ -42,19 +45,19 @@ fn missing_existing_unknown(rt: HostRuntime) -> Result<(), Fail> {
 #[test]
 fn statement_before_its_operand(rt: HostRuntime) -> Result<(), Fail> {
     let steps = [
-        (
+        Line(
             "B = LocalSum of C and 1",
             "ok 2 changed 0 evaluated 0 worked 0\n",
         ),
-        ("grid B", "undefined B: C\n"),
-        ("new C 1", "ok 3 changed 2 evaluated 2 worked 0\n"),
-        ("value B 1 1", "value B 1 1 2\n"),
-        ("drop C", "ok 4 changed 0 evaluated 0 worked 0\n"),
-        ("value B 1 1", "undefined B: C\n"),
-        ("value C 1 1", "undefined C: C\n"),
-        ("new C 1", "ok 5 changed 2 evaluated 2 worked 0\n"),
-        ("stamps B", "stamps B 1 1\n5\n"),
-        ("value B 2 1", "value B 2 1 outside\n"),
+        Line("grid B", "undefined B: C\n"),
+        Line("new C 1", "ok 3 changed 2 evaluated 2 worked 0\n"),
+        Line("value B 1 1", "value B 1 1 2\n"),
+        Line("drop C", "ok 4 changed 0 evaluated 0 worked 0\n"),
+        Line("value B 1 1", "undefined B: C\n"),
+        Line("value C 1 1", "undefined C: C\n"),
+        Line("new C 1", "ok 5 changed 2 evaluated 2 worked 0\n"),
+        Line("stamps B", "stamps B 1 1\n5\n"),
+        Line("value B 2 1", "value B 2 1 outside\n"),
     ];
     plays(&rt, "A", CELL, &steps)
 }
@@ -63,15 +66,15 @@ fn statement_before_its_operand(rt: HostRuntime) -> Result<(), Fail> {
 fn a_region_splits(rt: HostRuntime) -> Result<(), Fail> {
     let grid = "ncols 5\nnrows 1\nxllcorner 0\nyllcorner 0\ncellsize 1\n7 7 7 7 7\n";
     let steps = [
-        (
+        Line(
             "L = FocalInsularity of A",
             "ok 2 changed 1 evaluated 1 worked 10\n",
         ),
-        (
+        Line(
             "paint A 1 3 1 3 null",
             "ok 3 changed 2 evaluated 2 worked 5\n",
         ),
-        (
+        Line(
             "grid L",
             "ncols 5\nnrows 1\nxllcorner 0\nyllcorner 0\ncellsize 1\nNODATA_value -2000000001\n1 1 -2000000001 4 4\n",
         ),
@@ -82,18 +85,18 @@ fn a_region_splits(rt: HostRuntime) -> Result<(), Fail> {
 #[test]
 fn refused_lines(rt: HostRuntime) -> Result<(), Fail> {
     let steps = [
-        ("foo", "refused syntax 4\n"),
-        ("C = LocalSun of A and 1", "refused operation 5\n"),
-        ("C = LocalSum of A and", "refused syntax 22\n"),
-        ("paint A 0 1 1 1 1", "refused number 9\n"),
-        ("paint A 1 1 4 1 0", "refused size 3 3\n"),
-        ("symbol A 1 ab", "refused syntax 13\n"),
-        (
+        Line("foo", "refused syntax 4\n"),
+        Line("C = LocalSun of A and 1", "refused operation 5\n"),
+        Line("C = LocalSum of A and", "refused syntax 22\n"),
+        Line("paint A 0 1 1 1 1", "refused number 9\n"),
+        Line("paint A 1 1 4 1 0", "refused size 3 3\n"),
+        Line("symbol A 1 ab", "refused syntax 13\n"),
+        Line(
             "B = LocalSum of A and 2000000000",
             "refused overflow B 1 1\n",
         ),
-        ("", ""),
-        ("# note", ""),
+        Line("", ""),
+        Line("# note", ""),
     ];
     plays(&rt, "A", SQUARE, &steps)
 }
@@ -105,25 +108,25 @@ const SEVERAL: &str =
 #[test]
 fn labels_symbols_and_displays(rt: HostRuntime) -> Result<(), Fail> {
     let steps = [
-        (
+        Line(
             "label A 1 dry land",
             "ok 2 changed 0 evaluated 0 worked 0\n",
         ),
-        ("symbol A 2 ~", "ok 3 changed 0 evaluated 0 worked 0\n"),
-        (
+        Line("symbol A 2 ~", "ok 3 changed 0 evaluated 0 worked 0\n"),
+        Line(
             "B = LocalMinimum of A and 1",
             "ok 4 changed 1 evaluated 1 worked 0\n",
         ),
-        (
+        Line(
             "legend A",
             "legend A 5\nnull 1 .\n-5 1 -\n1 2 1 dry land\n2 1 ~\n12 1 *\n",
         ),
-        ("show A", "show A 2 3\n11~\n.*-\n"),
-        (
+        Line("show A", "show A 2 3\n11~\n.*-\n"),
+        Line(
             "table B A",
             "table B A 5\nnull null 1\n-5 -5 1\n1 1 2\n1 2 1\n1 12 1\n",
         ),
-        ("stamps B", "stamps B 1 1\n4\n"),
+        Line("stamps B", "stamps B 1 1\n4\n"),
     ];
     plays(&rt, "A", SEVERAL, &steps)
 }
@@ -133,14 +136,14 @@ fn procedures(rt: HostRuntime) -> Result<(), Fail> {
     const TWICE: &str =
         "procedure Twice(P, K): x = LocalSum of P and K; result = LocalProduct of x and 2";
     let steps = [
-        (TWICE, "ok 2 changed 0 evaluated 0 worked 0\n"),
-        ("B = Twice(A, 3)", "ok 3 changed 2 evaluated 2 worked 0\n"),
-        ("value B.x 1 1", "value B.x 1 1 4\n"),
-        ("value B 1 1", "value B 1 1 8\n"),
-        ("C = Twice(A)", "refused count 1 2\n"),
-        ("C = Nope(A)", "refused procedure Nope\n"),
-        (TWICE, "refused exists Twice\n"),
-        (
+        Line(TWICE, "ok 2 changed 0 evaluated 0 worked 0\n"),
+        Line("B = Twice(A, 3)", "ok 3 changed 2 evaluated 2 worked 0\n"),
+        Line("value B.x 1 1", "value B.x 1 1 4\n"),
+        Line("value B 1 1", "value B 1 1 8\n"),
+        Line("C = Twice(A)", "refused count 1 2\n"),
+        Line("C = Nope(A)", "refused procedure Nope\n"),
+        Line(TWICE, "refused exists Twice\n"),
+        Line(
             "list",
             "list 3\nprocedure Twice(P, K): x = LocalSum of P and K; result = LocalProduct of x and 2\nsource A\nB = Twice(A, 3)\n",
         ),
@@ -149,10 +152,10 @@ fn procedures(rt: HostRuntime) -> Result<(), Fail> {
 }
 
 /// A line of so many letters.
-fn letters(alloc: Global, count: u32) -> Result<Vec<u8>, Fail> {
-    let mut line = Vec::new(alloc);
+fn letters(alloc: Global, count: u32) -> Result<String, Fail> {
+    let mut line = String::new(alloc);
     for _ in 0..count {
-        line.push(b'x')?;
+        line.push('x')?;
     }
     Ok(line)
 }
@@ -160,44 +163,54 @@ fn letters(alloc: Global, count: u32) -> Result<Vec<u8>, Fail> {
 #[test]
 fn long_line_and_end(rt: HostRuntime) -> Result<(), Fail> {
     let line = letters(rt.alloc(), 4097)?;
-    let Begun::Ready(mut session, _) = begun(&rt, "A", CELL)? else {
-        return Err(Fail::from("refused"));
-    };
-    let long = said(&rt, &mut session, &line)?;
-    assert_eq!(rt; long.bytes.as_slice(), b"refused long 4097\n".as_slice());
-    assert_eq!(rt; said(&rt, &mut session, b"quit")?.kind, Kind::Quit);
-    Ok(())
+    let steps = [Line(&line, "refused long 4097\n"), Ends("quit")];
+    plays(&rt, "A", CELL, &steps)
 }
 
 #[test]
 fn further_grids(rt: HostRuntime) -> Result<(), Fail> {
-    let Begun::Ready(mut session, first) = begun(&rt, "A", SQUARE)? else {
-        return Err(Fail::from("refused"));
-    };
-    let ok = b"ok 1 changed 1 evaluated 1 worked 0\n".as_slice();
-    assert_eq!(rt; first.bytes.as_slice(), ok);
-    let other = loaded(&rt, &mut session, "B", CELL)?;
-    assert_eq!(rt;
-        other.bytes.as_slice(),
-        b"refused load B size 3 3\n".as_slice()
-    );
-    assert_eq!(rt;
-        loaded(&rt, &mut session, "B", SQUARE)?.kind,
-        Kind::Accepted
-    );
-    Ok(())
+    let steps = [
+        Load("B", CELL, Kind::Refused, "refused load B size 3 3\n"),
+        Load(
+            "B",
+            SQUARE,
+            Kind::Accepted,
+            "ok 2 changed 1 evaluated 1 worked 0\n",
+        ),
+    ];
+    plays(&rt, "A", SQUARE, &steps)
 }
 
-#[test]
-fn layers_of_a_sample(rt: HostRuntime) -> Result<(), Fail> {
+/// What is said to a layer of nulls.
+fn loaded_nulls<R: AllocGlobal + Threads + Sync>(
+    rt: &R,
+    session: &mut Session,
+    extent: Extent,
+) -> Result<Reply, Fail> {
     let alloc = rt.alloc();
-    let mut session = Session::sample(alloc, 2)?;
-    let layer = Layer::constant(alloc, Extent::new(2, 2).ok_or("limits")?, Cell::null(), 1)?;
+    let layer = Layer::constant(alloc, extent, Cell::null(), 1)?;
     let Ok(name) = Name::plain(alloc, b"A") else {
         return Err(Fail::from("no name"));
     };
     let mut tally = Counts::new();
-    let reply = session.load_layer(&rt, alloc, name, layer, 1, &NoGate, &mut tally)?;
+    let reply = session.load_layer(rt, alloc, name, layer, 1, &NoGate, &mut tally)?;
+    Ok(reply)
+}
+
+/// A session takes a layer of nulls.
+fn takes_nulls<R: AllocGlobal + Abort + Threads + Sync>(
+    rt: &R,
+    session: &mut Session,
+    extent: Extent,
+) -> Result<(), Fail> {
+    let reply = loaded_nulls(rt, session, extent)?;
     assert_eq!(rt; reply.kind, Kind::Accepted);
-    answers(&rt, &mut session, &[("value A 2 2", "value A 2 2 null\n")])
+    answers(rt, session, &[Line("value A 2 2", "value A 2 2 null\n")])
+}
+
+#[test]
+fn layers_of_a_sample(rt: HostRuntime) -> Result<(), Fail> {
+    let extent = Extent::new(2, 2).ok_or("limits")?;
+    let mut session = Session::sample(rt.alloc(), 2)?;
+    takes_nulls(&rt, &mut session, extent)
 }

@@ -1,4 +1,4 @@
-use Rattle.std.proofs.Common.{Some, ap, ◌∙◌, arith}
+use Rattle.std.proofs.Common.{arith}
 use Rattle.std.proofs.lemmas.List.{length-map}
 use Rattle.statement_graph.specs.Puts.{flat_node, flat_nodes}
 use Rattle.statement_graph.proofs.Groupings.{length-put_group, length-put}
@@ -9,7 +9,7 @@ put-requires c =
     let few = length-put_group c.args.graph.now c.args.name.now (flat_nodes c.in_ok-nodes.nodes.items) in
     let len = length-map c.in_ok-nodes.nodes.items flat_node in
     record {
-      own = c.in_ok-nodes.ensures.own ∙ ap Some c.in_ok-own.ensures;
+      own = c.in_ok-nodes.ensures.own;
       few = (let two = c.in_ok-nodes.ensures.few in omega arith);
     }
 

@@ -3,4 +3,4 @@ use Rattle.map_run.proofs.WordLemmas.{all_served}
 use Rattle.map_checks.proofs.runs.play_within.Goals as goal
 
 pub run_within-status-requires-clause-serves : goal.run_within-status-requires-clause-serves
-run_within-status-requires-clause-serves g c κs within = all_served (form_of c.deref.result.now)
+run_within-status-requires-clause-serves g c κs within = all_served (form_of c.args.words.now)
