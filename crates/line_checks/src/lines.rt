@@ -170,6 +170,11 @@ fn texts_are_canonical(rt: HostRuntime) {
         b"R = LocalRating of A with +9 for 01 to 3 with null for -5 to -5",
         b"R = LocalRating of A with 9 for 1 to 3 with null for -5",
     );
+    reads(
+        &rt,
+        b"C = LocalRating of A with 9 for 1 to 3",
+        b"C = LocalRating of A with 9 for 1 to 3",
+    );
 }
 
 /// The number that stands at a place of an operation.
