@@ -462,13 +462,16 @@ fn runs_over_a_reader_and_a_writer(rt: HostRuntime) -> Result<(), Fail> {
     Ok(())
 }
 
-/// How a run over the files of the system ends that writes to a sink in memory.
-fn play_files<R: AllocGlobal + Files + Threads + Sync>(rt: &R, words: &[String]) -> Status {
+/// How a run over the files of the system ends, and how many bytes it writes.
+fn play_files<R: AllocGlobal + Files + Threads + Sync>(
+    rt: &R,
+    words: &[String],
+) -> (Status, usize) {
     let mut shelf = FileShelf::new(rt);
     let mut source = ReadSource::new(SESSION);
     let mut sink = MemorySink::new(rt.alloc(), Vec::new(rt.alloc()));
     let mut tally = Counts::new();
-    run(
+    let status = run(
         rt,
         rt.alloc(),
         words,
@@ -477,13 +480,14 @@ fn play_files<R: AllocGlobal + Files + Threads + Sync>(rt: &R, words: &[String])
         &mut sink,
         &NoGate,
         &mut tally,
-    )
+    );
+    (status, sink.bytes().len())
 }
 
 #[test]
 fn misses_a_file_of_the_system(rt: HostRuntime) -> Result<(), Fail> {
     let words = owned(rt.alloc(), &["run", "1", "-", "A=no/such/file"])?;
-    assert_eq!(rt; play_files(&rt, &words), Status::ShelfFault);
+    assert_eq!(rt; play_files(&rt, &words), (Status::ShelfFault, 0));
     Ok(())
 }
 
