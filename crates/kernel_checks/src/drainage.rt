@@ -2,9 +2,9 @@
 ghost use Rattle.std.specs.Prelude.{◌≡◌, IfOk};
 ghost use Rattle.map_defs.specs.Flow.{flow_grid};
 
-use crate::makers::{NULL, cell, layer_of, values_of};
+use crate::makers::{NULL, hold, layer_of, patch_with, tile_values, values_of};
 use drainage_flow::{direction_tile, flow_repair};
-use layer_tiles::{Change, Extent, KernelRefusal, Layer, NoMemory, Patch, Value};
+use layer_tiles::{Change, Extent, KernelRefusal, Layer, Patch, Value};
 use map_outside::Counts;
 use std::alloc::Global;
 use std::test::Fail;
@@ -53,34 +53,6 @@ fn again(
     Ok((values, repair.worked))
 }
 
-/// A patch with tile 0 of a layer.
-fn patch_of(alloc: Global, layer: &Layer) -> Result<Patch, NoMemory>
-    ensures { IfOk result (λ patch. patch.size ≡ layer.now.size) }
-{
-    let extent = layer.extent();
-    let mut patch = Patch::new(alloc, extent);
-    if extent.tiles() == 0 {
-        return Ok(patch);
-    }
-    let tile = layer.view(0, &mut Counts::new()).to_tile(alloc)?;
-    let _block = tile.height();
-    patch.push(0, tile)?;
-    Ok(patch)
-}
-
-/// Whether cells hold these numbers.
-fn hold(values: &[Option<Value>], wanted: &[Value]) -> bool {
-    if values.len() != wanted.len() {
-        return false;
-    }
-    for at in 0..wanted.len() {
-        if values[at] != cell(wanted[at]).get() {
-            return false;
-        }
-    }
-    true
-}
-
 /// Whether the directions of tile 0 of a surface are these.
 fn drains(
     alloc: Global,
@@ -93,13 +65,7 @@ fn drains(
         return Ok(false);
     }
     let made = direction_tile(alloc, &Change::same(&surface), 0, &mut Counts::new())?;
-    let mut values = Vec::new(alloc);
-    for r in 0..made.height() {
-        for cell in made.row(r) {
-            values.push(cell.get())?;
-        }
-    }
-    Ok(hold(&values, wanted))
+    Ok(hold(&tile_values(alloc, &made)?, wanted))
 }
 
 /// Whether the flow where there was none is this, with this work.
@@ -138,14 +104,6 @@ fn repairs_to(
         Ok((values, worked)) => worked == work && hold(&values, wanted),
         Err(_) => false,
     }
-}
-
-/// A patch with tile 0 of these values.
-fn patch_with(alloc: Global, extent: Extent, values: &[Value]) -> Result<Patch, Fail>
-    ensures { IfOk result (λ patch. patch.size ≡ extent) }
-{
-    let layer = layer_of(alloc, extent, values)?;
-    Ok(patch_of(alloc, &layer)?)
 }
 
 /// Whether the flow is this, with this work, after tile 0 of the surface became that of another.

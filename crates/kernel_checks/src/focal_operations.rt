@@ -1,25 +1,14 @@
 //! Tiles of Focal operations.
 ghost use Rattle.std.specs.Prelude.{◌≤◌, IfSome};
 
-use crate::makers::layer_of;
+use crate::makers::{NULL, layer_of, tile_values};
 use focal_ops::focal_tile;
-use layer_tiles::{Cell, Change, Extent, KernelRefusal, Layer, Tile, Value};
-use map_nums::{NoMemory, Stat};
+use layer_tiles::{Cell, Change, Extent, KernelRefusal, Layer, Value};
+use map_nums::Stat;
 use map_outside::Counts;
 use std::alloc::Global;
 use std::process::Abort;
 use std::test::Fail;
-
-/// The values of a tile, row by row.
-pub fn values_of(alloc: Global, tile: &Tile) -> Result<Vec<Option<Value>>, NoMemory> {
-    let mut values = Vec::new(alloc);
-    for r in 0..tile.height() {
-        for cell in tile.row(r) {
-            values.push(cell.get())?;
-        }
-    }
-    Ok(values)
-}
 
 /// The values of a tile of a statistic, or the cell whose value is out of range. There is no tile where memory is out, or no
 /// such tile.
@@ -37,7 +26,7 @@ fn tile_of(
     }
     let change = Change::same(layer);
     match focal_tile(alloc, stat, &change, radius, tile, &mut Counts::new()) {
-        Ok(made) => Some(Ok(values_of(alloc, &made).ok()?)),
+        Ok(made) => Some(Ok(tile_values(alloc, &made).ok()?)),
         Err(KernelRefusal::Overflow(at)) => Some(Err(at)),
         Err(KernelRefusal::NoMemory) => None,
     }
@@ -66,7 +55,7 @@ fn one_cell(rt: HostRuntime) -> Result<(), Fail> {
     let seven = layer_of(rt.alloc(), extent, &[7])?;
     makes(&rt, Stat::Sum, &seven, None, 0, &[Some(7)]);
     makes(&rt, Stat::Median, &seven, Some(32), 0, &[Some(7)]);
-    let null = layer_of(rt.alloc(), extent, &[Value::MIN])?;
+    let null = layer_of(rt.alloc(), extent, &[NULL])?;
     makes(&rt, Stat::Sum, &null, None, 0, &[None]);
     makes(&rt, Stat::Maximum, &null, Some(1), 0, &[None]);
     makes(&rt, Stat::Variety, &null, Some(1), 0, &[None]);
@@ -107,9 +96,8 @@ fn ties(rt: HostRuntime) -> Result<(), Fail> {
 #[test]
 fn discs(rt: HostRuntime) -> Result<(), Fail> {
     let extent = Extent::new(4, 5).ok_or("limits")?;
-    let null = Value::MIN;
     let cells = [
-        3, -1, 4, 1, -5, 9, null, 2, -6, 5, 3, 5, 8, 9, 7, -9, 3, 2, 3, 8,
+        3, -1, 4, 1, -5, 9, NULL, 2, -6, 5, 3, 5, 8, 9, 7, -9, 3, 2, 3, 8,
     ];
     let layer = layer_of(rt.alloc(), extent, &cells)?;
     for (stat, want) in [

@@ -1,6 +1,5 @@
 //! Tiles of the Incremental forms.
-use crate::focal_operations::values_of;
-use crate::makers::layer_of;
+use crate::makers::{NULL, layer_of, tile_values};
 use incremental_ops::{Shape, shape_tile};
 use layer_tiles::{Change, Extent, KernelRefusal, Layer, Value};
 use map_outside::Counts;
@@ -14,7 +13,7 @@ fn tile_of(alloc: Global, shape: Shape, layer: &Layer) -> Option<Result<Vec<Opti
     }
     let change = Change::same(layer);
     match shape_tile(alloc, shape, &change, 0, &mut Counts::new()) {
-        Ok(made) => Some(Ok(values_of(alloc, &made).ok()?)),
+        Ok(made) => Some(Ok(tile_values(alloc, &made).ok()?)),
         Err(KernelRefusal::Overflow(at)) => Some(Err(at)),
         Err(KernelRefusal::NoMemory) => None,
     }
@@ -42,7 +41,7 @@ fn one_cell(rt: HostRuntime) -> Result<(), Fail> {
     ] {
         assert_eq!(&rt; value_at(rt.alloc(), shape, &layer, 0), Some(want));
     }
-    let null = layer_of(rt.alloc(), extent, &[Value::MIN])?;
+    let null = layer_of(rt.alloc(), extent, &[NULL])?;
     assert_eq!(&rt; value_at(rt.alloc(), Shape::Frontage, &null, 0), None);
     Ok(())
 }
@@ -69,23 +68,22 @@ fn the_middle_cell(rt: HostRuntime) -> Result<(), Fail> {
 #[test]
 fn slopes(rt: HostRuntime) -> Result<(), Fail> {
     let extent = Extent::new(4, 5).ok_or("limits")?;
-    let null = Value::MIN;
     let cells = [
-        3, -1, 4, 1, -5, 9, null, 2, -6, 5, 3, 5, 8, 9, 7, -9, 3, 2, 3, 8,
+        3, -1, 4, 1, -5, 9, NULL, 2, -6, 5, 3, 5, 8, 9, 7, -9, 3, 2, 3, 8,
     ];
     let layer = layer_of(rt.alloc(), extent, &cells)?;
     let gradients = [
-        14, 13, 15, 17, 21, 15, null, 24, 32, 38, 36, 26, 7, 22, 19, 53, 28, 22, 23, 9,
+        14, 13, 15, 17, 21, 15, NULL, 24, 32, 38, 36, 26, 7, 22, 19, 53, 28, 22, 23, 9,
     ];
     let aspects = [
-        2, 1, 4, 4, 2, 2, null, 2, 1, 8, 5, 6, 2, 1, 8, 6, 7, 5, 6, 7,
+        2, 1, 4, 4, 2, 2, NULL, 2, 1, 8, 5, 6, 2, 1, 8, 6, 7, 5, 6, 7,
     ];
     for (shape, want) in [(Shape::Gradient, gradients), (Shape::Aspect, aspects)] {
         let Some(Ok(values)) = tile_of(rt.alloc(), shape, &layer) else {
             return Err(Fail::from("no tile"));
         };
         for at in 0..20 {
-            let value = values.get(at).copied().flatten().unwrap_or(null);
+            let value = values.get(at).copied().flatten().unwrap_or(NULL);
             assert_eq!(&rt; value, want[at]);
         }
     }

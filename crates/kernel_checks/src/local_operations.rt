@@ -2,25 +2,14 @@
 ghost use Rattle.std.specs.Prelude.{◌<◌};
 ghost use Rattle.local_ops.specs.Operations.{op_of, Takes};
 
-use crate::makers::{cell, layer_of};
-use layer_tiles::{Cell, Change, Extent, KernelRefusal, Layer, Operands, Tile, Value};
+use crate::makers::{cell, first_row, layer_of};
+use layer_tiles::{Cell, Change, Extent, KernelRefusal, Layer, Operands, Value};
 use local_ops::{LocalOp, Rates, local_tile};
-use map_nums::{NoMemory, Rate, Stat};
+use map_nums::{Rate, Stat};
 use map_outside::Counts;
 use std::alloc::Global;
 use std::process::Abort;
 use std::test::Fail;
-
-/// The values of a tile's first row.
-fn values_of(alloc: Global, tile: &Tile) -> Result<Vec<Option<Value>>, NoMemory>
-    requires { 0 < tile.now.height }
-{
-    let mut values = Vec::new(alloc);
-    for cell in tile.row(0) {
-        values.push(cell.get())?;
-    }
-    Ok(values)
-}
 
 /// The first row of a tile that an operation makes of a layer and a cell everywhere, or the cell whose value is out of
 /// range. There is no tile where memory is out, or no such tile.
@@ -40,7 +29,7 @@ fn row_with(
     operands.push(Change::same(layer));
     operands.push(Change::constant(layer.extent(), cell(other)));
     match local_tile(alloc, op, &operands, tile, &mut Counts::new()) {
-        Ok(made) => Some(Ok(values_of(alloc, &made).ok()?)),
+        Ok(made) => Some(Ok(first_row(alloc, &made).ok()?)),
         Err(KernelRefusal::Overflow(at)) => Some(Err(at)),
         Err(KernelRefusal::NoMemory) => None,
     }
@@ -125,7 +114,7 @@ fn row_of(
     let mut operands = Operands::new();
     operands.push(Change::same(layer));
     let made = local_tile(alloc, op, &operands, 0, tally).ok()?;
-    values_of(alloc, &made).ok()
+    first_row(alloc, &made).ok()
 }
 
 /// An operation of one layer makes this row, by one look.
@@ -177,7 +166,7 @@ fn row_of_three(
     operands.push(Change::same(layer));
     let op = LocalOp::Stat(stat);
     let made = local_tile(alloc, &op, &operands, 0, &mut Counts::new()).ok()?;
-    values_of(alloc, &made).ok()
+    first_row(alloc, &made).ok()
 }
 
 /// A statistic of a layer of one cell, a cell and the layer again is this.

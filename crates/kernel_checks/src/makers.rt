@@ -1,7 +1,7 @@
 //! Layers that several subjects are tested over, and what is seen of them.
 ghost use Rattle.std.specs.Prelude.{◌≡◌, IfOk};
 
-use layer_tiles::{Cell, Extent, Layer, NoMemory, Value};
+use layer_tiles::{Cell, Extent, Layer, NoMemory, Patch, Tile, Value};
 use map_outside::Counts;
 use std::alloc::Global;
 use std::test::Fail;
@@ -48,6 +48,42 @@ pub fn values_of(alloc: Global, layer: &Layer) -> Result<Vec<Option<Value>>, NoM
     Ok(values)
 }
 
+/// The values of a tile, row by row.
+pub fn tile_values(alloc: Global, tile: &Tile) -> Result<Vec<Option<Value>>, NoMemory> {
+    let mut values = Vec::new(alloc);
+    for r in 0..tile.height() {
+        for cell in tile.row(r) {
+            values.push(cell.get())?;
+        }
+    }
+    Ok(values)
+}
+
+/// The values of a tile's first row.
+pub fn first_row(alloc: Global, tile: &Tile) -> Result<Vec<Option<Value>>, NoMemory> {
+    let mut values = Vec::new(alloc);
+    if tile.height() == 0 {
+        return Ok(values);
+    }
+    for cell in tile.row(0) {
+        values.push(cell.get())?;
+    }
+    Ok(values)
+}
+
+/// Whether cells hold these numbers.
+pub fn hold(values: &[Option<Value>], wanted: &[Value]) -> bool {
+    if values.len() != wanted.len() {
+        return false;
+    }
+    for at in 0..wanted.len() {
+        if values[at] != cell(wanted[at]).get() {
+            return false;
+        }
+    }
+    true
+}
+
 /// The stamps of a layer's tiles.
 pub fn stamps_of(alloc: Global, layer: &Layer) -> Result<Vec<u64>, NoMemory> {
     let mut stamps = Vec::new(alloc);
@@ -55,6 +91,29 @@ pub fn stamps_of(alloc: Global, layer: &Layer) -> Result<Vec<u64>, NoMemory> {
         stamps.push(layer.stamp(tile))?;
     }
     Ok(stamps)
+}
+
+/// A patch with tile 0 of a layer.
+fn tile_patch(alloc: Global, layer: &Layer) -> Result<Patch, NoMemory>
+    ensures { IfOk result (λ patch. patch.size ≡ layer.now.size) }
+{
+    let extent = layer.extent();
+    let mut patch = Patch::new(alloc, extent);
+    if extent.tiles() == 0 {
+        return Ok(patch);
+    }
+    let tile = layer.view(0, &mut Counts::new()).to_tile(alloc)?;
+    let _block = tile.height();
+    patch.push(0, tile)?;
+    Ok(patch)
+}
+
+/// A patch with tile 0 of these values.
+pub fn patch_with(alloc: Global, extent: Extent, values: &[Value]) -> Result<Patch, Fail>
+    ensures { IfOk result (λ patch. patch.size ≡ extent) }
+{
+    let layer = layer_of(alloc, extent, values)?;
+    Ok(tile_patch(alloc, &layer)?)
 }
 
 /// The places of the cells of 33 rows and columns.

@@ -3,8 +3,8 @@ ghost use Rattle.std.specs.Prelude.{◌≡◌, ◌<◌, IfOk};
 ghost use Rattle.std.specs.List.{All};
 ghost use Rattle.map_nums.specs.Grids.{cells_in};
 
-use crate::makers::{NULL, cell, layer_of};
-use layer_tiles::{Change, Extent, Layer, NoMemory, Patch, Tile, Value};
+use crate::makers::{NULL, cell, first_row, layer_of};
+use layer_tiles::{Change, Extent, Layer, Patch, Tile, Value};
 use map_outside::Counts;
 use sight_lines::{Sight, SightRefusal, Viewers, sees, sight_tile};
 use std::alloc::Global;
@@ -16,18 +16,6 @@ fn viewers_of(alloc: Global, layer: &Layer) -> Result<Viewers, SightRefusal>
     ensures { IfOk result (λ viewers. All (λ e. e.0 < cells_in layer.now.size) viewers) }
 {
     Viewers::of(alloc, None, &Change::same(layer), &mut Counts::new())
-}
-
-/// The values of a tile's first row.
-fn first_row(alloc: Global, tile: &Tile) -> Result<Vec<Option<Value>>, NoMemory> {
-    let mut values = Vec::new(alloc);
-    if tile.height() == 0 {
-        return Ok(values);
-    }
-    for cell in tile.row(0) {
-        values.push(cell.get())?;
-    }
-    Ok(values)
 }
 
 /// The first tile of the sums of a layer's viewers over a surface.

@@ -2,15 +2,12 @@
 ghost use Rattle.std.specs.Prelude.{◌≡◌, ◌≤ℤ◌, pos, nat_abs, IfOk};
 ghost use Rattle.map_defs.specs.Spread.{IsSpread};
 
-use crate::makers::{cell, layer_of, values_of};
+use crate::makers::{NULL, hold, layer_of, patch_with, values_of};
 use friction_spread::spread_repair;
-use layer_tiles::{Change, Extent, Layer, NoMemory, Patch, Value};
+use layer_tiles::{Change, Extent, Layer, Patch, Value};
 use map_outside::Counts;
 use std::alloc::Global;
 use std::test::Fail;
-
-/// A number that fits no cell, for a null one.
-const NULL: Value = Value::MAX;
 
 /// The greatest cost that counts where nothing is said.
 const MOST: Value = 2_000_000_000;
@@ -64,34 +61,6 @@ fn again(
     Ok((values, repair.worked))
 }
 
-/// A patch with tile 0 of a layer.
-fn tile_of(alloc: Global, layer: &Layer) -> Result<Patch, NoMemory>
-    ensures { IfOk result (λ patch. patch.size ≡ layer.now.size) }
-{
-    let extent = layer.extent();
-    let mut patch = Patch::new(alloc, extent);
-    if extent.tiles() == 0 {
-        return Ok(patch);
-    }
-    let tile = layer.view(0, &mut Counts::new()).to_tile(alloc)?;
-    let _block = tile.height();
-    patch.push(0, tile)?;
-    Ok(patch)
-}
-
-/// Whether cells hold these numbers.
-fn hold(values: &[Option<Value>], wanted: &[Value]) -> bool {
-    if values.len() != wanted.len() {
-        return false;
-    }
-    for at in 0..wanted.len() {
-        if values[at] != cell(wanted[at]).get() {
-            return false;
-        }
-    }
-    true
-}
-
 /// Whether costs that were not there are these, with this work.
 fn begins(
     alloc: Global,
@@ -125,14 +94,6 @@ fn repairs_to(
     let (base, _) = first(alloc, sources, friction, MOST)?;
     let (values, worked) = again(alloc, &base, sources, friction, patch, MOST)?;
     Ok(worked == work && hold(&values, wanted))
-}
-
-/// A patch with tile 0 of these values.
-fn patch_with(alloc: Global, extent: Extent, values: &[Value]) -> Result<Patch, Fail>
-    ensures { IfOk result (λ patch. patch.size ≡ extent) }
-{
-    let layer = layer_of(alloc, extent, values)?;
-    Ok(tile_of(alloc, &layer)?)
 }
 
 /// Whether costs are these, with this work, after tile 0 of the frictions became that of other ones.
