@@ -161,6 +161,9 @@ pub trait Maker {
         ensures found { let was = was_of (kept_now kept.entry) in
             IfOk result (λ j. (c : TallyState) → RisesBy (grounding extent (means op.entry.now) was operands.entry.now) 0 c (M.counts tally.old) → RisesBy (first j) 0 c (M.counts tally.new)) };
 
+    /// About how many microseconds all jobs of a statement take. It tells how many workers are worth their start, and changes no answer.
+    fn weight(jobs: &Jobs<'_, '_, Self::Op, Self::Beside, Self::Own>) -> u64;
+
     /// Does one job.
     fn do_job<M: Tally>(
         alloc: Global,

@@ -82,7 +82,28 @@ fn starts_of<O, B, W>(
     Ok((starts, count))
 }
 
-/// Does the jobs of all statements by so many workers, of which there are no more than jobs.
+/// About as many microseconds of work are worth the start of one more worker.
+const WORTH: u64 = 500;
+
+/// How many workers do some jobs: no more than there are, than jobs, and than the work is worth.
+fn hands_for<K: Maker>(
+    workers: u32,
+    count: u64,
+    jobs: &[Jobs<'_, '_, K::Op, K::Beside, K::Own>],
+) -> u32
+    requires workers { 0 < workers }
+    requires some { 0 < count }
+    ensures some { 0 < result }
+    ensures most { result ≤ workers }
+{
+    let mut weight = 0u64;
+    for own in jobs {
+        weight = weight.saturating_add(K::weight(own));
+    }
+    u64::from(workers).min(count).min(weight / WORTH + 1) as u32
+}
+
+/// Does the jobs of all statements by so many workers, or by fewer where they are worth no more.
 pub(crate) fn do_jobs<K: Maker + Sync, M: Tally + Send, G: Gate + Sync, R: Threads + Sync>(
     rt: &R,
     alloc: Global,
@@ -102,7 +123,7 @@ pub(crate) fn do_jobs<K: Maker + Sync, M: Tally + Send, G: Gate + Sync, R: Threa
     if count == 0 {
         return Ok(Vec::new(alloc));
     }
-    let hands = u64::from(workers).min(count) as u32;
+    let hands = hands_for::<K>(workers, count, jobs);
     let work: Phase<'_, '_, '_, K> = Phase {
         alloc,
         jobs,

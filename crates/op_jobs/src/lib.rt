@@ -17,6 +17,7 @@ mod sight_jobs;
 mod spread_bands;
 mod statements;
 mod tiles;
+mod weights;
 mod whole;
 mod whole_damage;
 mod whole_flow;

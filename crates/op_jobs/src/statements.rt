@@ -28,6 +28,7 @@ use crate::parts::parts_of;
 use crate::pieces::Piece;
 use crate::sight_jobs::sight_jobs;
 use crate::tiles::{do_tile, gather_tiles, tile_jobs};
+use crate::weights::weight_of;
 use crate::whole_jobs::{do_whole, gather_made, gather_whole};
 use crate::zonal_jobs::zonal_jobs;
 use crate::zonal_parts::count_part;
@@ -358,6 +359,10 @@ impl Maker for Statements {
             count,
             own,
         })
+    }
+
+    fn weight(jobs: &Jobs<'_, '_, Op, Beside, Own>) -> u64 {
+        weight_of(jobs.op, &jobs.own)
     }
 
     fn do_job<M: Tally>(
