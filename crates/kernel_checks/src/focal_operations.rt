@@ -3,7 +3,7 @@ ghost use Rattle.std.specs.Prelude.{◌≤◌, IfSome};
 
 use crate::makers::{NULL, layer_of, tile_values};
 use focal_ops::focal_tile;
-use layer_tiles::{Cell, Change, Extent, KernelRefusal, Layer, Value};
+use layer_tiles::{Change, Extent, KernelRefusal, Layer, Value};
 use map_nums::Stat;
 use map_outside::Counts;
 use std::alloc::Global;

@@ -7,10 +7,10 @@ use std::alloc::Global;
 use std::test::Fail;
 
 /// A number that no cell holds: where it is given for a cell's value, the cell is null.
-pub const NULL: Value = -2_000_000_001;
+pub(crate) const NULL: Value = -2_000_000_001;
 
 /// A cell of a value; null where it fits none.
-pub fn cell(value: Value) -> Cell {
+pub(crate) fn cell(value: Value) -> Cell {
     match Cell::of(value) {
         Some(cell) => cell,
         None => Cell::null(),
@@ -18,7 +18,7 @@ pub fn cell(value: Value) -> Cell {
 }
 
 /// A layer of cells, row by row, stamped 1.
-pub fn layer_of(alloc: Global, extent: Extent, values: &[Value]) -> Result<Layer, Fail>
+pub(crate) fn layer_of(alloc: Global, extent: Extent, values: &[Value]) -> Result<Layer, Fail>
     ensures { IfOk result (λ layer. layer.size ≡ extent) }
 {
     let mut cells = Vec::new(alloc);
@@ -32,7 +32,7 @@ pub fn layer_of(alloc: Global, extent: Extent, values: &[Value]) -> Result<Layer
 }
 
 /// A cell of a layer; none where it is null or out of the grid.
-pub fn value_at(layer: &Layer, at: u32, tally: &mut Counts) -> Option<Value> {
+pub(crate) fn value_at(layer: &Layer, at: u32, tally: &mut Counts) -> Option<Value> {
     if at < layer.extent().cells() {
         return layer.cell(at, tally).get();
     }
@@ -40,7 +40,7 @@ pub fn value_at(layer: &Layer, at: u32, tally: &mut Counts) -> Option<Value> {
 }
 
 /// The cells of a layer, row by row.
-pub fn values_of(alloc: Global, layer: &Layer) -> Result<Vec<Option<Value>>, NoMemory> {
+pub(crate) fn values_of(alloc: Global, layer: &Layer) -> Result<Vec<Option<Value>>, NoMemory> {
     let mut values = Vec::new(alloc);
     for at in 0..layer.extent().cells() {
         values.push(value_at(layer, at, &mut Counts::new()))?;
@@ -49,7 +49,7 @@ pub fn values_of(alloc: Global, layer: &Layer) -> Result<Vec<Option<Value>>, NoM
 }
 
 /// The values of a tile, row by row.
-pub fn tile_values(alloc: Global, tile: &Tile) -> Result<Vec<Option<Value>>, NoMemory> {
+pub(crate) fn tile_values(alloc: Global, tile: &Tile) -> Result<Vec<Option<Value>>, NoMemory> {
     let mut values = Vec::new(alloc);
     for r in 0..tile.height() {
         for cell in tile.row(r) {
@@ -60,7 +60,7 @@ pub fn tile_values(alloc: Global, tile: &Tile) -> Result<Vec<Option<Value>>, NoM
 }
 
 /// The values of a tile's first row.
-pub fn first_row(alloc: Global, tile: &Tile) -> Result<Vec<Option<Value>>, NoMemory> {
+pub(crate) fn first_row(alloc: Global, tile: &Tile) -> Result<Vec<Option<Value>>, NoMemory> {
     let mut values = Vec::new(alloc);
     if tile.height() == 0 {
         return Ok(values);
@@ -72,7 +72,7 @@ pub fn first_row(alloc: Global, tile: &Tile) -> Result<Vec<Option<Value>>, NoMem
 }
 
 /// Whether cells hold these numbers.
-pub fn hold(values: &[Option<Value>], wanted: &[Value]) -> bool {
+pub(crate) fn hold(values: &[Option<Value>], wanted: &[Value]) -> bool {
     if values.len() != wanted.len() {
         return false;
     }
@@ -85,7 +85,7 @@ pub fn hold(values: &[Option<Value>], wanted: &[Value]) -> bool {
 }
 
 /// The stamps of a layer's tiles.
-pub fn stamps_of(alloc: Global, layer: &Layer) -> Result<Vec<u64>, NoMemory> {
+pub(crate) fn stamps_of(alloc: Global, layer: &Layer) -> Result<Vec<u64>, NoMemory> {
     let mut stamps = Vec::new(alloc);
     for tile in 0..layer.extent().tiles() {
         stamps.push(layer.stamp(tile))?;
@@ -109,7 +109,7 @@ fn tile_patch(alloc: Global, layer: &Layer) -> Result<Patch, NoMemory>
 }
 
 /// A patch with tile 0 of these values.
-pub fn patch_with(alloc: Global, extent: Extent, values: &[Value]) -> Result<Patch, Fail>
+pub(crate) fn patch_with(alloc: Global, extent: Extent, values: &[Value]) -> Result<Patch, Fail>
     ensures { IfOk result (λ patch. patch.size ≡ extent) }
 {
     let layer = layer_of(alloc, extent, values)?;
@@ -117,7 +117,7 @@ pub fn patch_with(alloc: Global, extent: Extent, values: &[Value]) -> Result<Pat
 }
 
 /// The places of the cells of 33 rows and columns.
-pub fn numbers() -> [Value; 1089] {
+pub(crate) fn numbers() -> [Value; 1089] {
     let mut values = [0; 1089];
     for at in 0..1089 {
         values[at] = at as Value;
