@@ -4,7 +4,6 @@ use Rattle.std.specs.Ordering.{int_cmp, is_lt}
 use Rattle.std.specs.List.Sorted.{IsSortedBy}
 use Rattle.std.proofs.lemmas.Int.{ints}
 use Rattle.std.proofs.lemmas.List.Elements.{All-head, All-tail, All-from_get_or}
-use Rattle.std.proofs.lemmas.List.Sorted.{All-permutation}
 use Rattle.map_nums.specs.Grids.{Cells}
 use Rattle.layer_tiles.specs.Cells.{IsCell, AreCells, word_of}
 use Rattle.cell_kinds.proofs.Compared.{IsUpTo}
@@ -33,13 +32,14 @@ abbrev pub InRange : Cells → Type 0
 InRange [] = Unit {0}
 InRange (c ∷ cs) = IsCell c × InRange cs
 
-pub rises_from_sorted : (xs : Cells) → InRange xs → IsSortedBy (λ (a b : Option ℤ). is_lt (int_cmp (word_of a) (word_of b))) xs → Rises xs
-rises_from_sorted [] h s = tt
-rises_from_sorted (x ∷ []) h s = (tt, tt)
-rises_from_sorted (x ∷ y ∷ ys) h s =
-    let l : IsUpTo x y = up_to_from_words x y h.0 h.1.0 (not_less (word_of y) (word_of x) (s 0 x (omega arith) (omega arith))) in
-    let rest = rises_from_sorted (y ∷ ys) h.1 (sorted_tail (λ (a b : Option ℤ). is_lt (int_cmp (word_of a) (word_of b))) x (y ∷ ys) s) in
-    ((l, up_to_all x y ys l rest.0), rest)
+-- elements in the order of the numbers that stand for their cells
+pub rises_from_sorted : {X : Type 0} (f : X → Option ℤ) (xs : List X) → InRange (map f xs) → IsSortedBy (λ (a b : X). is_lt (int_cmp (word_of (f a)) (word_of (f b)))) xs → Rises (map f xs)
+rises_from_sorted f [] h s = tt
+rises_from_sorted f (x ∷ []) h s = (tt, tt)
+rises_from_sorted {X} f (x ∷ y ∷ ys) h s =
+    let l : IsUpTo (f x) (f y) = up_to_from_words (f x) (f y) h.0 h.1.0 (not_less (word_of (f y)) (word_of (f x)) (s 0 x (omega arith) (omega arith))) in
+    let rest = rises_from_sorted f (y ∷ ys) h.1 (sorted_tail (λ (a b : X). is_lt (int_cmp (word_of (f a)) (word_of (f b)))) x (y ∷ ys) s) in
+    ((l, up_to_all (f x) (f y) (map f ys) l rest.0), rest)
 
 pub in_range_from_all : (xs : Cells) → All IsCell xs → InRange xs
 in_range_from_all [] h = tt
@@ -53,9 +53,7 @@ kinds_from cells [] = refl
 kinds_from cells (k ∷ ks) = ap (λ (l : List Kind). record { cell = k; count = how_many cells k } ∷ l) (kinds_from cells ks)
 
 -- the runs of cells that were put in order are the kinds
-pub sorted_kinds : (cells sorted : Cells) → AreCells cells → IsPermutation cells sorted → IsSortedBy (λ (a b : Option ℤ). is_lt (int_cmp (word_of a) (word_of b))) sorted → map kind_from (runs_of same_cell sorted) ≡ counted_kinds cells
-sorted_kinds cells sorted a perm s =
-    let all = All-from_get_or IsCell cells None (λ i l. a.each i) in
-    let range = in_range_from_all sorted (All-permutation IsCell cells sorted perm all) in
-    ap (λ (es : List (Option ℤ × ℕ)). map kind_from es) (runs_told sorted (rises_from_sorted sorted range s) ∙ sym (told-permutation cells sorted perm))
+pub sorted_kinds : (cells sorted : Cells) → IsPermutation cells sorted → Rises sorted → map kind_from (runs_of same_cell sorted) ≡ counted_kinds cells
+sorted_kinds cells sorted perm rises =
+    ap (λ (es : List (Option ℤ × ℕ)). map kind_from es) (runs_told sorted rises ∙ sym (told-permutation cells sorted perm))
     ∙ kinds_from cells (kinds_of cells)

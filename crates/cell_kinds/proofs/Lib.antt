@@ -5,5 +5,7 @@ pub mod KindLists
 pub mod Counting
 pub mod Runs
 pub mod Ascending
+pub mod Expanded
+pub mod Joined
 pub mod PairLists
 pub mod PairRuns

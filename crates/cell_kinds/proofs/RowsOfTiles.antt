@@ -30,9 +30,9 @@ across_within : (s : Size) (k : ℕ) → k < tiles_across s → 32 * k < s.colum
 unfolding tiles_across
 across_within s k m = omega arith
 
-crosses_here : (s : Size) (r k : ℕ) → r < s.rows → k < tiles_across s → Crosses s r k (r / 32 * tiles_across s + k)
+pub crosses : (s : Size) (r k : ℕ) → r < s.rows → k < tiles_across s → Crosses s r k (r / 32 * tiles_across s + k)
 unfolding tile_top tile_left tile_height tile_width tile_start tiles_in
-crosses_here s r k l m =
+crosses s r k l m =
     let down = down_within s r l in
     let before = across_within s k m in
     let top = div-mul-add (r / 32) (tiles_across s) k m in
@@ -45,9 +45,6 @@ crosses_here s r k l m =
       width = rw left refl;
       start = rw (top, left) (omega arith);
     }
-
-pub crosses : (s : Size) (r k across : ℕ) → across ≡ tiles_across s → r < s.rows → k < across → Crosses s r k (r / 32 * across + k)
-crosses s r k across e l m = rw e (crosses_here s r k l (omega arith))
 
 -- the tile's row is a part of the grid's
 pub row-tile : (s : Size) (cells : Cells) (r k t : ℕ) → IsSize s → length cells ≡ cells_in s → Crosses s r k t → take (tile_width s t) (drop (r % 32 * tile_width s t) (tile_cells s cells t)) ≡ take (tile_width s t) (drop (r * s.columns + 32 * k) cells)

@@ -15,6 +15,7 @@ pub mod Shown
 pub mod Wholes
 pub mod Downs
 pub mod Firsts
+pub mod FlowBands
 pub mod Settling
 pub mod Seeding
 pub mod Near

@@ -1,11 +1,12 @@
 -- A place that waits for nothing passes on what it has.
-use Rattle.std.proofs.Common.{◌≡◌, ◌≢◌, ℕ, zero, suc, ◌+◌, ◌-◌, ◌<◌, ◌≤◌, Bool, true, false, cond, eqb, List, [], ◌∷◌, ◌*◌, length, set, Option, Some, None, refl, sym, ◌∙◌, ap, arith, inl, inr, ℤ, pos, negsuc, ◌+ℤ◌, ◌-ℤ◌}
-use Rattle.std.specs.Prelude.{◌⊎◌, ◌≤ℤ◌, ◌<ℤ◌, ◌||◌, not, is_some, IfSome}
+use Rattle.std.proofs.Common.{◌≡◌, ◌≢◌, ℕ, zero, suc, ◌+◌, ◌-◌, ◌<◌, ◌≤◌, Bool, true, false, cond, eqb, List, [], ◌∷◌, ◌*◌, length, set, get_or, Option, Some, None, refl, sym, ◌∙◌, ap, arith, inl, inr, ℤ, pos, negsuc, ◌+ℤ◌, ◌-ℤ◌}
+use Rattle.std.specs.Prelude.{◌⊎◌, ◌≤ℤ◌, ◌<ℤ◌, ◌||◌, not, nat_lt, is_some, IfSome}
 use Rattle.std.proofs.lemmas.Int.{ints}
-use Rattle.std.proofs.lemmas.Bool.{cases_Bool}
-use Rattle.std.proofs.lemmas.List.{get_or-set_same, get_or-set_other, length-set}
+use Rattle.std.proofs.lemmas.Bool.{cases_Bool, cases_lt}
+use Rattle.std.proofs.lemmas.Bool.Decides.{nat_tests}
+use Rattle.std.proofs.lemmas.List.{get_or-set_same, get_or-set_other, get_or_default, get_or_past, length-set}
 use Rattle.drainage_flow.specs.Nets.{Net, part, sum_to, is_to, inflow, gathered, IsFalling, Agrees}
-use Rattle.drainage_flow.specs.Pouring.{most_load, undone, passed, also, IsPassedOn, IsPouring, down_in, flow_in, wait_in, ArePools, AreWaits, Passes}
+use Rattle.drainage_flow.specs.Pouring.{most_load, undone, passed, also, IsPassedOn, IsPouring, down_in, flow_in, wait_in, laid, Places, place_in, place_of, ArePools, PassesTo, Passes}
 use Rattle.drainage_flow.proofs.Sums.{sum_same, sum_plus, sum_none, sum_changed, sum_picked, part_plus}
 use Rattle.drainage_flow.proofs.Above.{to_is, peak, far_above, gathered_same}
 use Rattle.drainage_flow.proofs.Mending.{same_or_not, gathered_put}
@@ -33,7 +34,7 @@ part_on : (b : Bool) (x : ℤ) → b ≡ true → part b x ≡ x
 part_on true x e = refl
 part_on false x e = absurd (cc)
 
-part_off : (b : Bool) (x : ℤ) → b ≡ false → part b x ≡ pos 0
+pub part_off : (b : Bool) (x : ℤ) → b ≡ false → part b x ≡ pos 0
 part_off true x e = absurd (cc)
 part_off false x e = refl
 
@@ -138,12 +139,12 @@ module _ (g : Net) (f load : ℕ → ℤ) (done : ℕ → Bool) (c : ℕ) (core 
         part_low true = core.low c own
         part_low false = omega (arith, ints)
 
+pub not_none : {P : Type 0} (x : ℕ) → (let n : Option ℕ = None in n) ≡ Some x → P
+not_none x e = absurd (cc)
+
 -- ---- the pouring goes on
 
-module _ (g : Net) (end c : ℕ) (down down' : ℕ → Option ℕ) (f f' : ℕ → ℤ) (w w' : ℕ → ℕ) (p : IsPouring g end (Some c) down f w) (passes : (x : ℕ) → f' x ≡ f x +ℤ part (is_to (g.down c) x) (f c)) (kept : (x : ℕ) → x ≢ c → down' x ≡ down x) where
-  abbrev done' : ℕ → Bool
-  done' = also p.done c
-
+module _ (g : Net) (c : ℕ) (down down' : ℕ → Option ℕ) (f f' : ℕ → ℤ) (w w' : ℕ → ℕ) (p : IsPouring g (Some c) down f w) where
   own : c < g.size
   own = (p.own c refl).0
 
@@ -153,160 +154,252 @@ module _ (g : Net) (end c : ℕ) (down down' : ℕ → Option ℕ) (f f' : ℕ �
   ready : inflow g (undone p.done) c ≡ pos 0
   ready = (p.own c refl).2
 
-  within : (d : ℕ) → g.down c ≡ Some d → d < g.size
-  within d e = p.within c d own e
-
-  fewer : (x : ℕ) → inflow g (undone done') x ≡ inflow g (undone p.done) x +ℤ part (is_to (g.down c) x) (negsuc 0)
-  fewer = less g f p.load p.done c p.core own fresh ready within
-
-  other : (x : ℕ) → done' x ≡ false → (x ≢ c) × (p.done x ≡ false)
-  other x e = elim (same_or_not x c) as (λ _. (x ≢ c) × (p.done x ≡ false)) [
-    | inl q ↦ (let t : done' x ≡ true = ap done' q ∙ also_here p.done c in absurd (cc))
-    | inr n ↦ (n, sym (also_other p.done c x n) ∙ e)
-  ]
-
   not_some : (x : ℕ) → x ≢ c → Some c ≢ Some x
   not_some x n q = n (cc)
 
-  now : (next : Option ℕ)
-      → ((x : ℕ) → x < g.size → done' x ≡ false → next ≢ Some x → pos (w' x) ≡ inflow g (undone done') x)
-      → ((x : ℕ) → x < g.size → w' x ≡ 0 → w x ≡ 0)
-      → ((x : ℕ) → x < g.size → done' x ≡ false → inflow g (undone done') x ≡ pos 0 → (next ≡ Some x) ⊎ (end ≤ x))
-      → ((x : ℕ) → next ≡ Some x → (x < g.size) × (done' x ≡ false) × (inflow g (undone done') x ≡ pos 0) × (w' x ≡ 0 → x < end))
-      → IsPouring g end next down' f' w'
-  now next waits zero_before left own' = record {
-    done = done';
-    load = λ x. p.load x +ℤ part (is_to (g.down c) x) (p.load c);
-    core = core_more g f p.load p.done c p.core own fresh ready within f' passes;
-    downs = λ x l e. (let o = other x e in kept x o.0 ∙ p.downs x l o.1);
+  -- what it drains to is not there
+  pub pour_stop : w' c ≡ 0 → ((x : ℕ) → x ≢ c → w' x ≡ w x) → IsPouring g None down f w'
+  pour_stop nil same = record {
+    done = p.done;
+    load = p.load;
+    core = p.core;
+    downs = p.downs;
     within = p.within;
-    waits = waits;
-    fresh = λ x l z e. elim (same_or_not x c) as (λ _. done' x ≡ false) [
-      | inl q ↦ (let h : w c ≡ 0 = ap w (sym q) ∙ zero_before x l z in absurd (omega (arith, (p.own c refl).3 h, e, q)))
-      | inr n ↦ also_other p.done c x n ∙ p.fresh x l (zero_before x l z) e
+    waits = λ x l d n. elim (same_or_not x c) as (λ _. pos (w' x) ≡ inflow g (undone p.done) x) [
+      | inl q ↦ rw (q) (ap pos nil ∙ sym ready)
+      | inr m ↦ ap pos (same x m) ∙ p.waits x l d (not_some x m)
     ];
-    left = left;
-    own = own';
+    fresh = λ x l z. elim (same_or_not x c) as (λ _. p.done x ≡ false) [ inl q ↦ rw (q) fresh | inr m ↦ p.fresh x l (sym (same x m) ∙ z) ];
+    own = λ x e. not_none x e;
   }
 
-  same_wait : (x : ℕ) → x < g.size → done' x ≡ false → is_to (g.down c) x ≡ false → pos (w x) ≡ inflow g (undone done') x
-  same_wait x l e t = let o = other x e in p.waits x l o.1 (not_some x o.0) ∙ omega (arith, ints, fewer x, part_off (is_to (g.down c) x) (negsuc 0) t)
+  module _ (passes : (x : ℕ) → f' x ≡ f x +ℤ part (is_to (g.down c) x) (f c)) (kept : (x : ℕ) → x ≢ c → down' x ≡ down x) where
+    abbrev done' : ℕ → Bool
+    done' = also p.done c
 
-  same_left : (x : ℕ) → x < g.size → done' x ≡ false → is_to (g.down c) x ≡ false → inflow g (undone done') x ≡ pos 0 → end ≤ x
-  same_left x l e t z =
-      let o = other x e in
-      elim (p.left x l o.1 (omega (arith, ints, fewer x, z, part_off (is_to (g.down c) x) (negsuc 0) t))) as (λ _. end ≤ x) [ inl q ↦ absurd (not_some x o.0 q) | inr h ↦ h ]
+    within : (d : ℕ) → g.down c ≡ Some d → d < g.size
+    within d e = p.within c d own e
 
-  none_to : (x : ℕ) → g.down c ≡ None → is_to (g.down c) x ≡ false
-  none_to x e = ap (λ o. is_to o x) e
+    fewer : (x : ℕ) → inflow g (undone done') x ≡ inflow g (undone p.done) x +ℤ part (is_to (g.down c) x) (negsuc 0)
+    fewer = less g f p.load p.done c p.core own fresh ready within
 
-  -- where it drains to no other
-  pub pour_end : g.down c ≡ None → ((x : ℕ) → w' x ≡ w x) → IsPouring g end None down' f' w'
-  pour_end e same = now None
-      (λ x l d n. ap pos (same x) ∙ same_wait x l d (none_to x e))
-      (λ x l z. sym (same x) ∙ z)
-      (λ x l d z. inr (same_left x l d (none_to x e) z))
-      (λ x q. absurd (cc))
+    other : (x : ℕ) → done' x ≡ false → (x ≢ c) × (p.done x ≡ false)
+    other x e = elim (same_or_not x c) as (λ _. (x ≢ c) × (p.done x ≡ false)) [
+      | inl q ↦ (let t : done' x ≡ true = ap done' q ∙ also_here p.done c in absurd (cc))
+      | inr n ↦ (n, sym (also_other p.done c x n) ∙ e)
+    ]
 
-  module _ (d : ℕ) (e : g.down c ≡ Some d) where
-    to_d : is_to (g.down c) d ≡ true
-    to_d = ap (λ o. is_to o d) e ∙ same_true d
+    now : (next : Option ℕ)
+        → ((x : ℕ) → x < g.size → done' x ≡ false → next ≢ Some x → pos (w' x) ≡ inflow g (undone done') x)
+        → ((x : ℕ) → x < g.size → w' x ≡ 0 → w x ≡ 0)
+        → ((x : ℕ) → next ≡ Some x → (x < g.size) × (done' x ≡ false) × (inflow g (undone done') x ≡ pos 0) × (0 < w' x))
+        → IsPouring g next down' f' w'
+    now next waits zero_before own' = record {
+      done = done';
+      load = λ x. p.load x +ℤ part (is_to (g.down c) x) (p.load c);
+      core = core_more g f p.load p.done c p.core own fresh ready within f' passes;
+      downs = λ x l e. (let o = other x e in kept x o.0 ∙ p.downs x l o.1);
+      within = p.within;
+      waits = waits;
+      fresh = λ x l z. elim (same_or_not x c) as (λ _. done' x ≡ false) [
+        | inl q ↦ (let h : w c ≡ 0 = ap w (sym q) ∙ zero_before x l z in absurd (omega (arith, (p.own c refl).3, h)))
+        | inr n ↦ also_other p.done c x n ∙ p.fresh x l (zero_before x l z)
+      ];
+      own = own';
+    }
 
-    to_other : (x : ℕ) → x ≢ d → is_to (g.down c) x ≡ false
-    to_other x n = ap (λ o. is_to o x) e ∙ other_false d x n
+    same_wait : (x : ℕ) → x < g.size → done' x ≡ false → is_to (g.down c) x ≡ false → pos (w x) ≡ inflow g (undone done') x
+    same_wait x l e t = let o = other x e in p.waits x l o.1 (not_some x o.0) ∙ omega (arith, ints, fewer x, part_off (is_to (g.down c) x) (negsuc 0) t)
 
-    not_c : d ≢ c
-    not_c q = let t : is_to (g.down c) c ≡ true = ap (is_to (g.down c)) (sym q) ∙ to_d in let u = not_here g f p.load p.done c p.core own fresh ready within in absurd (cc)
+    none_to : (x : ℕ) → g.down c ≡ None → is_to (g.down c) x ≡ false
+    none_to x e = ap (λ o. is_to o x) e
 
-    d_fresh : p.done d ≡ false
-    d_fresh = elim (cases_Bool (p.done d)) as (λ _. p.done d ≡ false) [ inl t ↦ (let u = not_done g f p.load p.done c p.core own fresh ready within d t in let v = to_d in absurd (cc)) | inr h ↦ h ]
-
-    d_wait : pos (w d) ≡ inflow g (undone p.done) d
-    d_wait = p.waits d (within d e) d_fresh (not_some d not_c)
-
-    d_fewer : inflow g (undone done') d ≡ pos (w d) +ℤ negsuc 0
-    d_fewer = omega (arith, ints, fewer d, d_wait, part_on (is_to (g.down c) d) (negsuc 0) to_d)
-
-    d_some : 1 ≤ w d
-    d_some = omega (arith, ints, d_wait, waits_for g f p.load p.done c p.core own fresh ready within d to_d)
-
-    -- where the place downstream waits for more
-    pub pour_wait : 1 < w d → w' d ≡ w d - 1 → ((x : ℕ) → x ≢ d → w' x ≡ w x) → IsPouring g end None down' f' w'
-    pour_wait h here same = now None
-        (λ x l u n. elim (same_or_not x d) as (λ _. pos (w' x) ≡ inflow g (undone done') x) [
-          | inl q ↦ rw (q) (omega (arith, ints, d_fewer, here, h))
-          | inr m ↦ ap pos (same x m) ∙ same_wait x l u (to_other x m)
-        ])
-        (λ x l z. elim (same_or_not x d) as (λ _. w x ≡ 0) [ inl q ↦ (let k : w' d ≡ 0 = ap w' (sym q) ∙ z in absurd (omega (arith, k, here, h))) | inr m ↦ sym (same x m) ∙ z ])
-        (λ x l u z. elim (same_or_not x d) as (λ _. (None ≡ Some x) ⊎ (end ≤ x)) [
-          | inl q ↦ (let k : inflow g (undone done') d ≡ pos 0 = ap (inflow g (undone done')) (sym q) ∙ z in absurd (omega (arith, ints, d_fewer, k, h)))
-          | inr m ↦ inr (same_left x l u (to_other x m) z)
-        ])
-        (λ x q. absurd (cc))
-
-    -- where it waits for nothing more
-    pub pour_on : w d ≤ 1 → ((x : ℕ) → w' x ≡ w x) → IsPouring g end (Some d) down' f' w'
-    pour_on h same = now (Some d)
-        (λ x l u n. ap pos (same x) ∙ same_wait x l u (to_other x (λ q. n (ap Some (sym q)))))
+    -- where it drains to no place
+    pub pour_end : g.down c ≡ None → ((x : ℕ) → w' x ≡ w x) → IsPouring g None down' f' w'
+    pour_end e same = now None
+        (λ x l d n. ap pos (same x) ∙ same_wait x l d (none_to x e))
         (λ x l z. sym (same x) ∙ z)
-        (λ x l u z. elim (same_or_not x d) as (λ _. (Some d ≡ Some x) ⊎ (end ≤ x)) [ inl q ↦ inl (ap Some (sym q)) | inr m ↦ inr (same_left x l u (to_other x m) z) ])
-        (λ x q. (let k : x ≡ d = cc in rw (k) (within d e, also_other p.done c d not_c ∙ d_fresh, omega (arith, ints, d_fewer, h, d_some), λ z. absurd (omega (arith, z, same d, d_some)))))
+        (λ x q. not_none x q)
+
+    module _ (d : ℕ) (e : g.down c ≡ Some d) where
+      to_d : is_to (g.down c) d ≡ true
+      to_d = ap (λ o. is_to o d) e ∙ same_true d
+
+      to_other : (x : ℕ) → x ≢ d → is_to (g.down c) x ≡ false
+      to_other x n = ap (λ o. is_to o x) e ∙ other_false d x n
+
+      not_c : d ≢ c
+      not_c q = let t : is_to (g.down c) c ≡ true = ap (is_to (g.down c)) (sym q) ∙ to_d in let u = not_here g f p.load p.done c p.core own fresh ready within in absurd (cc)
+
+      d_fresh : p.done d ≡ false
+      d_fresh = elim (cases_Bool (p.done d)) as (λ _. p.done d ≡ false) [ inl t ↦ (let u = not_done g f p.load p.done c p.core own fresh ready within d t in let v = to_d in absurd (cc)) | inr h ↦ h ]
+
+      d_wait : pos (w d) ≡ inflow g (undone p.done) d
+      d_wait = p.waits d (within d e) d_fresh (not_some d not_c)
+
+      d_fewer : inflow g (undone done') d ≡ pos (w d) +ℤ negsuc 0
+      d_fewer = omega (arith, ints, fewer d, d_wait, part_on (is_to (g.down c) d) (negsuc 0) to_d)
+
+      d_some : 1 ≤ w d
+      d_some = omega (arith, ints, d_wait, waits_for g f p.load p.done c p.core own fresh ready within d to_d)
+
+      -- where the place downstream waits for more
+      pub pour_wait : 1 < w d → w' d ≡ w d - 1 → ((x : ℕ) → x ≢ d → w' x ≡ w x) → IsPouring g None down' f' w'
+      pour_wait h here same = now None
+          (λ x l u n. elim (same_or_not x d) as (λ _. pos (w' x) ≡ inflow g (undone done') x) [
+            | inl q ↦ rw (q) (omega (arith, ints, d_fewer, here, h))
+            | inr m ↦ ap pos (same x m) ∙ same_wait x l u (to_other x m)
+          ])
+          (λ x l z. elim (same_or_not x d) as (λ _. w x ≡ 0) [ inl q ↦ (let k : w' d ≡ 0 = ap w' (sym q) ∙ z in absurd (omega (arith, k, here, h))) | inr m ↦ sym (same x m) ∙ z ])
+          (λ x q. not_none x q)
+
+      -- where it waits for nothing more
+      pub pour_on : w d ≤ 1 → ((x : ℕ) → w' x ≡ w x) → IsPouring g (Some d) down' f' w'
+      pour_on h same = now (Some d)
+          (λ x l u n. ap pos (same x) ∙ same_wait x l u (to_other x (λ q. n (ap Some (sym q)))))
+          (λ x l z. sym (same x) ∙ z)
+          (λ x q. (let k : x ≡ d = cc in rw (k) (within d e, also_other p.done c d not_c ∙ d_fresh, omega (arith, ints, d_fewer, h, d_some), omega (arith, same d, d_some))))
+
+-- ---- lists in place of others
+
+module _ {X : Type 0} (first : ℕ) (xs : List X) (f : ℕ → X) where
+  pub laid_below : (c : ℕ) → c < first → laid first xs f c ≡ f c
+  laid_below c l = let t : nat_lt c first ≡ true = grind (arith, nat_tests) in ap (λ b. cond b (f c) (get_or xs (c - first) (f c))) t
+
+  pub laid_past : (c : ℕ) → first ≤ c → laid first xs f c ≡ get_or xs (c - first) (f c)
+  laid_past c l = let t : nat_lt c first ≡ false = grind (arith, nat_tests) in ap (λ b. cond b (f c) (get_or xs (c - first) (f c))) t
+
+  pub laid_in : (k : ℕ) (d : X) → k < length xs → laid first xs f (first + k) ≡ get_or xs k d
+  laid_in k d l =
+      let e : first + k - first ≡ k = omega arith in
+      laid_past (first + k) (omega arith) ∙ ap (λ j. get_or xs j (f (first + k))) e ∙ get_or_default xs k (f (first + k)) d l
+
+  pub laid_after : (c : ℕ) → first + length xs ≤ c → laid first xs f c ≡ f c
+  laid_after c l = laid_past c (omega (arith, l)) ∙ get_or_past xs (c - first) (f c) (omega (arith, l))
+
+pub laid_set : {X : Type 0} (first : ℕ) (xs : List X) (f : ℕ → X) (k : ℕ) (v : X) → k < length xs → laid first (set xs k v) f (first + k) ≡ v
+laid_set first xs f k v l = laid_in first (set xs k v) f k v (omega (arith, l, length-set xs k v)) ∙ get_or-set_same xs k v v l
+
+pub laid_other : {X : Type 0} (first : ℕ) (xs : List X) (f : ℕ → X) (k : ℕ) (v : X) (c : ℕ) → c ≢ first + k → laid first (set xs k v) f c ≡ laid first xs f c
+laid_other first xs f k v c n = elim (cases_lt c first) as (λ _. laid first (set xs k v) f c ≡ laid first xs f c) [
+  | inl l ↦ laid_below first (set xs k v) f c l ∙ sym (laid_below first xs f c l)
+  | inr l ↦ (let m : c - first ≢ k = λ q. n (omega (arith, q, l)) in laid_past first (set xs k v) f c l ∙ get_or-set_other xs k (c - first) v (f c) m ∙ sym (laid_past first xs f c l))
+]
+
+-- ---- numbers in a list
+
+tests : (b c : Bool) (m k : ℕ) → cond b None (cond c (Some m) None) ≡ Some k → (b ≡ false) × (c ≡ true) × (m ≡ k)
+tests true c m k e = not_none k e
+tests false true m k e = (refl, refl, cc)
+tests false false m k e = not_none k e
+
+pub place_some : (first n d k : ℕ) → place_in first n d ≡ Some k → (d ≡ first + k) × (k < n)
+place_some first n d k e =
+    let t = tests (nat_lt d first) (nat_lt (d - first) n) (d - first) k e in
+    let a : nat_lt d first ≡ false = t.0 in
+    let b : nat_lt (d - first) n ≡ true = t.1 in
+    let l : first ≤ d = grind (arith, nat_tests) in
+    let m : d - first < n = grind (arith, nat_tests) in
+    (omega (arith, l, t.2), omega (arith, m, t.2))
+
+pub place_here : (first n k : ℕ) → k < n → place_in first n (first + k) ≡ Some k
+place_here first n k l =
+    let a : nat_lt (first + k) first ≡ false = grind (arith, nat_tests) in
+    let b : nat_lt (first + k - first) n ≡ true = grind (arith, nat_tests) in
+    ap (λ t. cond t None (cond (nat_lt (first + k - first) n) (Some (first + k - first)) None)) a ∙ ap (λ t. cond t (Some (first + k - first)) None) b ∙ ap (λ i. let o : Option ℕ = Some i in o) (omega arith)
 
 -- ---- over lists
 
-put_is : (flows : List ℤ) (d : ℕ) (z : ℤ) (x : ℕ) → d < length flows → flow_in (set flows d (flow_in flows d +ℤ z)) x ≡ flow_in flows x +ℤ part (is_to (Some d) x) z
-put_is flows d z x l = elim (same_or_not x d) as (λ _. flow_in (set flows d (flow_in flows d +ℤ z)) x ≡ flow_in flows x +ℤ part (is_to (Some d) x) z) [
-  | inl q ↦ rw (q) (get_or-set_same flows d (flow_in flows d +ℤ z) (pos 0) l ∙ ap (λ y. flow_in flows d +ℤ y) (sym (part_on (eqb d d) z (same_true d))))
-  | inr n ↦ get_or-set_other flows d x (flow_in flows d +ℤ z) (pos 0) n ∙ omega (arith, ints, part_off (eqb d x) z (other_false d x n))
-]
+module _ (g : Net) (r : Places) (first n end at : ℕ) (downs : List (Option ℕ)) (waits : List ℕ) (flows : List ℤ) (p : ArePools g r first n end (Some (first + at)) downs waits flows) (in_list : at < length downs) where
+  q : IsPouring g (Some (first + at)) (laid first downs r.down) (laid first flows r.flow) (laid first waits r.wait)
+  q = p.pouring
 
--- what a place does for the pools
-pub passes_on : (g : Net) (end at : ℕ) (downs downs' : List (Option ℕ)) (waits waits' : List ℕ) (flows flows' : List ℤ) (next : Option ℕ) → ArePools g end (Some at) downs waits flows → Passes (down_in downs at) at downs waits flows downs' waits' flows' next → ArePools g end next downs' waits' flows'
-passes_on g end at downs downs' waits waits' flows flows' next p = by_down (down_in downs at) refl
-  where
-    q : IsPouring g end (Some at) (down_in downs) (flow_in flows) (wait_in waits)
-    q = p.pouring
+  at_flow : laid first flows r.flow (first + at) ≡ flow_in flows at
+  at_flow = laid_in first flows r.flow at (pos 0) (omega (arith, in_list, p.downs_count, p.flows_count))
 
-    own_at : at < g.size
-    own_at = (q.own at refl).0
+  same_down : g.down (first + at) ≡ down_in downs at
+  same_down = let o = q.own (first + at) refl in sym (q.downs (first + at) o.0 o.1) ∙ laid_in first downs r.down at None in_list
 
-    same_down : g.down at ≡ down_in downs at
-    same_down = sym (q.downs at own_at (q.own at refl).1)
+  flow_put : (k : ℕ) (z : ℤ) (x : ℕ) → k < length downs → laid first (set flows k (flow_in flows k +ℤ z)) r.flow x ≡ laid first flows r.flow x +ℤ part (is_to (Some (first + k)) x) z
+  flow_put k z x l =
+      let m : k < length flows = omega (arith, l, p.downs_count, p.flows_count) in
+      elim (same_or_not x (first + k)) as (λ _. laid first (set flows k (flow_in flows k +ℤ z)) r.flow x ≡ laid first flows r.flow x +ℤ part (is_to (Some (first + k)) x) z) [
+        | inl e ↦ rw (e) (omega (arith, ints, laid_set first flows r.flow k (flow_in flows k +ℤ z) m, laid_in first flows r.flow k (pos 0) m, part_on (eqb (first + k) (first + k)) z (same_true (first + k))))
+        | inr n ↦ omega (arith, ints, laid_other first flows r.flow k (flow_in flows k +ℤ z) x n, part_off (eqb (first + k) x) z (other_false (first + k) x n))
+      ]
 
-    by_down : (o : Option ℕ) → down_in downs at ≡ o → Passes o at downs waits flows downs' waits' flows' next → ArePools g end next downs' waits' flows'
-    by_down None e h = rw (h.0, h.1, h.2, h.3)
-        record {
-          downs_count = p.downs_count;
-          waits_count = p.waits_count;
-          flows_count = p.flows_count;
-          pouring = pour_end g end at (down_in downs) (down_in downs) (flow_in flows) (flow_in flows) (wait_in waits) (wait_in waits) q (λ x. omega (arith, ints, ap (λ o. part (is_to o x) (flow_in flows at)) (same_down ∙ e))) (λ x n. refl) (same_down ∙ e) (λ x. refl);
-        }
-    by_down (Some d) e h =
-        let to_d : g.down at ≡ Some d = same_down ∙ e in
-        let within_d : d < g.size = q.within at d own_at to_d in
-        let passes : (x : ℕ) → flow_in flows' x ≡ flow_in flows x +ℤ part (is_to (g.down at) x) (flow_in flows at)
-        = λ x. ap (λ (fs : List ℤ). flow_in fs x) h.1 ∙ put_is flows d (flow_in flows at) x (omega (arith, p.flows_count, within_d)) ∙ ap (λ o. flow_in flows x +ℤ part (is_to o x) (flow_in flows at)) (sym to_d) in
-        let kept : (x : ℕ) → x ≢ at → down_in downs' x ≡ down_in downs x = λ x n. ap (λ (ds : List (Option ℕ)). down_in ds x) h.0 ∙ get_or-set_other downs at x None None n in
-        let downs_count : length downs' ≡ g.size = ap length h.0 ∙ length-set downs at None ∙ p.downs_count in
-        let flows_count : length flows' ≡ g.size = ap length h.1 ∙ length-set flows d (flow_in flows d +ℤ flow_in flows at) ∙ p.flows_count in
-        elim h.2 as (λ _. ArePools g end next downs' waits' flows') [
-          | inl a ↦ rw (a.2)
-              record {
-                downs_count = downs_count;
-                waits_count = ap length a.1 ∙ length-set waits d (wait_in waits d - 1) ∙ p.waits_count;
-                flows_count = flows_count;
-                pouring = pour_wait g end at (down_in downs) (down_in downs') (flow_in flows) (flow_in flows') (wait_in waits) (wait_in waits') q passes kept d to_d a.0
-                    (ap (λ (ws : List ℕ). wait_in ws d) a.1 ∙ get_or-set_same waits d (wait_in waits d - 1) 0 (omega (arith, p.waits_count, within_d)))
-                    (λ x n. ap (λ (ws : List ℕ). wait_in ws x) a.1 ∙ get_or-set_other waits d x (wait_in waits d - 1) 0 n);
-              }
-          | inr b ↦ rw (b.2)
-              record {
-                downs_count = downs_count;
-                waits_count = ap length b.1 ∙ p.waits_count;
-                flows_count = flows_count;
-                pouring = pour_on g end at (down_in downs) (down_in downs') (flow_in flows) (flow_in flows') (wait_in waits) (wait_in waits') q passes kept d to_d b.0 (λ x. ap (λ (ws : List ℕ). wait_in ws x) b.1);
-              }
-        ]
+  -- what a place does for the pools
+  pub passes_on : (downs' : List (Option ℕ)) (waits' : List ℕ) (flows' : List ℤ) (next : Option ℕ) → Passes first (down_in downs at) at downs waits flows downs' waits' flows' next → ArePools g r first n end (place_of first next) downs' waits' flows'
+  passes_on downs' waits' flows' next = by_down (down_in downs at) refl
+    where
+      by_place : (d : ℕ) → down_in downs at ≡ Some d → (o : Option ℕ) → place_in first (length downs) d ≡ o → PassesTo o at downs waits flows downs' waits' flows' next → ArePools g r first n end (place_of first next) downs' waits' flows'
+      by_place d e None out h = rw (h.0, h.2, h.3)
+          record {
+            within = p.within;
+            downs_count = p.downs_count;
+            waits_count = ap length h.1 ∙ length-set waits at 0 ∙ p.waits_count;
+            flows_count = p.flows_count;
+            pouring = rw (h.1) (pour_stop g (first + at) (laid first downs r.down) (laid first downs r.down) (laid first flows r.flow) (laid first flows r.flow) (laid first waits r.wait) (laid first (set waits at 0) r.wait) q
+                (laid_set first waits r.wait at 0 (omega (arith, in_list, p.downs_count, p.waits_count)))
+                (λ x n. laid_other first waits r.wait at 0 x n));
+            started = λ begin all k l. (
+                let inside : d < length downs = omega (arith, all, p.downs_count, q.within (first + at) d (q.own (first + at) refl).0 (same_down ∙ e)) in
+                let there : place_in first (length downs) d ≡ Some d = (let z : d ≡ 0 + d = omega arith in ap (λ j. place_in j (length downs) d) begin ∙ ap (place_in 0 (length downs)) z ∙ place_here 0 (length downs) d inside) in
+                not_none d (sym out ∙ there));
+          }
+      by_place d e (Some k) inside h =
+          let is = place_some first (length downs) d k inside in
+          let to_k : g.down (first + at) ≡ Some (first + k) = same_down ∙ e ∙ ap (λ j. let o : Option ℕ = Some j in o) is.0 in
+          let passes : (x : ℕ) → laid first flows' r.flow x ≡ laid first flows r.flow x +ℤ part (is_to (g.down (first + at)) x) (laid first flows r.flow (first + at))
+          = λ x. ap (λ (fs : List ℤ). laid first fs r.flow x) h.1 ∙ flow_put k (flow_in flows at) x is.1 ∙ ap (λ z. laid first flows r.flow x +ℤ part (is_to (Some (first + k)) x) z) (sym at_flow) ∙ ap (λ o. laid first flows r.flow x +ℤ part (is_to o x) (laid first flows r.flow (first + at))) (sym to_k) in
+          let kept : (x : ℕ) → x ≢ first + at → laid first downs' r.down x ≡ laid first downs r.down x = λ x n. ap (λ (ds : List (Option ℕ)). laid first ds r.down x) h.0 ∙ laid_other first downs r.down at None x n in
+          let downs_count : length downs' ≡ n = ap length h.0 ∙ length-set downs at None ∙ p.downs_count in
+          let flows_count : length flows' ≡ n = ap length h.1 ∙ length-set flows k (flow_in flows k +ℤ flow_in flows at) ∙ p.flows_count in
+          let in_waits : k < length waits = omega (arith, is.1, p.downs_count, p.waits_count) in
+          let here_wait : laid first waits r.wait (first + k) ≡ wait_in waits k = laid_in first waits r.wait k 0 in_waits in
+          elim h.2 as (λ _. ArePools g r first n end (place_of first next) downs' waits' flows') [
+            | inl a ↦ rw (a.2)
+                record {
+                  within = p.within;
+                  downs_count = downs_count;
+                  waits_count = ap length a.1 ∙ length-set waits k (wait_in waits k - 1) ∙ p.waits_count;
+                  flows_count = flows_count;
+                  pouring = pour_wait g (first + at) (laid first downs r.down) (laid first downs' r.down) (laid first flows r.flow) (laid first flows' r.flow) (laid first waits r.wait) (laid first waits' r.wait) q passes kept (first + k) to_k
+                      (omega (arith, here_wait, a.0))
+                      (ap (λ (ws : List ℕ). laid first ws r.wait (first + k)) a.1 ∙ laid_set first waits r.wait k (wait_in waits k - 1) in_waits ∙ ap (λ n. n - 1) (sym here_wait))
+                      (λ x n. ap (λ (ws : List ℕ). laid first ws r.wait x) a.1 ∙ laid_other first waits r.wait k (wait_in waits k - 1) x n);
+                  started = λ begin all j l. (
+                      let before = p.started begin all j l in
+                      elim (same_or_not j k) as (λ _. 0 < wait_in waits' j) [
+                        | inl e ↦ omega (arith, ap (λ (ws : List ℕ). wait_in ws j) a.1, ap (λ i. wait_in (set waits k (wait_in waits k - 1)) i) e, get_or-set_same waits k (wait_in waits k - 1) 0 in_waits, a.0)
+                        | inr n ↦ omega (arith, ap (λ (ws : List ℕ). wait_in ws j) a.1, get_or-set_other waits k j (wait_in waits k - 1) 0 n, before)
+                      ]);
+                }
+            | inr b ↦ rw (b.2)
+                record {
+                  within = p.within;
+                  downs_count = downs_count;
+                  waits_count = ap length b.1 ∙ p.waits_count;
+                  flows_count = flows_count;
+                  pouring = pour_on g (first + at) (laid first downs r.down) (laid first downs' r.down) (laid first flows r.flow) (laid first flows' r.flow) (laid first waits r.wait) (laid first waits' r.wait) q passes kept (first + k) to_k
+                      (omega (arith, here_wait, b.0))
+                      (λ x. ap (λ (ws : List ℕ). laid first ws r.wait x) b.1);
+                  started = λ begin all j l. (let before = p.started begin all j l in omega (arith, ap (λ (ws : List ℕ). wait_in ws j) b.1, before));
+                }
+          ]
+
+      by_down : (o : Option ℕ) → down_in downs at ≡ o → Passes first o at downs waits flows downs' waits' flows' next → ArePools g r first n end (place_of first next) downs' waits' flows'
+      by_down None e h = rw (h.0, h.1, h.2, h.3)
+          record {
+            within = p.within;
+            downs_count = p.downs_count;
+            waits_count = p.waits_count;
+            flows_count = p.flows_count;
+            pouring = pour_end g (first + at) (laid first downs r.down) (laid first downs r.down) (laid first flows r.flow) (laid first flows r.flow) (laid first waits r.wait) (laid first waits r.wait) q
+                (λ x. omega (arith, ints, ap (λ o. part (is_to o x) (laid first flows r.flow (first + at))) (same_down ∙ e))) (λ x n. refl) (same_down ∙ e) (λ x. refl);
+            started = p.started;
+          }
+      by_down (Some d) e h = by_place d e (place_in first (length downs) d) refl h
 
 -- the sum of two that wait to be passed on
 two_loads : (g : Net) (done : ℕ → Bool) (load : ℕ → ℤ) (c d : ℕ) → ((x : ℕ) → x < g.size → pos 0 ≤ℤ load x) → sum_to (λ x. part (not (done x)) (load x)) g.size ≤ℤ most_load → c < g.size → d < g.size → c ≢ d → done c ≡ false → done d ≡ false → (load c +ℤ load d) ≤ℤ most_load
@@ -326,28 +419,31 @@ two_loads g done load c d least most lc ld n fc fd =
     ]
 
 -- what a place passes on fits
-pub record Fits (g : Net) (downs : List (Option ℕ)) (flows : List ℤ) (at d : ℕ) : Type 0 where
-  pub within : d < g.size
-  pub low : pos 0 ≤ℤ (flow_in flows d +ℤ flow_in flows at +ℤ most_load)
-  pub high : (flow_in flows d +ℤ flow_in flows at) ≤ℤ most_load
+pub record Fits (flows : List ℤ) (at k : ℕ) : Type 0 where
+  pub low : pos 0 ≤ℤ (flow_in flows k +ℤ flow_in flows at +ℤ most_load)
+  pub high : (flow_in flows k +ℤ flow_in flows at) ≤ℤ most_load
 
-pub fits_on : (g : Net) (end at d : ℕ) (downs : List (Option ℕ)) (waits : List ℕ) (flows : List ℤ) → ArePools g end (Some at) downs waits flows → down_in downs at ≡ Some d → Fits g downs flows at d
-fits_on g end at d downs waits flows p e =
+pub fits_on : (g : Net) (r : Places) (first n end at d k : ℕ) (downs : List (Option ℕ)) (waits : List ℕ) (flows : List ℤ) → ArePools g r first n end (Some (first + at)) downs waits flows → at < length downs → down_in downs at ≡ Some d → place_in first (length downs) d ≡ Some k → Fits flows at k
+fits_on g r first n end at d k downs waits flows p in_list e inside =
     let q = p.pouring in
-    let o = q.own at refl in
-    let to_d : g.down at ≡ Some d = sym (q.downs at o.0 o.1) ∙ e in
-    let inside : d < g.size = q.within at d o.0 to_d in
-    let within = λ (x : ℕ) (r : g.down at ≡ Some x). q.within at x o.0 r in
-    let yes : is_to (g.down at) d ≡ true = ap (λ (w : Option ℕ). is_to w d) to_d ∙ same_true d in
-    let no = not_here g (flow_in flows) q.load q.done at q.core o.0 o.1 o.2 within in
-    let apart : d ≢ at = λ r. (let t : is_to (g.down at) at ≡ true = ap (is_to (g.down at)) (sym r) ∙ yes in absurd (cc)) in
-    let fresh : q.done d ≡ false = elim (cases_Bool (q.done d)) as (λ _. q.done d ≡ false) [ inl t ↦ (let u = not_done g (flow_in flows) q.load q.done at q.core o.0 o.1 o.2 within d t in absurd (cc)) | inr h ↦ h ] in
-    let least = λ (x : ℕ) (l : x < g.size). (let f : pos 0 ≤ℤ q.load x = omega (arith, ints, q.core.high x l, q.core.low x l) in f) in
-    let two = two_loads g q.done q.load d at least q.core.loads inside o.0 apart fresh o.1 in
+    let c = first + at in
+    let f = laid first flows r.flow in
+    let o = q.own c refl in
+    let is = place_some first (length downs) d k inside in
+    let to_d : g.down c ≡ Some d = same_down g r first n end at downs waits flows p in_list ∙ e in
+    let in_net : d < g.size = q.within c d o.0 to_d in
+    let within = λ (x : ℕ) (t : g.down c ≡ Some x). q.within c x o.0 t in
+    let yes : is_to (g.down c) d ≡ true = ap (λ (w : Option ℕ). is_to w d) to_d ∙ same_true d in
+    let no = not_here g f q.load q.done c q.core o.0 o.1 o.2 within in
+    let apart : d ≢ c = λ t. (let u : is_to (g.down c) c ≡ true = ap (is_to (g.down c)) (sym t) ∙ yes in absurd (cc)) in
+    let fresh : q.done d ≡ false = elim (cases_Bool (q.done d)) as (λ _. q.done d ≡ false) [ inl t ↦ (let u = not_done g f q.load q.done c q.core o.0 o.1 o.2 within d t in absurd (cc)) | inr h ↦ h ] in
+    let least = λ (x : ℕ) (l : x < g.size). (let s : pos 0 ≤ℤ q.load x = omega (arith, ints, q.core.high x l, q.core.low x l) in s) in
+    let two = two_loads g q.done q.load d c least q.core.loads in_net o.0 apart fresh o.1 in
+    let from : f c ≡ flow_in flows at = at_flow g r first n end at downs waits flows p in_list in
+    let to : f d ≡ flow_in flows k = ap f is.0 ∙ laid_in first flows r.flow k (pos 0) (omega (arith, is.1, p.downs_count, p.flows_count)) in
     record {
-      within = inside;
-      low = omega (arith, ints, two, q.core.low d inside, q.core.low at o.0);
-      high = omega (arith, ints, two, q.core.high d inside, q.core.high at o.0);
+      low = omega (arith, ints, two, q.core.low d in_net, q.core.low c o.0, from, to);
+      high = omega (arith, ints, two, q.core.high d in_net, q.core.high c o.0, from, to);
     }
 
 pub if_some : {P : ℕ → Type 0} (o : Option ℕ) → ((d : ℕ) → o ≡ Some d → P d) → IfSome o P
@@ -368,26 +464,50 @@ fewer_left (o ∷ os) zero d e = less_here o e
     less_here (Some b) e = omega arith
 fewer_left (o ∷ os) (suc at) d e = omega (arith, fewer_left os at d e)
 
-pub fewer_passed : (at d : ℕ) (downs downs' : List (Option ℕ)) (waits waits' : List ℕ) (flows flows' : List ℤ) → Passes (down_in downs at) at downs waits flows downs' waits' flows' (Some d) → left_in downs' < left_in downs
-fewer_passed at d downs downs' waits waits' flows flows' = by_down (down_in downs at) refl
+pub fewer_passed : (first at k : ℕ) (downs downs' : List (Option ℕ)) (waits waits' : List ℕ) (flows flows' : List ℤ) → Passes first (down_in downs at) at downs waits flows downs' waits' flows' (Some k) → left_in downs' < left_in downs
+fewer_passed first at k downs downs' waits waits' flows flows' = by_down (down_in downs at) refl
   where
-    by_down : (o : Option ℕ) → down_in downs at ≡ o → Passes o at downs waits flows downs' waits' flows' (Some d) → left_in downs' < left_in downs
-    by_down None e h = absurd (cc (h.3))
-    by_down (Some b) e h = rw (h.0) (fewer_left downs at b e)
+    by_place : (d : ℕ) → down_in downs at ≡ Some d → (o : Option ℕ) → PassesTo o at downs waits flows downs' waits' flows' (Some k) → left_in downs' < left_in downs
+    by_place d e None h = not_none k (sym h.3)
+    by_place d e (Some j) h = rw (h.0) (fewer_left downs at d e)
+
+    by_down : (o : Option ℕ) → down_in downs at ≡ o → Passes first o at downs waits flows downs' waits' flows' (Some k) → left_in downs' < left_in downs
+    by_down None e h = not_none k (sym h.3)
+    by_down (Some d) e h = by_place d e (place_in first (length downs) d) h
+
+pub passes_within : (first at k : ℕ) (downs downs' : List (Option ℕ)) (waits waits' : List ℕ) (flows flows' : List ℤ) → Passes first (down_in downs at) at downs waits flows downs' waits' flows' (Some k) → k < length downs'
+passes_within first at k downs downs' waits waits' flows flows' = by_down (down_in downs at) refl
+  where
+    by_place : (d : ℕ) → (o : Option ℕ) → place_in first (length downs) d ≡ o → PassesTo o at downs waits flows downs' waits' flows' (Some k) → k < length downs'
+    by_place d None e h = not_none k (sym h.3)
+    by_place d (Some j) e h =
+        let is = place_some first (length downs) d j e in
+        let same : length downs' ≡ length downs = ap length h.0 ∙ length-set downs at None in
+        elim h.2 as (λ _. k < length downs') [
+          | inl a ↦ not_none k (sym a.2)
+          | inr b ↦ (let q : k ≡ j = cc in omega (arith, same, is.1, q))
+        ]
+
+    by_down : (o : Option ℕ) → down_in downs at ≡ o → Passes first o at downs waits flows downs' waits' flows' (Some k) → k < length downs'
+    by_down None e h = not_none k (sym h.3)
+    by_down (Some d) e h = by_place d (place_in first (length downs) d) refl h
 
 -- ---- from place to place
 
-not_none : {P : Type 0} (x : ℕ) → (let n : Option ℕ = None in n) ≡ Some x → P
-not_none x e = absurd (cc)
-
-pub pools_begin : (g : Net) (start : ℕ) (downs : List (Option ℕ)) (waits : List ℕ) (flows : List ℤ) → ArePools g start None downs waits flows → start < g.size → wait_in waits start ≡ 0 → ArePools g (start + 1) (Some start) downs waits flows
-pools_begin g start downs waits flows p l z =
+pub pools_begin : (g : Net) (r : Places) (first n start : ℕ) (downs : List (Option ℕ)) (waits : List ℕ) (flows : List ℤ) → ArePools g r first n start None downs waits flows → start < length downs → wait_in waits start ≡ 0 → ArePools g r first n (start + 1) (Some (first + start)) downs (set waits start 1) flows
+pools_begin g r first n start downs waits flows p l z =
     let q = p.pouring in
+    let c = first + start in
+    let in_waits : start < length waits = omega (arith, l, p.downs_count, p.waits_count) in
+    let in_net : c < g.size = omega (arith, l, p.downs_count, p.within) in
+    let nil : laid first waits r.wait c ≡ 0 = laid_in first waits r.wait start 0 in_waits ∙ z in
+    let one : laid first (set waits start 1) r.wait c ≡ 1 = laid_set first waits r.wait start 1 in_waits in
+    let fresh : q.done c ≡ false = q.fresh c in_net nil in
     let none : (x : ℕ) → (let n : Option ℕ = None in n) ≢ Some x = λ x e. not_none x e in
-    let fresh : q.done start ≡ false = q.fresh start l z (omega arith) in
     record {
+      within = p.within;
       downs_count = p.downs_count;
-      waits_count = p.waits_count;
+      waits_count = length-set waits start 1 ∙ p.waits_count;
       flows_count = p.flows_count;
       pouring = record {
         done = q.done;
@@ -395,15 +515,30 @@ pools_begin g start downs waits flows p l z =
         core = q.core;
         downs = q.downs;
         within = q.within;
-        waits = λ x m d n. q.waits x m d (none x);
-        fresh = λ x m w e. q.fresh x m w (omega (arith, e));
-        left = λ x m d w. elim (q.left x m d w) as (λ _. (Some start ≡ Some x) ⊎ (start + 1 ≤ x)) [
-          | inl e ↦ not_none x e
-          | inr h ↦ elim (same_or_not x start) as (λ _. (Some start ≡ Some x) ⊎ (start + 1 ≤ x)) [ inl r ↦ inl (ap Some (sym r)) | inr n ↦ inr (omega (arith, h, n)) ]
-        ];
-        own = λ x e. (let r : x ≡ start = cc in rw (r) (l, fresh, sym (q.waits start l fresh (none start)) ∙ ap pos z, λ w. omega arith));
+        waits = λ x m d n. (let other : x ≢ c = λ e. n (ap Some (sym e)) in ap pos (laid_other first waits r.wait start 1 x other) ∙ q.waits x m d (none x));
+        fresh = λ x m w. elim (same_or_not x c) as (λ _. q.done x ≡ false) [ inl e ↦ ap q.done e ∙ fresh | inr n ↦ q.fresh x m (sym (laid_other first waits r.wait start 1 x n) ∙ w) ];
+        own = λ x e. (let t : x ≡ c = cc in rw (t) (in_net, fresh, sym (q.waits c in_net fresh (none c)) ∙ ap pos nil, omega (arith, one)));
       };
+      started = λ begin all k m. elim (same_or_not k start) as (λ _. 0 < wait_in (set waits start 1) k) [
+        | inl e ↦ omega (arith, ap (λ j. wait_in (set waits start 1) j) e, get_or-set_same waits start 1 0 in_waits)
+        | inr n ↦ omega (arith, get_or-set_other waits start k 1 0 n, p.started begin all k (omega (arith, m, n)))
+      ];
     }
+
+-- a place that isn't ready is done with
+pub pools_pass : (g : Net) (r : Places) (first n start : ℕ) (downs : List (Option ℕ)) (waits : List ℕ) (flows : List ℤ) → ArePools g r first n start None downs waits flows → wait_in waits start ≢ 0 → ArePools g r first n (start + 1) None downs waits flows
+pools_pass g r first n start downs waits flows p o = record {
+  within = p.within;
+  downs_count = p.downs_count;
+  waits_count = p.waits_count;
+  flows_count = p.flows_count;
+  pouring = p.pouring;
+  started = λ begin all k m. elim (same_or_not k start) as (λ _. 0 < wait_in waits k) [ inl e ↦ (let h : wait_in waits k ≢ 0 = rw (e) o in positive (wait_in waits k) h) | inr n ↦ p.started begin all k (omega (arith, m, n)) ];
+}
+  where
+    positive : (k : ℕ) → k ≢ 0 → 0 < k
+    positive zero h = absurd (h refl)
+    positive (suc k) h = omega arith
 
 -- ---- the beginning
 
@@ -415,36 +550,57 @@ sum_even : (n : ℕ) → sum_to (λ c. pos 2000000000) n ≡ pos (2000000000 * n
 sum_even zero = refl
 sum_even (suc n) = omega (arith, ints, sum_even n)
 
-pub pools_first : (g : Net) (downs : List (Option ℕ)) (waits : List ℕ) (flows : List ℤ) → g.size ≤ 1500000 → length downs ≡ g.size → length flows ≡ g.size → ((c : ℕ) → c < g.size → down_in downs c ≡ g.down c) → ((c d : ℕ) → c < g.size → g.down c ≡ Some d → d < g.size) → AreWaits downs (length downs) waits → ((c : ℕ) → c < g.size → flow_in flows c ≡ g.weight c) → ((c : ℕ) → c < g.size → (flow_in flows c ≤ℤ pos 2000000000) × (pos 0 ≤ℤ (pos 2000000000 +ℤ flow_in flows c))) → ArePools g 0 None downs waits flows
+-- nothing has passed on
+pub pour_first : (g : Net) (down : ℕ → Option ℕ) (f : ℕ → ℤ) (w : ℕ → ℕ) → g.size ≤ 1500000 → ((c : ℕ) → c < g.size → down c ≡ g.down c) → ((c d : ℕ) → c < g.size → g.down c ≡ Some d → d < g.size) → ((c : ℕ) → c < g.size → pos (w c) ≡ inflow g (λ d. pos 1) c) → ((c : ℕ) → c < g.size → f c ≡ g.weight c) → ((c : ℕ) → c < g.size → (g.weight c ≤ℤ pos 2000000000) × (pos 0 ≤ℤ (pos 2000000000 +ℤ g.weight c)))
+    → IsPouring g None down f w
 unfolding gathered inflow
-pools_first g downs waits flows few dc fc same within w weights small = record {
-  downs_count = dc;
-  waits_count = w.count ∙ dc;
-  flows_count = fc;
-  pouring = record {
-    done = λ c. false;
-    load = λ c. pos 2000000000;
-    core = record {
-      tied = λ c l. weights c l ∙ omega (arith, ints, sum_same (λ d. part (is_to (g.down d) c) (pos 0)) (λ d. pos 0) g.size (λ d m. part_zero (is_to (g.down d) c)), sum_none g.size);
-      high = λ c l. (small c l).0;
-      low = λ c l. (small c l).1;
-      loads = omega (arith, ints, sum_even g.size, few);
-      ended = λ c l e. absurd (cc);
-    };
-    downs = λ c l e. same c l;
-    within = within;
-    waits = λ c l e n. w.each c (omega (arith, dc, l)) ∙ ap (sum_to (λ d. part (is_to (down_in downs d) c) (pos 1))) dc ∙ sum_same (λ d. part (is_to (down_in downs d) c) (pos 1)) (λ d. part (is_to (g.down d) c) (pos 1)) g.size (λ d m. ap (λ (o : Option ℕ). part (is_to o c) (pos 1)) (same d m));
-    fresh = λ c l e h. refl;
-    left = λ c l e z. inr (omega arith);
-    own = λ c e. not_none c e;
+pour_first g down f w few same within waits weights small = record {
+  done = λ c. false;
+  load = λ c. pos 2000000000;
+  core = record {
+    tied = λ c l. weights c l ∙ omega (arith, ints, sum_same (λ d. part (is_to (g.down d) c) (pos 0)) (λ d. pos 0) g.size (λ d m. part_zero (is_to (g.down d) c)), sum_none g.size);
+    high = λ c l. (let s = small c l in omega (arith, ints, weights c l, s.0));
+    low = λ c l. (let s = small c l in omega (arith, ints, weights c l, s.1));
+    loads = omega (arith, ints, sum_even g.size, few);
+    ended = λ c l e. absurd (cc);
   };
+  downs = λ c l e. same c l;
+  within = within;
+  waits = λ c l e n. waits c l;
+  fresh = λ c l e. refl;
+  own = λ c e. not_none c e;
+}
+
+-- places with the same are pouring alike
+pub pour_same : (g : Net) (down down' : ℕ → Option ℕ) (f f' : ℕ → ℤ) (w w' : ℕ → ℕ) → IsPouring g None down f w → ((c : ℕ) → c < g.size → down' c ≡ down c) → ((c : ℕ) → c < g.size → f' c ≡ f c) → ((c : ℕ) → c < g.size → w' c ≡ w c) → IsPouring g None down' f' w'
+unfolding gathered inflow
+pour_same g down down' f f' w w' p same_down same_flow same_wait = record {
+  done = p.done;
+  load = p.load;
+  core = record {
+    tied = λ c l. same_flow c l ∙ p.core.tied c l ∙ ap (λ z. g.weight c +ℤ z) (sum_same (λ d. part (is_to (g.down d) c) (passed p.done f d)) (λ d. part (is_to (g.down d) c) (passed p.done f' d)) g.size (λ d m. ap (λ z. part (is_to (g.down d) c) (part (p.done d) z)) (sym (same_flow d m))));
+    high = λ c l. omega (arith, ints, same_flow c l, p.core.high c l);
+    low = λ c l. omega (arith, ints, same_flow c l, p.core.low c l);
+    loads = p.core.loads;
+    ended = p.core.ended;
+  };
+  downs = λ c l e. same_down c l ∙ p.downs c l e;
+  within = p.within;
+  waits = λ c l e n. ap pos (same_wait c l) ∙ p.waits c l e n;
+  fresh = λ c l z. p.fresh c l (sym (same_wait c l) ∙ z);
+  own = λ c e. not_none c e;
 }
 
 -- ---- the end
 
-module _ (g : Net) (h : ℕ → ℤ) (falling : IsFalling g h) (downs : List (Option ℕ)) (waits : List ℕ) (flows : List ℤ) (p : ArePools g g.size None downs waits flows) where
+module _ (g : Net) (h : ℕ → ℤ) (falling : IsFalling g h) (r : Places) (downs : List (Option ℕ)) (waits : List ℕ) (flows : List ℤ) (p : ArePools g r 0 g.size g.size None downs waits flows) where
   abbrev done : ℕ → Bool
   done = p.pouring.done
+
+  not_ready : (c : ℕ) → c < g.size → done c ≡ false → inflow g (undone done) c ≢ pos 0
+  not_ready c l e none =
+      let here : laid 0 waits r.wait c ≡ wait_in waits c = (let z : c ≡ 0 + c = omega arith in ap (laid 0 waits r.wait) z ∙ laid_in 0 waits r.wait c 0 (omega (arith, l, p.waits_count))) in
+      omega (arith, ints, p.pouring.waits c l e (λ q. not_none c q), none, here, p.started refl refl c l)
 
   near_done : (top : ℤ) → ((d : ℕ) → d < g.size → h d ≤ℤ top) → (k c : ℕ) → c < g.size → top <ℤ (h c +ℤ pos k) → done c ≡ true
   unfolding inflow
@@ -453,7 +609,7 @@ module _ (g : Net) (h : ℕ → ℤ) (falling : IsFalling g h) (downs : List (Op
     | inl y ↦ y
     | inr e ↦ (
         let none : inflow g (undone done) c ≡ pos 0 = sum_same (λ d. part (is_to (g.down d) c) (undone done d)) (λ d. pos 0) g.size (λ d m. all_in d (λ u. near_done top most k d m (omega (arith, ints, u, t))) m (is_to (g.down d) c) refl) ∙ sum_none g.size in
-        elim (p.pouring.left c l e none) as (λ _. done c ≡ true) [ inl q ↦ not_none c q | inr q ↦ absurd (omega (arith, q, l)) ])
+        absurd (not_ready c l e none))
   ]
     where
       all_in : (d : ℕ) → (h c <ℤ h d → done d ≡ true) → d < g.size → (b : Bool) → is_to (g.down d) c ≡ b → part b (undone done d) ≡ pos 0
@@ -463,5 +619,9 @@ module _ (g : Net) (h : ℕ → ℤ) (falling : IsFalling g h) (downs : List (Op
   pub all_done : (c : ℕ) → c < g.size → done c ≡ true
   all_done c l = let q = peak h g.size in let far = far_above (h c) q.0 in near_done q.0 q.1 far.0 c l far.1
 
+  flow_here : (c : ℕ) → c < g.size → laid 0 flows r.flow c ≡ flow_in flows c
+  flow_here c l = let z : c ≡ 0 + c = omega arith in ap (laid 0 flows r.flow) z ∙ laid_in 0 flows r.flow c (pos 0) (omega (arith, l, p.flows_count))
+
   pub pools_agree : Agrees g (flow_in flows)
-  pools_agree c l = p.pouring.core.tied c l ∙ gathered_same g h falling (passed done (flow_in flows)) (flow_in flows) c (λ d m u. part_on (done d) (flow_in flows d) (all_done d m))
+  pools_agree c l = sym (flow_here c l) ∙ p.pouring.core.tied c l
+      ∙ gathered_same g h falling (passed done (laid 0 flows r.flow)) (flow_in flows) c (λ d m u. part_on (done d) (laid 0 flows r.flow d) (all_done d m) ∙ flow_here d m)

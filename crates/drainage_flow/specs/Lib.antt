@@ -9,6 +9,7 @@ pub mod Pouring
 pub mod Showing
 pub mod Whole
 pub mod Bands
+pub mod FlowBands
 pub mod First
 pub mod Operands
 pub mod Sides

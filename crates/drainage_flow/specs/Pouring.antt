@@ -1,5 +1,5 @@
 -- A first flow: each place passes on what it has once all that drains to it has come in.
-use Rattle.std.specs.Prelude.{◌≡◌, ◌≢◌, ◌⊎◌, ◌||◌, ◌==◌, not, ℕ, ◌-◌, ◌<◌, ◌≤◌, ℤ, pos, ◌+ℤ◌, ◌≤ℤ◌, Bool, true, false, List, length, slice_index_or, slice_set, Option, Some, None}
+use Rattle.std.specs.Prelude.{◌≡◌, ◌≢◌, ◌⊎◌, ◌||◌, ◌==◌, not, ℕ, ◌+◌, ◌-◌, ◌<◌, ◌≤◌, ℤ, pos, ◌+ℤ◌, ◌≤ℤ◌, Bool, true, false, List, length, slice_index_or, slice_set, nat_lt, if◌then◌else◌, Option, Some, None}
 use Rattle.drainage_flow.specs.Nets.{Net, part, sum_to, is_to, inflow, gathered}
 
 -- the most that all places have to pass on
@@ -25,17 +25,16 @@ pub record IsPassedOn (g : Net) (f : ℕ → ℤ) (done : ℕ → Bool) (load : 
   pub loads : sum_to (λ c. part (not (done c)) (load c)) g.size ≤ℤ most_load
   pub ended : (c : ℕ) → c < g.size → done c ≡ true → inflow g (undone done) c ≡ pos 0
 
--- all places that nothing drains to and that stand below `end` have passed on, and so have those that then waited for nothing, all but place `here`; w has how many each place waits for, and 0 still where nothing ever drained to it
-pub record IsPouring (g : Net) (end : ℕ) (here : Option ℕ) (down : ℕ → Option ℕ) (f : ℕ → ℤ) (w : ℕ → ℕ) : Type 0 where
+-- some places have passed on; each of the others knows where it drains to and how many it waits for: none where it may pass on, all but place `here`, which is about to
+pub record IsPouring (g : Net) (here : Option ℕ) (down : ℕ → Option ℕ) (f : ℕ → ℤ) (w : ℕ → ℕ) : Type 0 where
   pub done : ℕ → Bool
   pub load : ℕ → ℤ
   pub core : IsPassedOn g f done load
   pub downs : (c : ℕ) → c < g.size → done c ≡ false → down c ≡ g.down c
   pub within : (c d : ℕ) → c < g.size → g.down c ≡ Some d → d < g.size
   pub waits : (c : ℕ) → c < g.size → done c ≡ false → here ≢ Some c → pos (w c) ≡ inflow g (undone done) c
-  pub fresh : (c : ℕ) → c < g.size → w c ≡ 0 → end ≤ c → done c ≡ false
-  pub left : (c : ℕ) → c < g.size → done c ≡ false → inflow g (undone done) c ≡ pos 0 → (here ≡ Some c) ⊎ (end ≤ c)
-  pub own : (c : ℕ) → here ≡ Some c → (c < g.size) × (done c ≡ false) × (inflow g (undone done) c ≡ pos 0) × (w c ≡ 0 → c < end)
+  pub fresh : (c : ℕ) → c < g.size → w c ≡ 0 → done c ≡ false
+  pub own : (c : ℕ) → here ≡ Some c → (c < g.size) × (done c ≡ false) × (inflow g (undone done) c ≡ pos 0) × (0 < w c)
 
 -- ---- over lists
 
@@ -48,22 +47,57 @@ flow_in flows c = slice_index_or flows c (pos 0)
 abbrev pub wait_in : List ℕ → ℕ → ℕ
 wait_in waits c = slice_index_or waits c 0
 
--- three lists as long as the net
-pub record ArePools (g : Net) (end : ℕ) (here : Option ℕ) (downs : List (Option ℕ)) (waits : List ℕ) (flows : List ℤ) : Type 0 where
-  pub downs_count : length downs ≡ g.size
-  pub waits_count : length waits ≡ g.size
-  pub flows_count : length flows ≡ g.size
-  pub pouring : IsPouring g end here (down_in downs) (flow_in flows) (wait_in waits)
+-- a list in place of what stands from `first` on
+abbrev pub laid : {X : Type 0} → ℕ → List X → (ℕ → X) → ℕ → X
+laid first xs f c = if nat_lt c first then f c else slice_index_or xs (c - first) (f c)
 
--- how a place passes on what it has: to the one it drains to, which may then wait for nothing more
-abbrev pub Passes : Option ℕ → ℕ → List (Option ℕ) → List ℕ → List ℤ → List (Option ℕ) → List ℕ → List ℤ → Option ℕ → Type 0
-Passes None at downs waits flows downs' waits' flows' next = (downs' ≡ downs) × (waits' ≡ waits) × (flows' ≡ flows) × (next ≡ None)
-Passes (Some d) at downs waits flows downs' waits' flows' next =
+-- what the places of a net have
+pub record Places : Type 0 where
+  pub down : ℕ → Option ℕ
+  pub flow : ℕ → ℤ
+  pub wait : ℕ → ℕ
+
+-- three lists for n places from `first` on, among places of the net; where they are for all, the first `end` of them aren't ready any more
+pub record ArePools (g : Net) (r : Places) (first n end : ℕ) (here : Option ℕ) (downs : List (Option ℕ)) (waits : List ℕ) (flows : List ℤ) : Type 0 where
+  pub within : first + n ≤ g.size
+  pub downs_count : length downs ≡ n
+  pub waits_count : length waits ≡ n
+  pub flows_count : length flows ≡ n
+  pub pouring : IsPouring g here (laid first downs r.down) (laid first flows r.flow) (laid first waits r.wait)
+  pub started : first ≡ 0 → n ≡ g.size → (k : ℕ) → k < end → 0 < wait_in waits k
+
+-- place d by its number in a list of n from `first` on, where it is one of them
+abbrev pub place_in : ℕ → ℕ → ℕ → Option ℕ
+place_in first n d = if nat_lt d first then None else if nat_lt (d - first) n then Some (d - first) else None
+
+-- the place of the net, by its number in a list
+abbrev pub place_of : ℕ → Option ℕ → Option ℕ
+place_of first None = None
+place_of first (Some k) = Some (first + k)
+
+-- how a place passes on what it has to another of the list, which may then wait for nothing more; it stays ready where that is none of them
+abbrev pub PassesTo : Option ℕ → ℕ → List (Option ℕ) → List ℕ → List ℤ → List (Option ℕ) → List ℕ → List ℤ → Option ℕ → Type 0
+PassesTo None at downs waits flows downs' waits' flows' next = (downs' ≡ downs) × (waits' ≡ slice_set waits at 0) × (flows' ≡ flows) × (next ≡ None)
+PassesTo (Some d) at downs waits flows downs' waits' flows' next =
     (downs' ≡ slice_set downs at None) × (flows' ≡ slice_set flows d (flow_in flows d +ℤ flow_in flows at))
     × (((1 < wait_in waits d) × (waits' ≡ slice_set waits d (wait_in waits d - 1)) × (next ≡ None)) ⊎ ((wait_in waits d ≤ 1) × (waits' ≡ waits) × (next ≡ Some d)))
 
--- how many of the first n places drain to each place
-pub record AreWaits (downs : List (Option ℕ)) (n : ℕ) (waits : List ℕ) : Type 0 where
-  pub count : length waits ≡ length downs
-  pub each : (c : ℕ) → c < length downs → pos (wait_in waits c) ≡ sum_to (λ d. part (is_to (down_in downs d) c) (pos 1)) n
-  pub few : (c : ℕ) → c < length downs → wait_in waits c ≤ n
+abbrev pub Passes : ℕ → Option ℕ → ℕ → List (Option ℕ) → List ℕ → List ℤ → List (Option ℕ) → List ℕ → List ℤ → Option ℕ → Type 0
+Passes first None at downs waits flows downs' waits' flows' next = (downs' ≡ downs) × (waits' ≡ waits) × (flows' ≡ flows) × (next ≡ None)
+Passes first (Some d) at downs waits flows downs' waits' flows' next = PassesTo (place_in first (length downs) d) at downs waits flows downs' waits' flows' next
+
+-- a place that one drains to, by its number in a list of n from `first` on
+abbrev pub number_to : ℕ → ℕ → Option ℕ → Option ℕ
+number_to first n None = None
+number_to first n (Some d) = place_in first n d
+
+-- one more place drains to this one
+abbrev pub waited : Option ℕ → List ℕ → List ℕ
+waited None waits = waits
+waited (Some k) waits = slice_set waits k (wait_in waits k + 1)
+
+-- the first n places of `downs` were counted for those from `first` on that they drain to
+pub record AddsWaits (downs : List (Option ℕ)) (n first : ℕ) (old new : List ℕ) : Type 0 where
+  pub count : length new ≡ length old
+  pub each : (k : ℕ) → k < length old → pos (wait_in new k) ≡ pos (wait_in old k) +ℤ sum_to (λ d. part (is_to (down_in downs d) (first + k)) (pos 1)) n
+  pub few : (k : ℕ) → wait_in new k ≤ wait_in old k + n

@@ -17,7 +17,7 @@ use std::alloc::Global;
 /// # Errors
 ///
 /// `NoMemory` alone.
-pub fn downs_between(
+pub(crate) fn downs_between(
     alloc: Global,
     extent: Extent,
     surface: &[Cell],

@@ -1,13 +1,10 @@
-//! The flow of a map that had none.
+//! What the cells of a map that had no flow bring.
 ghost use Rattle.std.specs.Prelude.{◌≡◌, ◌<◌, pos, ◌+ℤ◌, ◌≤ℤ◌, length, IfOk};
-ghost use Rattle.map_nums.specs.Grids.{cells_in};
 ghost use Rattle.drainage_flow.specs.FlowNets.{brought};
-ghost use Rattle.drainage_flow.specs.Bands.{AreDowns};
-ghost use Rattle.drainage_flow.specs.First.{AreBrought, AreFlows};
+ghost use Rattle.drainage_flow.specs.First.{AreBrought};
 
 use crate::courses::number;
-use crate::pouring::{count_waits, run_all};
-use layer_tiles::{Cell, Extent};
+use layer_tiles::Cell;
 use map_nums::NoMemory;
 use std::alloc::Global;
 
@@ -24,7 +21,11 @@ fn brought(height: Cell, weight: Cell) -> i64
 }
 
 /// What each cell brings.
-fn brought_by(alloc: Global, surface: &[Cell], weights: &[Cell]) -> Result<Vec<i64>, NoMemory>
+pub(crate) fn brought_by(
+    alloc: Global,
+    surface: &[Cell],
+    weights: &[Cell],
+) -> Result<Vec<i64>, NoMemory>
     requires { length weights.now ≡ length surface.now }
     ensures { IfOk result (λ amounts. AreBrought surface.now weights.now (length surface.now) amounts.items) }
 {
@@ -33,24 +34,4 @@ fn brought_by(alloc: Global, surface: &[Cell], weights: &[Cell]) -> Result<Vec<i
         amounts.push(brought(surface[at], weights[at]))?;
     }
     Ok(amounts)
-}
-
-/// The flow at each place, 0 where it is null.
-pub fn all_flows(
-    alloc: Global,
-    extent: Extent,
-    surface: &[Cell],
-    weights: &[Cell],
-    mut downs: Vec<Option<u32>>,
-) -> Result<Vec<i64>, NoMemory>
-    requires surface { length surface.now ≡ cells_in extent }
-    requires weights { length weights.now ≡ cells_in extent }
-    requires downs { AreDowns extent surface.now 0 (cells_in extent) downs.items }
-    ensures { IfOk result (λ flows. AreFlows extent surface.now weights.now flows.items) }
-{
-    let _cells = extent.cells();
-    let mut waits = count_waits(alloc, &downs)?;
-    let mut flows = brought_by(alloc, surface, weights)?;
-    run_all(&mut downs, &mut waits, &mut flows);
-    Ok(flows)
 }

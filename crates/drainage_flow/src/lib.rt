@@ -2,7 +2,7 @@
 //! such directions. The flow of a cell is the sum of the weights of all cells whose course down passes it: `flow_law` says
 //! that it is the one function that gives each cell its own weight and the flow of what drains to it. `flow_repair` gives the
 //! flow after an edit as a patch of the flow before, or all of it where there was none. That first flow may also be made in
-//! parts: `downs_between` tells where the cells of some rows drain to, and `flow_along` makes the flow along all these ways.
+//! parts: `flow_of_band` gives the flow within some rows, and `flow_of_bands` that of the map, from all such bands.
 #![tactic(auto)]
 
 mod bands;
@@ -11,6 +11,7 @@ mod directions;
 mod first;
 mod laws;
 mod neighbours;
+mod pools;
 mod pouring;
 mod queue;
 mod ranges;
@@ -22,7 +23,7 @@ mod showing;
 mod whole;
 mod winners;
 
-pub use bands::downs_between;
 pub use directions::{direction, direction_tile};
 pub use laws::flow_law;
-pub use repairs::{Repair, flow_along, flow_repair};
+pub use pools::{FlowBand, flow_of_band};
+pub use repairs::{Repair, flow_of_bands, flow_repair};

@@ -1,22 +1,44 @@
-//! The flow of all places at once: each place passes on what it has as soon as all that drains to it has come in.
-ghost use Rattle.std.specs.Prelude.{◌≡◌, ◌<◌, ◌+◌, ℕ, pos, ◌+ℤ◌, ◌≤ℤ◌, length, IfOk, IfSome, None, Some};
+//! The flow of many places at once: each place passes on what it has as soon as all that drains to it has come in. The places
+//! may be some rows of a map: one that drains to another row stays ready.
+ghost use Rattle.std.specs.Prelude.{◌≡◌, ◌<◌, ◌≤◌, ◌+◌, ◌*◌, ℕ, pos, ◌+ℤ◌, ◌≤ℤ◌, length, IfSome, None, Some};
 ghost use Rattle.drainage_flow.specs.Nets.{Net};
-ghost use Rattle.drainage_flow.specs.Pouring.{down_in, flow_in, wait_in, most_load, ArePools, AreWaits, Passes};
+ghost use Rattle.drainage_flow.specs.Pouring.{down_in, flow_in, wait_in, place_in, number_to, waited, most_load, Places, ArePools, AddsWaits, Passes};
 
-use map_nums::NoMemory;
-use std::alloc::Global;
+/// The number of a place among so many from `first` on, where it is one of them.
+fn place_in(first: u32, count: usize, at: u32) -> Option<u32>
+    ensures { result ≡ place_in first count at }
+{
+    if at < first {
+        return None;
+    }
+    let place = at - first;
+    if (place as usize) < count {
+        Some(place)
+    } else {
+        None
+    }
+}
 
 /// Passes on what a place has. Gives the place downstream, where that waits for nothing more.
-fn pass_on(downs: &mut [Option<u32>], waits: &mut [u32], flows: &mut [i64], at: u32) -> Option<u32>
+fn pass_on(
+    downs: &mut [Option<u32>],
+    waits: &mut [u32],
+    flows: &mut [i64],
+    first: u32,
+    at: u32,
+) -> Option<u32>
     requires at { at < length downs.old }
     requires waits { length waits.old ≡ length downs.old }
     requires flows { length flows.old ≡ length downs.old }
-    requires within { IfSome (down_in downs.old at) (λ d. d < length downs.old) }
-    requires low { IfSome (down_in downs.old at) (λ d. pos 0 ≤ℤ (flow_in flows.old d +ℤ flow_in flows.old at +ℤ most_load)) }
-    requires high { IfSome (down_in downs.old at) (λ d. (flow_in flows.old d +ℤ flow_in flows.old at) ≤ℤ most_load) }
-    ensures { Passes (down_in downs.old at) at downs.old waits.old flows.old downs.new waits.new flows.new result }
+    requires low { IfSome (down_in downs.old at) (λ d. IfSome (place_in first (length downs.old) d) (λ k. pos 0 ≤ℤ (flow_in flows.old k +ℤ flow_in flows.old at +ℤ most_load))) }
+    requires high { IfSome (down_in downs.old at) (λ d. IfSome (place_in first (length downs.old) d) (λ k. (flow_in flows.old k +ℤ flow_in flows.old at) ≤ℤ most_load)) }
+    ensures { Passes first (down_in downs.old at) at downs.old waits.old flows.old downs.new waits.new flows.new result }
 {
-    let Some(next) = downs[at as usize] else {
+    let Some(down) = downs[at as usize] else {
+        return None;
+    };
+    let Some(next) = place_in(first, downs.len(), down) else {
+        waits[at as usize] = 0;
         return None;
     };
     downs[at as usize] = None;
@@ -29,52 +51,63 @@ fn pass_on(downs: &mut [Option<u32>], waits: &mut [u32], flows: &mut [i64], at: 
 }
 
 /// Passes on what a place has, and what each place downstream has as long as that waits for nothing more.
-fn run_down(downs: &mut [Option<u32>], waits: &mut [u32], flows: &mut [i64], start: u32)
-    requires { (g : Net) × (end : ℕ) × ArePools g end (Some start) downs.old waits.old flows.old }
-    ensures { (g : Net) (end : ℕ) → ArePools g end (Some start) downs.old waits.old flows.old → ArePools g end None downs.new waits.new flows.new }
+fn run_down(downs: &mut [Option<u32>], waits: &mut [u32], flows: &mut [i64], first: u32, start: u32)
+    requires within { start < length downs.old }
+    requires pools { (g : Net) × (r : Places) × (n : ℕ) × (end : ℕ) × ArePools g r first n end (Some (first + start)) downs.old waits.old flows.old }
+    ensures { (g : Net) (r : Places) (n end : ℕ) → ArePools g r first n end (Some (first + start)) downs.old waits.old flows.old → ArePools g r first n end None downs.new waits.new flows.new }
 {
     let mut at = start;
-    while let Some(next) = pass_on(downs, waits, flows, at) {
+    while let Some(next) = pass_on(downs, waits, flows, first, at) {
         at = next;
     }
 }
 
-/// Lets what a place has run down, where nothing ever drains to it.
-fn run_from(downs: &mut [Option<u32>], waits: &mut [u32], flows: &mut [i64], start: u32)
+/// Lets what a place has run down, where it is ready.
+fn run_from(downs: &mut [Option<u32>], waits: &mut [u32], flows: &mut [i64], first: u32, start: u32)
     requires within { start < length downs.old }
     requires waits { length waits.old ≡ length downs.old }
-    requires pools { (g : Net) × ArePools g start None downs.old waits.old flows.old }
-    ensures { (g : Net) → ArePools g start None downs.old waits.old flows.old → ArePools g (start + 1) None downs.new waits.new flows.new }
+    requires pools { (g : Net) × (r : Places) × (n : ℕ) × ArePools g r first n start None downs.old waits.old flows.old }
+    ensures { (g : Net) (r : Places) (n : ℕ) → ArePools g r first n start None downs.old waits.old flows.old → ArePools g r first n (start + 1) None downs.new waits.new flows.new }
 {
     if waits[start as usize] != 0 {
         return;
     }
-    run_down(downs, waits, flows, start);
+    waits[start as usize] = 1;
+    run_down(downs, waits, flows, first, start);
 }
 
-/// Lets what all places have run down.
-pub(crate) fn run_all(downs: &mut [Option<u32>], waits: &mut [u32], flows: &mut [i64])
+/// Lets what all places have run down as far as they go.
+pub(crate) fn run_all(downs: &mut [Option<u32>], waits: &mut [u32], flows: &mut [i64], first: u32)
     requires few { length downs.old < 4294967296 }
     requires waits { length waits.old ≡ length downs.old }
-    requires pools { (g : Net) × ArePools g 0 None downs.old waits.old flows.old }
-    ensures { (g : Net) → ArePools g 0 None downs.old waits.old flows.old → ArePools g (length downs.old) None downs.new waits.new flows.new }
+    requires pools { (g : Net) × (r : Places) × (n : ℕ) × ArePools g r first n 0 None downs.old waits.old flows.old }
+    ensures { (g : Net) (r : Places) (n : ℕ) → ArePools g r first n 0 None downs.old waits.old flows.old → ArePools g r first n (length downs.old) None downs.new waits.new flows.new }
 {
     for start in 0..downs.len() as u32 {
-        run_from(downs, waits, flows, start);
+        run_from(downs, waits, flows, first, start);
     }
 }
 
-/// How many places drain to each.
-pub(crate) fn count_waits(alloc: Global, downs: &[Option<u32>]) -> Result<Vec<u32>, NoMemory>
-    requires few { length downs.now < 4294967296 }
-    requires within { (c d : ℕ) → c < length downs.now → down_in downs.now c ≡ Some d → d < length downs.now }
-    ensures { IfOk result (λ waits. AreWaits downs.now (length downs.now) waits.items) }
+/// Counts the places of a list for those from `first` on that they drain to.
+pub(crate) fn add_waits(waits: &mut [u32], first: u32, downs: &[Option<u32>])
+    requires few { (n : ℕ) × ((k : ℕ) → wait_in waits.old k ≤ n) × (n + length downs.now < 4294967296) }
+    ensures { AddsWaits downs.now (length downs.now) first waits.old waits.new }
 {
-    let mut waits = vec![in alloc; 0; downs.len()]?;
     for at in 0..downs.len() {
-        if let Some(next) = downs[at] {
-            waits[next as usize] += 1;
-        }
+        let down = downs[at];
+        add_wait(waits, first, down);
     }
-    Ok(waits)
+}
+
+/// One more place drains to this one, which counts where it is one of those from `first` on.
+fn add_wait(waits: &mut [u32], first: u32, down: Option<u32>)
+    requires few { (k : ℕ) → wait_in waits.old k < 4294967295 }
+    ensures { waits.new ≡ waited (number_to first (length waits.old) down) waits.old }
+{
+    let Some(at) = down else {
+        return;
+    };
+    if let Some(place) = place_in(first, waits.len(), at) {
+        waits[place as usize] += 1;
+    }
 }

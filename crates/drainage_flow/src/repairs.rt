@@ -10,15 +10,14 @@ ghost use Rattle.layer_tiles.specs.Changes.{ChangeState};
 ghost use Rattle.layer_tiles.specs.Tallies.{RisesBy};
 ghost use Rattle.layer_tiles.specs.ChangeFacts.{HoldsNoUnchanged};
 ghost use Rattle.tile_work.specs.Working.{before_of, IsPatchTo};
-ghost use Rattle.drainage_flow.specs.Bands.{AreDowns};
+ghost use Rattle.drainage_flow.specs.FlowBands.{AreFlowBands};
 ghost use Rattle.drainage_flow.specs.Operands.{HasCells};
 ghost use Rattle.drainage_flow.specs.Mending.{now_at};
 ghost use Rattle.drainage_flow.specs.Settling.{number_at};
 ghost use Rattle.drainage_flow.specs.Showing.{shown_at, changes, changed_count, ArePlaced};
 ghost use Rattle.drainage_flow.specs.Repairs.{flow_damage, flow_work, IsFlowBefore, IsFlowRepair, IsFlowRefusal};
 
-use crate::bands::downs_between;
-use crate::first::all_flows;
+use crate::pools::{FlowBand, flow_of_band, flows_of_bands};
 use crate::ranges::overflow;
 use crate::repair::mend;
 use crate::showing::{show_flows, show_grounds};
@@ -62,25 +61,25 @@ pub fn flow_repair<M: Tally>(
     }
 }
 
-/// The flow of a map that had none, from all cells of its surface and of its weights and the places that they drain to.
+/// The flow of a map that had none, from that within its bands, top to bottom.
 ///
 /// # Errors
 ///
 /// `Overflow` at the least cell whose flow is out of range, exactly where there is one; `NoMemory`.
-pub fn flow_along(
+pub fn flow_of_bands(
     alloc: Global,
     extent: Extent,
     surface: &[Cell],
     weights: &[Cell],
-    downs: Vec<Option<u32>>,
+    bands: &[FlowBand],
 ) -> Result<Repair, KernelRefusal>
     requires surface { length surface.now ≡ cells_in extent }
     requires weights { length weights.now ≡ cells_in extent }
-    requires downs { AreDowns extent surface.now 0 (cells_in extent) downs.items }
+    requires bands { AreFlowBands extent surface.now weights.now 0 (cells_in extent) bands.now }
     ensures repair { (s w : ChangeState) → HasCells extent surface.now s → HasCells extent weights.now w → IfOk result (λ r. IsFlowRepair s w None r.patch r.worked) }
     ensures refusal { (s w : ChangeState) → HasCells extent surface.now s → HasCells extent weights.now w → IfErr result (IsFlowRefusal s w) }
 {
-    let Ok(flows) = all_flows(alloc, extent, surface, weights, downs) else {
+    let Ok(flows) = flows_of_bands(alloc, extent, surface, weights, bands) else {
         return Err(KernelRefusal::NoMemory);
     };
     if let Some(at) = first_wide(&flows) {
@@ -115,10 +114,10 @@ fn first_flow<M: Tally>(
     let Ok(loads) = cells_of(alloc, weights, tally) else {
         return Err(KernelRefusal::NoMemory);
     };
-    let Ok(downs) = downs_between(alloc, extent, &heights, 0, extent.rows()) else {
+    let Ok(band) = flow_of_band(alloc, extent, &heights, &loads, 0, extent.rows()) else {
         return Err(KernelRefusal::NoMemory);
     };
-    flow_along(alloc, extent, &heights, &loads, downs)
+    flow_of_bands(alloc, extent, &heights, &loads, &[band])
 }
 
 /// The flow after an edit, from the flow before it.

@@ -2,7 +2,7 @@
 use Rattle.std.proofs.Common.{◌≡◌, ◌+◌, ◌-◌, ℕ, true, false, cond, List, length, refl, ap, ◌∙◌, arith}
 use Rattle.std.specs.Prelude.{nat_le}
 use Rattle.std.proofs.lemmas.Bool.{le-leb}
-use Rattle.layer_tiles.specs.Tallies.{TallyState, KeepsParts}
+use Rattle.layer_tiles.specs.Tallies.{TallyState, KeepsParts, RisesBy}
 use Rattle.map_edits.specs.Allowances.{Reads}
 use Rattle.map_edits.specs.CountLaws.{IsWithin}
 use Rattle.map_machine.specs.SessionReads.{together, and_then}
@@ -14,6 +14,15 @@ rises_nothing r t = record { looks_rise = omega arith; picks_rise = omega arith;
 
 pub rises_then : (r q : Reads) (a b c : TallyState) → Rises r a b → Rises q b c → Rises (together r q) a c
 rises_then r q a b c m n = record {
+  looks_rise = omega (arith, m.looks_rise, n.looks_rise);
+  picks_rise = omega (arith, m.picks_rise, n.picks_rise);
+  parts_out_stay = n.parts_out_stay ∙ m.parts_out_stay;
+  is_part_stays = n.is_part_stays ∙ m.is_part_stays;
+}
+
+-- what reads nothing, and then another
+pub rises_after : (r : Reads) (a b c : TallyState) → RisesBy 0 0 a b → Rises r b c → Rises r a c
+rises_after r a b c m n = record {
   looks_rise = omega (arith, m.looks_rise, n.looks_rise);
   picks_rise = omega (arith, m.picks_rise, n.picks_rise);
   parts_out_stay = n.parts_out_stay ∙ m.parts_out_stay;

@@ -1,7 +1,7 @@
 //! The sample: its grids are made in memory and loaded, and then its lines are answered.
 ghost use Rattle.std.specs.Prelude.{◌≡◌, ◌≤◌, ℕ, map, IfOk, IsTrue};
 ghost use Rattle.map_words.specs.Names.{is_plain};
-ghost use Rattle.layer_tiles.specs.Tallies.{KeepsParts};
+ghost use Rattle.layer_tiles.specs.Tallies.{KeepsParts, RisesBy};
 ghost use Rattle.map_machine.specs.Loads.{grid_load};
 ghost use Rattle.map_machine.specs.LoadReads.{grid_load_reads};
 ghost use Rattle.map_machine.specs.SampleGrids.{by_place, sample_grids};
@@ -32,13 +32,28 @@ use std::thread::Threads;
 use tile_workers::Gate;
 
 // Makes a grid, and its name.
-fn made_grid(alloc: Global, side: Side, grid: SampleGrid) -> Result<(Name, Layer), NoMemory>
+fn made_grid<M: Tally + Send, G: Gate + Sync, R: Threads + Sync>(
+    setup: &Setup<'_, G, R>,
+    side: Side,
+    grid: SampleGrid,
+    tally: &mut M,
+) -> Result<(Name, Layer), NoMemory>
+    requires whole { IsUndivided (M.counts tally.old) }
     ensures name { IfOk result (λ r. r.0 ≡ name_of grid) }
     ensures plain { IfOk result (λ r. IsTrue (is_plain r.0)) }
     ensures layer { IfOk result (λ r. record { size = r.1.size; cells = r.1.cells } ≡ by_place side.count (cell_in grid)) }
+    ensures tally { RisesBy 0 0 (M.counts tally.old) (M.counts tally.new) }
 {
-    let name = plain_name(alloc, grid.name())?;
-    let layer = sample_layer(alloc, side.count, grid)?;
+    let name = plain_name(setup.alloc, grid.name())?;
+    let layer = sample_layer(
+        setup.rt,
+        setup.alloc,
+        setup.workers.count,
+        setup.gate,
+        side.count,
+        grid,
+        tally,
+    )?;
     Ok((name, layer))
 }
 
@@ -58,7 +73,7 @@ fn load_grid<K: Sink, M: Tally + Send, G: Gate + Sync, R: Threads + Sync>(
         (record { held = K.held sink.old; faults = K.faults sink.old; tally = M.counts tally.old })
         (record { held = K.held sink.new; faults = K.faults sink.new; tally = M.counts tally.new }) result }
 {
-    let (name, layer) = made_grid(setup.alloc, side, grid)?;
+    let (name, layer) = made_grid(setup, side, grid, tally)?;
     let reply = session.load_layer(
         setup.rt,
         setup.alloc,

@@ -1,1 +1,3 @@
 mod LinePlaces
+mod RowByRow
+mod RowsOfTiles

@@ -1,13 +1,11 @@
 //! The sample's grids.
-ghost use Rattle.std.specs.Prelude.{◌≡◌, suc, ◌*◌, ◌<◌, ◌≤◌, IfOk, OnOk, IsTrue, map};
+ghost use Rattle.std.specs.Prelude.{◌≡◌, ℕ, ◌+◌, ◌<◌, ◌≤◌, IsTrue};
 ghost use Rattle.map_words.specs.Names.{is_plain};
-ghost use Rattle.map_machine.specs.SampleGrids.{by_place, sample_grids};
-ghost use Rattle.map_sample.specs.Grids.{cell_in, cells_to, name_of, named_grid};
+ghost use Rattle.map_nums.specs.Grids.{cell_at};
+ghost use Rattle.map_sample.specs.Grids.{cell_in, name_of};
 
 use crate::cells::{friction, height, start, zone};
-use layer_tiles::{Cell, Extent, Layer};
-use map_nums::NoMemory;
-use std::alloc::Global;
+use layer_tiles::Cell;
 
 /// One of the sample's grids.
 #[derive(Clone, Copy, Debug, PartialEq, Eq)]
@@ -40,60 +38,31 @@ impl SampleGrid {
         }
     }
 
-    // The cell in a row and a column.
-    fn cell(&self, r: u32, c: u32) -> Cell
-        requires rows { (1 ≤ r) × (r ≤ 1224) }
-        requires columns { (1 ≤ c) × (c ≤ 1224) }
-        ensures { result ≡ cell_in self.now r c }
+    /// The cells of a row, so many from a column on, which counts from 0.
+    pub(crate) fn put_row(&self, r: u32, left: u32, width: u32, cells: &mut [Cell; 32])
+        requires row { (1 ≤ r) × (r ≤ 1224) }
+        requires columns { left + width ≤ 1224 }
+        requires most { width ≤ 32 }
+        ensures { (c : ℕ) → c < width → cell_at cells.new c ≡ cell_in self.now r (left + c + 1) }
     {
         match self {
-            SampleGrid::Height => height(r, c),
-            SampleGrid::Friction => friction(r, c),
-            SampleGrid::Start => start(r, c),
-            SampleGrid::Zone => zone(r, c),
+            SampleGrid::Height => put_cells(left, width, cells, |c| height(r, c)),
+            SampleGrid::Friction => put_cells(left, width, cells, |c| friction(r, c)),
+            SampleGrid::Start => put_cells(left, width, cells, |c| start(r, c)),
+            SampleGrid::Zone => put_cells(left, width, cells, |c| zone(r, c)),
         }
     }
 }
 
-// One row more of a grid: row r + 1.
-fn push_row(cells: &mut Vec<Cell>, side: u32, grid: SampleGrid, r: u32) -> Result<(), NoMemory>
-    requires most { side ≤ 1224 }
-    requires row { r < side }
-    requires before { cells.old.items ≡ cells_to side grid (r * side) }
-    ensures { OnOk result (cells.new.items ≡ cells_to side grid (suc r * side)) }
+// The cells of a row, so many from a column on, each from its column, which counts from 1. The loop is of one grid, without a choice
+// in it.
+fn put_cells<F: Fn(u32) -> Cell>(left: u32, width: u32, cells: &mut [Cell; 32], cell: F)
+    requires columns { left + width ≤ 1224 }
+    requires most { width ≤ 32 }
+    requires cells { (c : ℕ) → c < width → F.pre cell (left + c + 1) }
+    ensures { (c : ℕ) → c < width → F.post cell (left + c + 1) (cell_at cells.new c) }
 {
-    for c in 0..side {
-        cells.push(grid.cell(r + 1, c + 1))?;
+    for c in 0..width {
+        cells[c as usize] = cell(left + c + 1);
     }
-    Ok(())
-}
-
-// The cells of a grid, row by row.
-fn sample_cells(alloc: Global, side: u32, grid: SampleGrid) -> Result<Vec<Cell>, NoMemory>
-    requires some { 1 ≤ side }
-    requires most { side ≤ 1224 }
-    ensures { IfOk result (λ cells. cells.items ≡ (by_place side (cell_in grid)).cells) }
-{
-    let mut cells = Vec::with_capacity(alloc, (side * side) as usize)?;
-    for r in 0..side {
-        push_row(&mut cells, side, grid, r)?;
-    }
-    Ok(cells)
-}
-
-/// A grid of the sample, of so many rows and columns.
-///
-/// # Errors
-///
-/// `NoMemory` where there is none for the cells.
-pub fn sample_layer(alloc: Global, side: u32, grid: SampleGrid) -> Result<Layer, NoMemory>
-    requires some { 1 ≤ side }
-    requires most { side ≤ 1224 }
-    ensures { IfOk result (λ l. record { size = l.size; cells = l.cells } ≡ by_place side (cell_in grid)) }
-{
-    let Some(extent) = Extent::new(side, side) else {
-        unreachable!()
-    };
-    let cells = sample_cells(alloc, side, grid)?;
-    Layer::of_cells(alloc, extent, cells, 0)
 }

@@ -1,27 +1,50 @@
--- Where all cells drain to, band by band.
-use Rattle.std.proofs.Common.{◌≡◌, ℕ, suc, ◌+◌, ◌-◌, ◌*◌, ◌<◌, List, [], ◌++◌, Option, sym, ap, subst, ◌∙◌, arith}
+-- The flow of all bands of rows.
+use Rattle.std.proofs.Common.{◌≡◌, ℕ, suc, ◌+◌, ◌-◌, ◌*◌, ◌<◌, List, [], ◌∷◌, length, Some, slice_get, refl, sym, ap, subst, ◌∙◌, arith}
 use Rattle.map_nums.specs.Grids.{Size, Cells, cells_in}
-use Rattle.drainage_flow.specs.Bands.{AreDowns}
-use Rattle.drainage_flow.proofs.Downs.{downs_join, downs_none}
+use Rattle.drainage_flow.specs.FlowBands.{IsFlowBand, AreFlowBands}
+use Rattle.drainage_flow.specs.declared.pools.FlowBand.{FlowBand}
+use Rattle.op_jobs.specs.Fresh.{IsFlows}
 use Rattle.op_jobs.specs.Parts.{part_start}
+use Rattle.op_jobs.specs.declared.ground.Part.{Part}
+use Rattle.op_jobs.specs.declared.ground.Part.TheVariants.{Flows}
 use Rattle.op_jobs.proofs.Starts.{part_first, part_last, part_rises}
 
--- the first k bands of n
-abbrev pub AreDownsTo : Size → Cells → ℕ → ℕ → List (Option ℕ) → Type 0
-AreDownsTo s surface n k downs = AreDowns s surface 0 (part_start s.rows n k * s.columns) downs
+module _ (s : Size) (surface weights : Cells) (n : ℕ) (some : 0 < n) where
+  abbrev start : ℕ → ℕ
+  start k = part_start s.rows n k * s.columns
 
-module _ (s : Size) (surface : Cells) (n : ℕ) (some : 0 < n) where
-  pub downs_begin : AreDownsTo s surface n 0 []
-  downs_begin = let none : 0 * s.columns ≡ 0 = omega arith in let e : part_start s.rows n 0 * s.columns ≡ 0 = ap (λ m. m * s.columns) (part_first s.rows n some) ∙ none in subst (λ m. AreDowns s surface 0 m []) (sym e) (downs_none s surface 0)
+  abbrev IsBandAt : ℕ → FlowBand → Type 0
+  IsBandAt k b = IsFlowBand s surface weights (start k) ((part_start s.rows n (suc k) - part_start s.rows n k) * s.columns) b
 
-  pub downs_more : (k : ℕ) (downs : List (Option ℕ)) (list : List (Option ℕ)) → AreDownsTo s surface n k downs → AreDowns s surface (part_start s.rows n k * s.columns) ((part_start s.rows n (suc k) - part_start s.rows n k) * s.columns) list → AreDownsTo s surface n (suc k) (downs ++ list)
-  downs_more k downs list so_far next =
+  next_start : (k : ℕ) → start k + (part_start s.rows n (suc k) - part_start s.rows n k) * s.columns ≡ start (suc k)
+  next_start k =
       let a = part_start s.rows n k in
       let b = part_start s.rows n (suc k) in
-      let up = part_rises s.rows n 0 k some (omega arith) in
-      let whole : a + (b - a) ≡ b = omega (arith, up) in
-      let e : a * s.columns + (b - a) * s.columns ≡ b * s.columns = omega arith ∙ ap (λ m. m * s.columns) whole in
-      subst (λ m. AreDowns s surface 0 m (downs ++ list)) e (downs_join s surface 0 (a * s.columns) ((b - a) * s.columns) downs list so_far (subst (λ at. AreDowns s surface at ((b - a) * s.columns) list) (omega arith) next))
+      let whole : a + (b - a) ≡ b = omega (arith, part_rises s.rows n 0 k some (omega arith)) in
+      omega arith ∙ ap (λ m. m * s.columns) whole
 
-  pub downs_end : (downs : List (Option ℕ)) → AreDownsTo s surface n n downs → AreDowns s surface 0 (cells_in s) downs
-  downs_end downs all = let e : part_start s.rows n n * s.columns ≡ cells_in s = ap (λ m. m * s.columns) (part_last s.rows n some) in subst (λ m. AreDowns s surface 0 m downs) e all
+  bands_from : (bs : List FlowBand) (k : ℕ) → k + length bs ≡ n → ((j : ℕ) (b : FlowBand) → slice_get bs j ≡ Some b → IsBandAt (k + j) b) → AreFlowBands s surface weights (start k) (cells_in s) bs
+  bands_from [] k end each = let all : k ≡ n = omega (arith, end) in ap start all ∙ ap (λ m. m * s.columns) (part_last s.rows n some)
+  bands_from (b ∷ bs) k end each =
+      let here : k + 0 ≡ k = omega arith in
+      let is : IsBandAt k b = subst (λ j. IsBandAt j b) here (each 0 b refl) in
+      let count = is.downs_count in
+      let past : start (suc k) ≡ start k + length b.downs.items = sym (next_start k) ∙ ap (λ m. start k + m) (sym count) in (
+        subst (λ m. IsFlowBand s surface weights (start k) m b) (sym count) is,
+        subst (λ m. AreFlowBands s surface weights m (cells_in s) bs) past
+            (bands_from bs (suc k) (omega (arith, end)) (λ j d e. let next : k + suc j ≡ suc k + j = omega arith in subst (λ i. IsBandAt i d) next (each (suc j) d e))),
+      )
+
+  bands_all : (bs : List FlowBand) → length bs ≡ n → ((k : ℕ) (b : FlowBand) → slice_get bs k ≡ Some b → IsFlows s surface weights n k (Flows b)) → AreFlowBands s surface weights 0 (cells_in s) bs
+  bands_all bs all each =
+      let first : start 0 ≡ 0 = (let none : 0 * s.columns ≡ 0 = omega arith in ap (λ m. m * s.columns) (part_first s.rows n some) ∙ none) in
+      subst (λ at. AreFlowBands s surface weights at (cells_in s) bs) first
+      (bands_from bs 0 (omega (arith, all)) (λ k b e. let here : k ≡ 0 + k = omega arith in subst (λ i. IsBandAt i b) here (each k b e)))
+
+-- of the parts that were found
+pub bands_are : (s : Size) (one one' other other' : Cells) (bs bs' : List FlowBand) (parts : List Part) → one' ≡ one → other' ≡ other → bs' ≡ bs → 0 < length parts → length bs ≡ length parts → ((k : ℕ) (b : FlowBand) → slice_get bs k ≡ Some b → slice_get parts k ≡ Some (Flows b))
+    → ((k : ℕ) (p : Part) → slice_get parts k ≡ Some p → IsFlows s one other (length parts) k p) → AreFlowBands s one' other' 0 (cells_in s) bs'
+bands_are s one one' other other' bs bs' parts e f b some all from each =
+    let is = bands_all s one other (length parts) some bs all (λ k x h. each k (Flows x) (from k x h)) in
+    subst (λ (xs : List FlowBand). AreFlowBands s one' other' 0 (cells_in s) xs) (sym b)
+    (subst (λ (xs : Cells). AreFlowBands s one' xs 0 (cells_in s) bs) (sym f) (subst (λ (xs : Cells). AreFlowBands s xs other 0 (cells_in s) bs) (sym e) is))

@@ -20,7 +20,7 @@ use Rattle.drainage_flow.specs.Operands.{HasCells}
 use Rattle.drainage_flow.specs.Repairs.{IsFlowRepair}
 use Rattle.map_waves.specs.Operands.{IsOperand}
 use Rattle.map_waves.specs.Statements.{damage_by}
-use Rattle.op_jobs.specs.Fresh.{is_banded, AreBothCells, IsCosts, IsDowns, IsBand, IsPart, grounding}
+use Rattle.op_jobs.specs.Fresh.{is_banded, AreBothCells, IsCosts, IsFlows, IsBand, IsPart, grounding}
 use Rattle.op_jobs.specs.Owning.{IsMadeFresh}
 use Rattle.op_jobs.specs.Pieces.{IsWholeMade}
 use Rattle.op_jobs.specs.Ranges.{HasRanges}
@@ -113,10 +113,10 @@ module _ (s : Size) (op : Op) (operands : List ChangeState) (one other : Cells) 
       let there = subst (λ (o : Op). IsBand o s (operand (cells_after operands) 0) (operand (cells_after operands) 1) n k p) is h in
       subst (λ (xs : Cells). IsCosts (ground_of s xs other limit) n k p) (sym e) (subst (λ (xs : Cells). IsCosts (ground_of s (operand (cells_after operands) 0) xs limit) n k p) (sym f) there)
 
-  pub downs_part : op ≡ flow_op t u → IsPart s op operands n k p → IsDowns s one n k p
-  downs_part is h =
+  pub flows_part : op ≡ flow_op t u → IsPart s op operands n k p → IsFlows s one other n k p
+  flows_part is h =
       let there = subst (λ (o : Op). IsBand o s (operand (cells_after operands) 0) (operand (cells_after operands) 1) n k p) is h in
-      subst (λ (xs : Cells). IsDowns s xs n k p) (sym e) there
+      subst (λ (xs : Cells). IsFlows s xs other n k p) (sym e) (subst (λ (xs : Cells). IsFlows s (operand (cells_after operands) 0) xs n k p) (sym f) there)
 
 pub made_as : (s : Size) (op o : Op) (operands : List ChangeState) (patch : PatchState) (n : ℕ) → op ≡ o → IsTrue (has_work o) → IsWholeMade s o None operands patch n → IsMadeFresh s op operands None patch n
 made_as s op o operands patch n e works made = record {

@@ -17,20 +17,21 @@ use Rattle.layer_tiles.proofs.Rising.{rises_then, rises_within}
 use Rattle.zonal_totals.specs.Ranges.{CountsState, AreTileCounts, AreRanges}
 use Rattle.friction_spread.specs.Costs.{GroundState}
 use Rattle.friction_spread.specs.declared.bands.CostBand.{CostBand}
+use Rattle.drainage_flow.specs.declared.pools.FlowBand.{FlowBand}
 use Rattle.map_waves.specs.Found.{AreFound}
 use Rattle.map_waves.specs.Operands.{IsOperand}
 use Rattle.map_waves.specs.Keeping.{kept_now, was_of}
 use Rattle.map_waves.specs.declared.keeping.Kept.{Kept}
 use Rattle.map_waves.proofs.Totals.{sum_next}
 use Rattle.op_jobs.specs.Classes.{is_zonal}
-use Rattle.op_jobs.specs.Fresh.{is_banded, AreBothCells, IsCosts, IsDowns, IsCounts, AreAllCounts, IsGrounded, IsBand, IsPart, grounding, finding}
+use Rattle.op_jobs.specs.Fresh.{is_banded, AreBothCells, IsCosts, IsFlows, IsCounts, AreAllCounts, IsGrounded, IsBand, IsPart, grounding, finding}
 use Rattle.op_jobs.specs.Parts.{part_start}
 use Rattle.op_jobs.specs.declared.beside.Beside.{Beside}
 use Rattle.op_jobs.specs.declared.ground.BothCells.{BothCells}
 use Rattle.op_jobs.specs.declared.ground.Ground.{Ground}
 use Rattle.op_jobs.specs.declared.ground.Ground.TheVariants as a_ground
 use Rattle.op_jobs.specs.declared.ground.Part.{Part}
-use Rattle.op_jobs.specs.declared.ground.Part.TheVariants.{Costs, Downs, Counts}
+use Rattle.op_jobs.specs.declared.ground.Part.TheVariants.{Costs, Flows, Counts}
 use Rattle.op_jobs.proofs.Starts.{part_first, part_last, part_rises}
 use Rattle.op_jobs.proofs.ZonalBook.{values_are, zones_are, second_in}
 
@@ -139,17 +140,17 @@ found_cells s op operands ground cells parts is found = record {
 
 pub only_costs : (g : GroundState) (n k : ℕ) (p : Part) → ((b : CostBand) → p ≡ Costs b → ⊥) → IsCosts g n k p → ⊥
 only_costs g n k (Costs b) other is = other b refl
-only_costs g n k (Downs d) other is = is
+only_costs g n k (Flows b) other is = is
 only_costs g n k (Counts c) other is = is
 
-pub only_downs : (s : Size) (surface : Cells) (n k : ℕ) (p : Part) → ((d : Vec (Option ℕ) Global) → p ≡ Downs d → ⊥) → IsDowns s surface n k p → ⊥
-only_downs s surface n k (Costs b) other is = is
-only_downs s surface n k (Downs d) other is = other d refl
-only_downs s surface n k (Counts c) other is = is
+pub only_flows : (s : Size) (surface weights : Cells) (n k : ℕ) (p : Part) → ((b : FlowBand) → p ≡ Flows b → ⊥) → IsFlows s surface weights n k p → ⊥
+only_flows s surface weights n k (Costs b) other is = is
+only_flows s surface weights n k (Flows b) other is = other b refl
+only_flows s surface weights n k (Counts c) other is = is
 
 pub only_counts : (s : Size) (values zones : Cells) (n k : ℕ) (p : Part) → ((c : CountsState) → p ≡ Counts c → ⊥) → IsCounts s values zones n k p → ⊥
 only_counts s values zones n k (Costs b) other is = is
-only_counts s values zones n k (Downs d) other is = is
+only_counts s values zones n k (Flows b) other is = is
 only_counts s values zones n k (Counts c) other is = other c refl
 
 -- ---- the book of them

@@ -9,7 +9,7 @@ use Rattle.layer_tiles.specs.Changes.{ChangeState}
 use Rattle.layer_tiles.specs.Operands.{cells_after}
 use Rattle.friction_spread.specs.Costs.{GroundState}
 use Rattle.friction_spread.specs.Bands.{ground_of, IsCostBand}
-use Rattle.drainage_flow.specs.Bands.{AreDowns}
+use Rattle.drainage_flow.specs.FlowBands.{IsFlowBand}
 use Rattle.zonal_totals.specs.Ranges.{AreTileCounts}
 use Rattle.map_waves.specs.Operands.{IsOperand}
 use Rattle.op_jobs.specs.Classes.{is_zonal}
@@ -19,7 +19,7 @@ use Rattle.op_jobs.specs.declared.ground.BothCells.{BothCells}
 use Rattle.op_jobs.specs.declared.ground.Ground.{Ground}
 use Rattle.op_jobs.specs.declared.ground.Ground.TheVariants as a_ground
 use Rattle.op_jobs.specs.declared.ground.Part.{Part}
-use Rattle.op_jobs.specs.declared.ground.Part.TheVariants.{Costs, Downs, Counts}
+use Rattle.op_jobs.specs.declared.ground.Part.TheVariants.{Costs, Flows, Counts}
 
 -- workers make its layer in bands where it was not there
 abbrev pub is_banded : Op → Bool
@@ -63,17 +63,17 @@ finding s op operands n k = if is_banded op then 0 else 2 * (part_start (tiles_i
 
 abbrev pub IsCosts : GroundState → ℕ → ℕ → Part → Type 0
 IsCosts g n k (Costs band) = IsCostBand g (part_start g.size.rows n k) (part_start g.size.rows n (suc k)) band
-IsCosts g n k (Downs downs) = ⊥
+IsCosts g n k (Flows band) = ⊥
 IsCosts g n k (Counts counts) = ⊥
 
-abbrev pub IsDowns : Size → Cells → ℕ → ℕ → Part → Type 0
-IsDowns s surface n k (Costs band) = ⊥
-IsDowns s surface n k (Counts counts) = ⊥
-IsDowns s surface n k (Downs downs) = AreDowns s surface (part_start s.rows n k * s.columns) ((part_start s.rows n (suc k) - part_start s.rows n k) * s.columns) downs.items
+abbrev pub IsFlows : Size → Cells → Cells → ℕ → ℕ → Part → Type 0
+IsFlows s surface weights n k (Costs band) = ⊥
+IsFlows s surface weights n k (Counts counts) = ⊥
+IsFlows s surface weights n k (Flows band) = IsFlowBand s surface weights (part_start s.rows n k * s.columns) ((part_start s.rows n (suc k) - part_start s.rows n k) * s.columns) band
 
 abbrev pub IsCounts : Size → Cells → Cells → ℕ → ℕ → Part → Type 0
 IsCounts s values zones n k (Costs band) = ⊥
-IsCounts s values zones n k (Downs downs) = ⊥
+IsCounts s values zones n k (Flows band) = ⊥
 IsCounts s values zones n k (Counts counts) = AreTileCounts s values zones (part_start (tiles_in s) n k) (part_start (tiles_in s) n (suc k)) counts
 
 -- all parts of a zonal statement's tiles
@@ -83,7 +83,7 @@ pub record AreAllCounts (s : Size) (values zones : Cells) (parts : List Part) : 
 
 abbrev pub IsBand : Op → Size → Cells → Cells → ℕ → ℕ → Part → Type 0
 IsBand (spread_op limit t u) s sources friction n k part = IsCosts (ground_of s sources friction limit) n k part
-IsBand (flow_op t u) s surface weights n k part = IsDowns s surface n k part
+IsBand (flow_op t u) s surface weights n k part = IsFlows s surface weights n k part
 IsBand (zonal_op stat t u) s values zones n k part = IsCounts s values zones n k part
 IsBand op s first second n k part = ⊥
 

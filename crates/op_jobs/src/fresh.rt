@@ -12,14 +12,14 @@ ghost use Rattle.layer_tiles.specs.Tallies.{RisesBy};
 ghost use Rattle.statement_parser.specs.Views.{op_view};
 ghost use Rattle.map_waves.specs.Found.{AreFound};
 ghost use Rattle.map_waves.specs.Operands.{IsOperand};
-ghost use Rattle.op_jobs.specs.Fresh.{is_banded, AreBothCells, IsGrounded, IsCosts, IsDowns, IsPart};
+ghost use Rattle.op_jobs.specs.Fresh.{is_banded, AreBothCells, IsGrounded, IsCosts, IsFlows, IsPart};
 ghost use Rattle.op_jobs.specs.Owning.{IsMadeFresh};
 ghost use Rattle.op_jobs.specs.Pieces.{IsWholeMade};
 ghost use Rattle.op_jobs.specs.Ranges.{HasRanges};
 ghost use Rattle.op_jobs.specs.declared.ground.Part.{Part};
 ghost use Rattle.friction_spread.specs.Bands.{ground_of};
 
-use crate::flow_bands::{find_downs, flow_by};
+use crate::flow_bands::{find_flows, flow_by};
 use crate::ground::{BothCells, Ground, Part};
 use crate::spread_bands::{find_costs, spread_by};
 use crate::whole::both_of;
@@ -101,8 +101,8 @@ pub(crate) fn find_band(
             Ok(Part::Costs(band))
         }
         Op::Flow { .. } => {
-            let downs = find_downs(alloc, extent, ground, parts, k)?;
-            Ok(Part::Downs(downs))
+            let band = find_flows(alloc, extent, ground, parts, k)?;
+            Ok(Part::Flows(band))
         }
         _ => unreachable!(),
     }
@@ -149,7 +149,7 @@ fn fresh_flow(
     requires first_count { length ground.now.first.items ≡ cells_in extent }
     requires second_count { length ground.now.second.items ≡ cells_in extent }
     requires some { 0 < length parts.items }
-    requires each { (k : ℕ) (p : Part) → slice_get parts.items k ≡ Some p → IsDowns extent ground.now.first.items (length parts.items) k p }
+    requires each { (k : ℕ) (p : Part) → slice_get parts.items k ≡ Some p → IsFlows extent ground.now.first.items ground.now.second.items (length parts.items) k p }
     ensures { IfOk result (λ found. IfSome found (λ r. (t u : Term) → IsWholeMade extent (flow_op t u) None operands.now r.0 r.1)) }
 {
     let _extent = extent.tiles();

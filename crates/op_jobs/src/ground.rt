@@ -1,5 +1,6 @@
 //! What workers find parts of a layer that was not there from, and what they find.
 
+use drainage_flow::FlowBand;
 use friction_spread::CostBand;
 use layer_tiles::Cell;
 use zonal_totals::TileCounts;
@@ -25,8 +26,8 @@ pub enum Ground {
 pub enum Part {
     /// The least costs of a band of rows by paths that stay in it.
     Costs(CostBand),
-    /// The places to which the cells of a band of rows drain.
-    Downs(Vec<Option<u32>>),
+    /// The flow of a band of rows, as far as it comes from these.
+    Flows(FlowBand),
     /// How often each value and each tile occurs in each zone, in some tiles.
     Counts(TileCounts),
 }

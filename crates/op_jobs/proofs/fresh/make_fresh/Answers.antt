@@ -1,6 +1,6 @@
 use Rattle.std.proofs.Common.{length, refl, ap}
 use Rattle.statement_parser.specs.Views.{op_view}
-use Rattle.op_jobs.proofs.FreshOps.{costs_part, downs_part, made_as}
+use Rattle.op_jobs.proofs.FreshOps.{costs_part, flows_part, made_as}
 use Rattle.op_jobs.proofs.WholeOps.{limit_is}
 use Rattle.op_jobs.proofs.fresh.make_fresh.Goals as goal
 
@@ -13,7 +13,7 @@ fresh_spread-requires-clause-each c = λ k p e.
 pub fresh_flow-requires-clause-each : goal.fresh_flow-requires-clause-each
 fresh_flow-requires-clause-each c = λ k p e.
     let from = c.requires.found.from in
-    downs_part c.args.extent (op_view c.args.op.now) c.args.operands.now c.args.ground.now.first.items c.args.ground.now.second.items _ _ from.first from.second (length c.args.parts.items) k p (ap op_view c.in-Flow.is) (c.requires.found.each k p e)
+    flows_part c.args.extent (op_view c.args.op.now) c.args.operands.now c.args.ground.now.first.items c.args.ground.now.second.items _ _ from.first from.second (length c.args.parts.items) k p (ap op_view c.in-Flow.is) (c.requires.found.each k p e)
 
 pub returns-in_ok-made-in-Spread : goal.returns-in_ok-made-in-Spread
 returns-in_ok-made-in-Spread c =

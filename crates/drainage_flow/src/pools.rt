@@ -1,0 +1,141 @@
+//! The flow within bands of rows, and that of the map from it.
+//!
+//! The flow of a band is as far as it comes from its own rows. So the bands, one after another, are places of which some have passed
+//! on what they have, and those that drain to another band's rows are ready to.
+ghost use Rattle.std.specs.Prelude.{◌≡◌, ℕ, pos, ◌+◌, ◌-◌, ◌*◌, ◌<◌, ◌≤◌, length, IfOk};
+ghost use Rattle.map_nums.specs.Grids.{cells_in};
+ghost use Rattle.drainage_flow.specs.Nets.{inflow};
+ghost use Rattle.drainage_flow.specs.FlowNets.{net_of};
+ghost use Rattle.drainage_flow.specs.Pouring.{wait_in};
+ghost use Rattle.drainage_flow.specs.Bands.{AreDowns};
+ghost use Rattle.drainage_flow.specs.First.{AreFlows};
+ghost use Rattle.drainage_flow.specs.FlowBands.{IsFlowBand, AreFlowBands, all_downs, all_waits, all_flows};
+
+use crate::bands::downs_between;
+use crate::first::brought_by;
+use crate::pouring::{add_waits, run_all};
+use layer_tiles::{Cell, Extent};
+use map_nums::NoMemory;
+use std::alloc::Global;
+
+/// The flow within some rows of a map, as far as it comes from these rows: where each place drains to, how many places it waits for,
+/// and what it has. A place that drains to another row waits for none once all has come to it.
+#[derive(Drop)]
+pub struct FlowBand {
+    downs: Vec<Option<u32>>,
+    waits: Vec<u32>,
+    flows: Vec<i64>,
+}
+
+/// The flow within the rows `first` to before `end` of a map, whose surface and weights are given whole.
+///
+/// # Errors
+///
+/// `NoMemory` alone.
+pub fn flow_of_band(
+    alloc: Global,
+    extent: Extent,
+    surface: &[Cell],
+    weights: &[Cell],
+    first: u32,
+    end: u32,
+) -> Result<FlowBand, NoMemory>
+    requires surface { length surface.now ≡ cells_in extent }
+    requires weights { length weights.now ≡ cells_in extent }
+    requires rows { first ≤ end }
+    requires within { end ≤ extent.rows }
+    ensures { IfOk result (IsFlowBand extent surface.now weights.now (first * extent.columns) ((end - first) * extent.columns)) }
+{
+    let columns = extent.columns();
+    let (start, past) = (first * columns, end * columns);
+    let here = &surface[start as usize..past as usize];
+    let loads = &weights[start as usize..past as usize];
+    let mut flows = brought_by(alloc, here, loads)?;
+    let mut downs = downs_between(alloc, extent, surface, first, end)?;
+    let mut waits = waits_of(alloc, extent, surface, first, end, &downs)?;
+    run_all(&mut downs, &mut waits, &mut flows, start);
+    Ok(FlowBand {
+        downs,
+        waits,
+        flows,
+    })
+}
+
+/// How many places drain to each place of some rows, of which `downs` tells where they drain to: they lie in these rows and in those
+/// beside them.
+fn waits_of(
+    alloc: Global,
+    extent: Extent,
+    surface: &[Cell],
+    first: u32,
+    end: u32,
+    downs: &[Option<u32>],
+) -> Result<Vec<u32>, NoMemory>
+    requires surface { length surface.now ≡ cells_in extent }
+    requires rows { first ≤ end }
+    requires within { end ≤ extent.rows }
+    requires downs { AreDowns extent surface.now (first * extent.columns) ((end - first) * extent.columns) downs.now }
+    ensures count { IfOk result (λ waits. length waits.items ≡ length downs.now) }
+    ensures waits { IfOk result (λ waits. (k : ℕ) → k < length downs.now → pos (wait_in waits.items k) ≡ inflow (net_of extent surface.now surface.now) (λ d. pos 1) (first * extent.columns + k)) }
+{
+    let start = first * extent.columns();
+    let last = extent.rows().min(end + 1);
+    let above = downs_between(alloc, extent, surface, first.saturating_sub(1), first)?;
+    let below = downs_between(alloc, extent, surface, end, last)?;
+    let mut waits = no_waits(alloc, downs.len())?;
+    add_waits(&mut waits, start, &above);
+    add_waits(&mut waits, start, downs);
+    add_waits(&mut waits, start, &below);
+    Ok(waits)
+}
+
+/// No place waits yet.
+fn no_waits(alloc: Global, count: usize) -> Result<Vec<u32>, NoMemory>
+    ensures count { IfOk result (λ waits. length waits.items ≡ count) }
+    ensures none { IfOk result (λ waits. (k : ℕ) → k < length waits.items → wait_in waits.items k ≡ 0) }
+{
+    Ok(vec![in alloc; 0; count]?)
+}
+
+/// All bands in one.
+fn joined(alloc: Global, extent: Extent, bands: &[FlowBand]) -> Result<FlowBand, NoMemory>
+    ensures downs { IfOk result (λ all. all.downs.items ≡ all_downs bands.now) }
+    ensures waits { IfOk result (λ all. all.waits.items ≡ all_waits bands.now) }
+    ensures flows { IfOk result (λ all. all.flows.items ≡ all_flows bands.now) }
+{
+    let count = extent.cells() as usize;
+    let mut downs = Vec::with_capacity(alloc, count)?;
+    let mut waits = Vec::with_capacity(alloc, count)?;
+    let mut flows = Vec::with_capacity(alloc, count)?;
+    for band in bands {
+        downs.extend_from_slice(&band.downs)?;
+        waits.extend_from_slice(&band.waits)?;
+        flows.extend_from_slice(&band.flows)?;
+    }
+    Ok(FlowBand {
+        downs,
+        waits,
+        flows,
+    })
+}
+
+/// The flow at each place of a map, 0 where it is null, from that of its bands, one after another.
+pub(crate) fn flows_of_bands(
+    alloc: Global,
+    extent: Extent,
+    _surface: &[Cell],
+    _weights: &[Cell],
+    bands: &[FlowBand],
+) -> Result<Vec<i64>, NoMemory>
+    requires bands { AreFlowBands extent _surface.now _weights.now 0 (cells_in extent) bands.now }
+    ensures { IfOk result (λ flows. AreFlows extent _surface.now _weights.now flows.items) }
+{
+    let _cells = extent.cells();
+    let FlowBand {
+        mut downs,
+        mut waits,
+        mut flows,
+    } = joined(alloc, extent, bands)?;
+    run_all(&mut downs, &mut waits, &mut flows, 0);
+    Ok(flows)
+}

@@ -1,0 +1,52 @@
+//! The layers of the sample's grids.
+ghost use Rattle.std.specs.Prelude.{◌≡◌, ◌<◌, ◌≤◌, false, IfOk};
+ghost use Rattle.layer_tiles.specs.Tallies.{RisesBy};
+ghost use Rattle.map_machine.specs.SampleGrids.{by_place};
+ghost use Rattle.map_sample.specs.Grids.{cell_in};
+
+use crate::grids::SampleGrid;
+use crate::tile_rows::TileRows;
+use layer_tiles::{Extent, Layer, Tally};
+use map_nums::NoMemory;
+use std::alloc::Global;
+use std::thread::Threads;
+use tile_workers::{Gate, run_phase};
+
+/// The start of a thread takes as long as so many cells.
+const CELLS_FOR_A_WORKER: u32 = 100_000;
+
+/// A grid of the sample, of so many rows and columns, by at most so many workers, of which there are 1 to 64. It counts no look
+/// and no pick.
+///
+/// # Errors
+///
+/// `NoMemory` where there is none for the cells, or for what the workers share.
+pub fn sample_layer<M: Tally + Send, G: Gate + Sync, R: Threads + Sync>(
+    rt: &R,
+    alloc: Global,
+    workers: u32,
+    gate: &G,
+    side: u32,
+    grid: SampleGrid,
+    tally: &mut M,
+) -> Result<Layer, NoMemory>
+    requires some { 1 ≤ side }
+    requires most { side ≤ 1224 }
+    requires workers { (0 < workers) × (workers ≤ 64) }
+    requires whole { 1 < workers → ((M.counts tally.old).is_part ≡ false) × ((M.counts tally.old).parts_out ≡ 0) }
+    ensures layer { IfOk result (λ l. record { size = l.size; cells = l.cells } ≡ by_place side (cell_in grid)) }
+    ensures tally { RisesBy 0 0 (M.counts tally.old) (M.counts tally.new) }
+{
+    let Some(extent) = Extent::new(side, side) else {
+        unreachable!()
+    };
+    let work = TileRows {
+        alloc,
+        extent,
+        grid,
+    };
+    let jobs = u64::from(extent.tiles_down());
+    let hands = workers.min(1 + extent.cells() / CELLS_FOR_A_WORKER);
+    let rows = run_phase(rt, alloc, jobs, hands, gate, tally, &work)?;
+    work.layer(rows)
+}
