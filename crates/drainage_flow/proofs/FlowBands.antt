@@ -1,11 +1,11 @@
 -- The flow within bands, and that of the map from theirs.
-use Rattle.std.proofs.Common.{◌≡◌, ◌≢◌, min, ℕ, zero, suc, ◌+◌, ◌-◌, ◌*◌, ◌/◌, ◌<◌, ◌≤◌, Bool, true, false, cond, List, [], ◌∷◌, ◌++◌, length, get_or, drop, Option, Some, None, refl, sym, ◌∙◌, ap, subst, arith, inl, inr, append_assoc, ℤ, pos, ◌+ℤ◌}
+use Rattle.std.proofs.Common.{◌≡◌, ◌≢◌, min, ℕ, zero, suc, ◌+◌, ◌-◌, ◌*◌, ◌/◌, ◌<◌, ◌≤◌, Bool, true, false, cond, List, [], ◌∷◌, ◌++◌, length, get_or, take, drop, Option, Some, None, refl, sym, ◌∙◌, ap, subst, arith, inl, inr, append_assoc, ℤ, pos, ◌+ℤ◌}
 use Rattle.std.specs.Prelude.{◌⊎◌, slice_set, IfSome}
 use Rattle.std.specs.List.{flat_map}
 use Rattle.std.proofs.lemmas.Int.{ints}
 use Rattle.std.proofs.lemmas.Bool.{cases_lt}
 use Rattle.std.proofs.lemmas.Nat.{mul-le}
-use Rattle.std.proofs.lemmas.List.{get_or_append_left, get_or-append_right, get_or_default, get_or_past, get_or-set_same, get_or-set_other, length-append, length-set, append-nil, drop_more, drop_all}
+use Rattle.std.proofs.lemmas.List.{get_or_append_left, get_or-append_right, get_or_default, get_or_past, get_or-set_same, get_or-set_other, length-append, length-set, length-take, length-drop, append-nil, drop_more, drop_all}
 use Rattle.std.proofs.Math.Nat.{min-eq_left, min-eq_right}
 use Rattle.map_nums.specs.Grids.{Size, IsSize, Cells, cell_at, cells_in, row_of, column_of, moved}
 use Rattle.map_defs.specs.Drainage.{winner_at}
@@ -15,10 +15,11 @@ use Rattle.drainage_flow.specs.FlowNets.{number_of, brought, weight_at, net_of}
 use Rattle.drainage_flow.specs.Pouring.{down_in, flow_in, wait_in, laid, Places, IsPouring, ArePools, place_in, number_to, waited, AddsWaits}
 use Rattle.drainage_flow.specs.Steepest.{offset_at, IsStep}
 use Rattle.drainage_flow.specs.Bands.{AreDowns}
-use Rattle.drainage_flow.specs.First.{AreFlows}
-use Rattle.drainage_flow.specs.FlowBands.{AreBegun, ArePouring, in_place, IsSmall, IsFlowBand, AreFlowBands, all_downs, all_waits, all_flows}
-use Rattle.drainage_flow.specs.declared.pools.FlowBand.{FlowBand}
+use Rattle.drainage_flow.specs.First.{AreBrought, AreFlows}
+use Rattle.drainage_flow.specs.FlowBands.{AreBegun, ArePouring, in_place, IsSmall, IsFlowBand, AreFlowBands, AreEven, all_downs, all_waits, all_flows}
+use Rattle.drainage_flow.specs.declared.flow_band.FlowBand.{FlowBand}
 use Rattle.drainage_flow.proofs.Sums.{sum_same, sum_none}
+use Rattle.drainage_flow.proofs.Downs.{row_cell}
 use Rattle.drainage_flow.proofs.Places.{place_lines}
 use Rattle.drainage_flow.proofs.Steepest.{winner_few, downstream_none, downstream_some}
 use Rattle.drainage_flow.proofs.Mending.{same_or_not}
@@ -316,6 +317,40 @@ module _ (s : Size) (surface weights : Cells) (first n : ℕ) (downs : List (Opt
         pours = λ r p h. rw (ds, ws, fs) (run (net_of s surface weights) r n (pools_in s surface weights first n downs waits flows within a waits_count flows_count each_wait (net_of s surface weights) r refl refl brings p h)).pouring;
       }
 
+-- the lists of some rows
+pub record Made (s : Size) (surface weights : Cells) (at n : ℕ) (downs : List (Option ℕ)) (waits : List ℕ) (flows : List ℤ) : Type 0 where
+  pub within : at + n ≤ cells_in s
+  pub downs_are : AreDowns s surface at n downs
+  pub waits_count : length waits ≡ n
+  pub flows_count : length flows ≡ n
+  pub each_wait : (k : ℕ) → k < n → pos (wait_in waits k) ≡ inflow (net_of s surface surface) (λ d. pos 1) (at + k)
+  pub small : (k : ℕ) → k < n → IsSmall (flow_in flows k)
+  pub brings : (k : ℕ) → k < n → flow_in flows k ≡ weight_at surface weights (at + k)
+
+pub rows_made : (s : Size) (surface weights : Cells) (first end w : ℕ) (downs : List (Option ℕ)) (waits : List ℕ) (flows : List ℤ) → w ≡ s.columns → first ≤ end → end ≤ s.rows → length surface ≡ cells_in s → AreDowns s surface (first * s.columns) ((end - first) * s.columns) downs → length waits ≡ length downs → ((k : ℕ) → k < length downs → pos (wait_in waits k) ≡ inflow (net_of s surface surface) (λ d. pos 1) (first * s.columns + k))
+    → AreBrought (take (end * w - first * w) (drop (first * w) surface)) (take (end * w - first * w) (drop (first * w) weights)) (length (take (end * w - first * w) (drop (first * w) surface))) flows → Made s surface weights (first * s.columns) ((end - first) * s.columns) downs waits flows
+unfolding weight_at
+rows_made s surface weights first end w downs waits flows e rows within count d waits_count each_wait b =
+    let n = (end - first) * s.columns in
+    let start : first * w ≡ first * s.columns = ap (λ m. first * m) e in
+    let past : end * w ≡ end * s.columns = ap (λ m. end * m) e in
+    let parts : end * s.columns ≡ first * s.columns + n = rows_parts first (end - first) end s.columns (omega (arith, rows)) in
+    let most = mul-le end s.columns s.rows s.columns within (omega arith) in
+    let taken : length (take (end * w - first * w) (drop (first * w) surface)) ≡ n = simp (length-take, length-drop) (omega (arith, start, past, parts, most, count)) in
+    record {
+      within = omega (arith, parts, most);
+      downs_are = d;
+      waits_count = waits_count ∙ d.count;
+      flows_count = b.count ∙ taken;
+      each_wait = λ k l. each_wait k (omega (arith, l, d.count));
+      small = λ k l. (b.high k (omega (arith, l, taken)), b.low k (omega (arith, l, taken)));
+      brings = λ k l.
+          b.each k (omega (arith, l, taken))
+          ∙ ap (λ o. brought o (cell_at (take (end * w - first * w) (drop (first * w) weights)) k)) (row_cell surface (first * w) (end * w - first * w) k (omega (arith, l, start, past, parts)))
+          ∙ ap (brought (cell_at surface (first * w + k))) (row_cell weights (first * w) (end * w - first * w) k (omega (arith, l, start, past, parts)))
+          ∙ ap (λ a. brought (cell_at surface (a + k)) (cell_at weights (a + k))) start;
+    }
+
 -- ---- lists one after another
 
 pub lists_next : {B X : Type 0} (f : B → List X) (xs all : List X) (bs : List B) (k : ℕ) (b : B) → k < length bs → b ≡ get_or bs k b → xs ++ flat_map f (drop k bs) ≡ all → (xs ++ f b) ++ flat_map f (drop (k + 1) bs) ≡ all
@@ -345,6 +380,10 @@ module _ (s : Size) (surface weights : Cells) where
   pub bands_flows : (bs : List FlowBand) (first end : ℕ) → Bands first end bs → length (all_flows bs) ≡ length (all_downs bs)
   bands_flows [] first end h = refl
   bands_flows (b ∷ bs) first end h = omega (arith, length-append b.downs.items (all_downs bs), length-append b.flows.items (all_flows bs), h.0.flows_count, bands_flows bs (first + length b.downs.items) end h.1)
+
+  pub bands_even : (bs : List FlowBand) (first end : ℕ) → Bands first end bs → AreEven bs
+  bands_even [] first end h = tt
+  bands_even (b ∷ bs) first end h = (h.0.waits_count, h.0.flows_count, bands_even bs (first + length b.downs.items) end h.1)
 
   pub bands_small : (bs : List FlowBand) (first end : ℕ) → Bands first end bs → (c : ℕ) → first ≤ c → c < end → IsSmall (weight_at surface weights c)
   bands_small [] first end h c l m = absurd (omega (arith, h, l, m))

@@ -1,11 +1,11 @@
 -- The flow within bands of rows, which later pass on to one another.
-use Rattle.std.specs.Prelude.{◌≡◌, ◌*◌, ℕ, ◌+◌, ◌<◌, ◌≤◌, ℤ, pos, ◌+ℤ◌, ◌≤ℤ◌, List, [], ◌∷◌, length, Option, None}
+use Rattle.std.specs.Prelude.{◌≡◌, ◌*◌, ℕ, zero, suc, ◌+◌, ◌-◌, ◌<◌, ◌≤◌, ℤ, pos, ◌+ℤ◌, ◌≤ℤ◌, List, [], ◌∷◌, length, map, Option, None}
 use Rattle.std.specs.List.{flat_map}
 use Rattle.map_nums.specs.Grids.{Size, Cells}
 use Rattle.drainage_flow.specs.Nets.{Net, inflow}
 use Rattle.drainage_flow.specs.FlowNets.{net_of, weight_at}
 use Rattle.drainage_flow.specs.Pouring.{Places, IsPouring, laid}
-use Rattle.drainage_flow.specs.declared.pools.FlowBand.{FlowBand}
+use Rattle.drainage_flow.specs.declared.flow_band.FlowBand.{FlowBand}
 
 -- places `first` to before `end` hold what they bring, and wait for all that drains to them
 pub record AreBegun (g : Net) (first end : ℕ) (r : Places) : Type 0 where
@@ -47,3 +47,18 @@ all_waits bs = flat_map (λ b. b.waits.items) bs
 
 abbrev pub all_flows : List FlowBand → List ℤ
 all_flows bs = flat_map (λ b. b.flows.items) bs
+
+-- how many places each has
+abbrev pub counts_of : List FlowBand → List ℕ
+counts_of bs = map (λ b. length b.downs.items) bs
+
+-- the three lists of each are as long as one another
+abbrev pub AreEven : List FlowBand → Type 0
+AreEven [] = Unit {0}
+AreEven (b ∷ bs) = (length b.waits.items ≡ length b.downs.items) × (length b.flows.items ≡ length b.downs.items) × AreEven bs
+
+-- of parts with so many places, number `at` of all is number i of part k
+abbrev pub IsSeat : List ℕ → ℕ → ℕ → ℕ → Type 0
+IsSeat [] at k i = ⊥
+IsSeat (n ∷ ns) at zero i = (at ≡ i) × (i < n)
+IsSeat (n ∷ ns) at (suc k) i = (n ≤ at) × IsSeat ns (at - n) k i

@@ -75,6 +75,14 @@ abbrev pub place_of : ℕ → Option ℕ → Option ℕ
 place_of first None = None
 place_of first (Some k) = Some (first + k)
 
+-- what comes to a place, which may then wait for nothing more
+abbrev pub TakesIn : List ℕ → ℕ → List ℕ → Bool → Type 0
+TakesIn waits at waits' ready = ((1 < wait_in waits at) × (waits' ≡ slice_set waits at (wait_in waits at - 1)) × (ready ≡ false)) ⊎ ((wait_in waits at ≤ 1) × (waits' ≡ waits) × (ready ≡ true))
+
+-- a place that is ready is none any more, and told to be one
+abbrev pub Starts : List ℕ → ℕ → List ℕ → Bool → Type 0
+Starts waits at waits' ready = ((wait_in waits at ≡ 0) × (waits' ≡ slice_set waits at 1) × (ready ≡ true)) ⊎ ((wait_in waits at ≢ 0) × (waits' ≡ waits) × (ready ≡ false))
+
 -- how a place passes on what it has to another of the list, which may then wait for nothing more; it stays ready where that is none of them
 abbrev pub PassesTo : Option ℕ → ℕ → List (Option ℕ) → List ℕ → List ℤ → List (Option ℕ) → List ℕ → List ℤ → Option ℕ → Type 0
 PassesTo None at downs waits flows downs' waits' flows' next = (downs' ≡ downs) × (waits' ≡ slice_set waits at 0) × (flows' ≡ flows) × (next ≡ None)

@@ -9,6 +9,7 @@ mod bands;
 mod courses;
 mod directions;
 mod first;
+mod flow_band;
 mod laws;
 mod neighbours;
 mod pools;
@@ -24,6 +25,7 @@ mod whole;
 mod winners;
 
 pub use directions::{direction, direction_tile};
+pub use flow_band::FlowBand;
 pub use laws::flow_law;
-pub use pools::{FlowBand, flow_of_band};
+pub use pools::flow_of_band;
 pub use repairs::{Repair, flow_of_bands, flow_repair};

@@ -2,30 +2,22 @@
 //!
 //! The flow of a band is as far as it comes from its own rows. So the bands, one after another, are places of which some have passed
 //! on what they have, and those that drain to another band's rows are ready to.
-ghost use Rattle.std.specs.Prelude.{◌≡◌, ℕ, pos, ◌+◌, ◌-◌, ◌*◌, ◌<◌, ◌≤◌, length, IfOk};
+ghost use Rattle.std.specs.Prelude.{◌≡◌, ℕ, pos, ◌+◌, ◌-◌, ◌*◌, ◌<◌, ◌≤◌, ◌∷◌, [], length, None, IfOk};
 ghost use Rattle.map_nums.specs.Grids.{cells_in};
-ghost use Rattle.drainage_flow.specs.Nets.{inflow};
+ghost use Rattle.drainage_flow.specs.Nets.{Net, inflow};
 ghost use Rattle.drainage_flow.specs.FlowNets.{net_of};
-ghost use Rattle.drainage_flow.specs.Pouring.{wait_in};
+ghost use Rattle.drainage_flow.specs.Pouring.{wait_in, Places, ArePools};
 ghost use Rattle.drainage_flow.specs.Bands.{AreDowns};
 ghost use Rattle.drainage_flow.specs.First.{AreFlows};
-ghost use Rattle.drainage_flow.specs.FlowBands.{IsFlowBand, AreFlowBands, all_downs, all_waits, all_flows};
+ghost use Rattle.drainage_flow.specs.FlowBands.{IsFlowBand, AreFlowBands, AreEven, all_flows};
 
 use crate::bands::downs_between;
 use crate::first::brought_by;
+use crate::flow_band::FlowBand;
 use crate::pouring::{add_waits, run_all};
 use layer_tiles::{Cell, Extent};
 use map_nums::NoMemory;
 use std::alloc::Global;
-
-/// The flow within some rows of a map, as far as it comes from these rows: where each place drains to, how many places it waits for,
-/// and what it has. A place that drains to another row waits for none once all has come to it.
-#[derive(Drop)]
-pub struct FlowBand {
-    downs: Vec<Option<u32>>,
-    waits: Vec<u32>,
-    flows: Vec<i64>,
-}
 
 /// The flow within the rows `first` to before `end` of a map, whose surface and weights are given whole.
 ///
@@ -50,15 +42,15 @@ pub fn flow_of_band(
     let (start, past) = (first * columns, end * columns);
     let here = &surface[start as usize..past as usize];
     let loads = &weights[start as usize..past as usize];
-    let mut flows = brought_by(alloc, here, loads)?;
-    let mut downs = downs_between(alloc, extent, surface, first, end)?;
-    let mut waits = waits_of(alloc, extent, surface, first, end, &downs)?;
-    run_all(&mut downs, &mut waits, &mut flows, start);
-    Ok(FlowBand {
+    let flows = brought_by(alloc, here, loads)?;
+    let downs = downs_between(alloc, extent, surface, first, end)?;
+    let waits = waits_of(alloc, extent, surface, first, end, &downs)?;
+    let band = FlowBand {
         downs,
         waits,
         flows,
-    })
+    };
+    poured(alloc, band, start)
 }
 
 /// How many places drain to each place of some rows, of which `downs` tells where they drain to: they lie in these rows and in those
@@ -97,45 +89,45 @@ fn no_waits(alloc: Global, count: usize) -> Result<Vec<u32>, NoMemory>
     Ok(vec![in alloc; 0; count]?)
 }
 
-/// All bands in one.
-fn joined(alloc: Global, extent: Extent, bands: &[FlowBand]) -> Result<FlowBand, NoMemory>
-    ensures downs { IfOk result (λ all. all.downs.items ≡ all_downs bands.now) }
-    ensures waits { IfOk result (λ all. all.waits.items ≡ all_waits bands.now) }
-    ensures flows { IfOk result (λ all. all.flows.items ≡ all_flows bands.now) }
+/// A band whose places have passed on what they have, as far as it goes within these rows. It begins at place `first` of the map.
+fn poured(alloc: Global, band: FlowBand, first: u32) -> Result<FlowBand, NoMemory>
+    requires even { AreEven (band ∷ []) }
+    requires few { length band.downs.items < 4294967296 }
+    requires pools { (g : Net) × (r : Places) × (n : ℕ) × ArePools g r first n 0 None band.downs.items band.waits.items band.flows.items }
+    ensures { IfOk result (λ b. (g : Net) (r : Places) (n : ℕ) → ArePools g r first n 0 None band.downs.items band.waits.items band.flows.items → ArePools g r first n (length band.downs.items) None b.downs.items b.waits.items b.flows.items) }
 {
-    let count = extent.cells() as usize;
-    let mut downs = Vec::with_capacity(alloc, count)?;
-    let mut waits = Vec::with_capacity(alloc, count)?;
-    let mut flows = Vec::with_capacity(alloc, count)?;
-    for band in bands {
-        downs.extend_from_slice(&band.downs)?;
-        waits.extend_from_slice(&band.waits)?;
-        flows.extend_from_slice(&band.flows)?;
-    }
-    Ok(FlowBand {
-        downs,
-        waits,
-        flows,
-    })
+    let count = band.count();
+    let mut bands = Vec::with_capacity(alloc, 1)?;
+    bands.push(band)?;
+    run_all(&mut bands, first, count);
+    let Some(band) = bands.pop() else {
+        unreachable!()
+    };
+    Ok(band)
 }
 
-/// The flow at each place of a map, 0 where it is null, from that of its bands, one after another.
+/// The flows of all bands.
+fn joined(alloc: Global, extent: Extent, bands: &[FlowBand]) -> Result<Vec<i64>, NoMemory>
+    ensures { IfOk result (λ flows. flows.items ≡ all_flows bands.now) }
+{
+    let mut flows = Vec::with_capacity(alloc, extent.cells() as usize)?;
+    for band in bands {
+        flows.extend_from_slice(&band.flows)?;
+    }
+    Ok(flows)
+}
+
+/// The flow at each place of a map, 0 where it is null, from that of its bands, one after another. What these hold is used up.
 pub(crate) fn flows_of_bands(
     alloc: Global,
     extent: Extent,
     _surface: &[Cell],
     _weights: &[Cell],
-    bands: &[FlowBand],
+    bands: &mut [FlowBand],
 ) -> Result<Vec<i64>, NoMemory>
-    requires bands { AreFlowBands extent _surface.now _weights.now 0 (cells_in extent) bands.now }
+    requires bands { AreFlowBands extent _surface.now _weights.now 0 (cells_in extent) bands.old }
     ensures { IfOk result (λ flows. AreFlows extent _surface.now _weights.now flows.items) }
 {
-    let _cells = extent.cells();
-    let FlowBand {
-        mut downs,
-        mut waits,
-        mut flows,
-    } = joined(alloc, extent, bands)?;
-    run_all(&mut downs, &mut waits, &mut flows, 0);
-    Ok(flows)
+    run_all(bands, 0, extent.cells() as usize);
+    joined(alloc, extent, bands)
 }

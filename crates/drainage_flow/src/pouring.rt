@@ -1,8 +1,11 @@
 //! The flow of many places at once: each place passes on what it has as soon as all that drains to it has come in. The places
-//! may be some rows of a map: one that drains to another row stays ready.
-ghost use Rattle.std.specs.Prelude.{◌≡◌, ◌<◌, ◌≤◌, ◌+◌, ◌*◌, ℕ, pos, ◌+ℤ◌, ◌≤ℤ◌, length, IfSome, None, Some};
+//! are those of bands of rows, one after another. One that drains to a row that isn't among them stays ready.
+ghost use Rattle.std.specs.Prelude.{◌≡◌, ◌<◌, ◌≤◌, ◌+◌, ◌*◌, ℕ, pos, ◌+ℤ◌, ◌≤ℤ◌, length, take, sum_by, IfSome, None, Some};
 ghost use Rattle.drainage_flow.specs.Nets.{Net};
 ghost use Rattle.drainage_flow.specs.Pouring.{down_in, flow_in, wait_in, place_in, number_to, waited, most_load, Places, ArePools, AddsWaits, Passes};
+ghost use Rattle.drainage_flow.specs.FlowBands.{all_downs, all_waits, all_flows, counts_of, AreEven, IsSeat};
+
+use crate::flow_band::FlowBand;
 
 /// The number of a place among so many from `first` on, where it is one of them.
 fn place_in(first: u32, count: usize, at: u32) -> Option<u32>
@@ -19,72 +22,116 @@ fn place_in(first: u32, count: usize, at: u32) -> Option<u32>
     }
 }
 
-/// Passes on what a place has. Gives the place downstream, where that waits for nothing more.
-fn pass_on(
-    downs: &mut [Option<u32>],
-    waits: &mut [u32],
-    flows: &mut [i64],
-    first: u32,
-    at: u32,
-) -> Option<u32>
-    requires at { at < length downs.old }
-    requires waits { length waits.old ≡ length downs.old }
-    requires flows { length flows.old ≡ length downs.old }
-    requires low { IfSome (down_in downs.old at) (λ d. IfSome (place_in first (length downs.old) d) (λ k. pos 0 ≤ℤ (flow_in flows.old k +ℤ flow_in flows.old at +ℤ most_load))) }
-    requires high { IfSome (down_in downs.old at) (λ d. IfSome (place_in first (length downs.old) d) (λ k. (flow_in flows.old k +ℤ flow_in flows.old at) ≤ℤ most_load)) }
-    ensures { Passes first (down_in downs.old at) at downs.old waits.old flows.old downs.new waits.new flows.new result }
+/// The band that has a place of all, and where in it.
+fn seat(bands: &[FlowBand], at: u32) -> (usize, usize)
+    requires { at < length (all_downs bands.now) }
+    ensures seat { IsSeat (counts_of bands.now) at result.0 result.1 }
+    ensures band { result.0 < length bands.now }
 {
-    let Some(down) = downs[at as usize] else {
-        return None;
-    };
-    let Some(next) = place_in(first, downs.len(), down) else {
-        waits[at as usize] = 0;
-        return None;
-    };
-    downs[at as usize] = None;
-    flows[next as usize] += flows[at as usize];
-    if waits[next as usize] > 1 {
-        waits[next as usize] -= 1;
-        return None;
+    let mut rest = at as usize;
+    for k in 0..bands.len() {
+        let count = bands[k].count();
+        if rest < count {
+            return (k, rest);
+        }
+        rest -= count;
     }
-    Some(next)
+    unreachable!()
+}
+
+/// Passes on what a place has. Gives the place downstream, where that waits for nothing more.
+fn pass_on(bands: &mut [FlowBand], first: u32, count: usize, at: u32) -> Option<u32>
+    requires even { AreEven bands.old }
+    requires count { count ≡ length (all_downs bands.old) }
+    requires at { at < count }
+    requires low { IfSome (down_in (all_downs bands.old) at) (λ d. IfSome (place_in first count d) (λ k. pos 0 ≤ℤ (flow_in (all_flows bands.old) k +ℤ flow_in (all_flows bands.old) at +ℤ most_load))) }
+    requires high { IfSome (down_in (all_downs bands.old) at) (λ d. IfSome (place_in first count d) (λ k. (flow_in (all_flows bands.old) k +ℤ flow_in (all_flows bands.old) at) ≤ℤ most_load)) }
+    ensures even { AreEven bands.new }
+    ensures counts { counts_of bands.new ≡ counts_of bands.old }
+    ensures passes { Passes first (down_in (all_downs bands.old) at) at (all_downs bands.old) (all_waits bands.old) (all_flows bands.old) (all_downs bands.new) (all_waits bands.new) (all_flows bands.new) result }
+{
+    let (k, i) = seat(bands, at);
+    let Some(down) = bands[k].down(i) else {
+        return None;
+    };
+    let Some(next) = place_in(first, count, down) else {
+        bands[k].stop(i);
+        return None;
+    };
+    let (m, j) = seat(bands, next);
+    let amount = bands[k].leave(i);
+    if bands[m].take_in(j, amount) {
+        return Some(next);
+    }
+    None
 }
 
 /// Passes on what a place has, and what each place downstream has as long as that waits for nothing more.
-fn run_down(downs: &mut [Option<u32>], waits: &mut [u32], flows: &mut [i64], first: u32, start: u32)
-    requires within { start < length downs.old }
-    requires pools { (g : Net) × (r : Places) × (n : ℕ) × (end : ℕ) × ArePools g r first n end (Some (first + start)) downs.old waits.old flows.old }
-    ensures { (g : Net) (r : Places) (n end : ℕ) → ArePools g r first n end (Some (first + start)) downs.old waits.old flows.old → ArePools g r first n end None downs.new waits.new flows.new }
+fn run_down(bands: &mut [FlowBand], first: u32, count: usize, start: u32)
+    requires even { AreEven bands.old }
+    requires count { count ≡ length (all_downs bands.old) }
+    requires within { start < count }
+    requires pools { (g : Net) × (r : Places) × (n : ℕ) × (end : ℕ) × ArePools g r first n end (Some (first + start)) (all_downs bands.old) (all_waits bands.old) (all_flows bands.old) }
+    ensures even { AreEven bands.new }
+    ensures counts { counts_of bands.new ≡ counts_of bands.old }
+    ensures pools { (g : Net) (r : Places) (n end : ℕ) → ArePools g r first n end (Some (first + start)) (all_downs bands.old) (all_waits bands.old) (all_flows bands.old) → ArePools g r first n end None (all_downs bands.new) (all_waits bands.new) (all_flows bands.new) }
 {
     let mut at = start;
-    while let Some(next) = pass_on(downs, waits, flows, first, at) {
+    while let Some(next) = pass_on(bands, first, count, at) {
         at = next;
     }
 }
 
-/// Lets what a place has run down, where it is ready.
-fn run_from(downs: &mut [Option<u32>], waits: &mut [u32], flows: &mut [i64], first: u32, start: u32)
-    requires within { start < length downs.old }
-    requires waits { length waits.old ≡ length downs.old }
-    requires pools { (g : Net) × (r : Places) × (n : ℕ) × ArePools g r first n start None downs.old waits.old flows.old }
-    ensures { (g : Net) (r : Places) (n : ℕ) → ArePools g r first n start None downs.old waits.old flows.old → ArePools g r first n (start + 1) None downs.new waits.new flows.new }
+/// Lets what place `i` of a band has run down, where it is ready. It is place `start` of all.
+fn run_from(bands: &mut [FlowBand], first: u32, count: usize, k: usize, i: usize, start: u32)
+    requires even { AreEven bands.old }
+    requires count { count ≡ length (all_downs bands.old) }
+    requires band { k < length bands.old }
+    requires seat { IsSeat (counts_of bands.old) start k i }
+    requires pools { (g : Net) × (r : Places) × (n : ℕ) × ArePools g r first n start None (all_downs bands.old) (all_waits bands.old) (all_flows bands.old) }
+    ensures even { AreEven bands.new }
+    ensures counts { counts_of bands.new ≡ counts_of bands.old }
+    ensures pools { (g : Net) (r : Places) (n : ℕ) → ArePools g r first n start None (all_downs bands.old) (all_waits bands.old) (all_flows bands.old) → ArePools g r first n (start + 1) None (all_downs bands.new) (all_waits bands.new) (all_flows bands.new) }
 {
-    if waits[start as usize] != 0 {
-        return;
+    if bands[k].start(i) {
+        run_down(bands, first, count, start);
     }
-    waits[start as usize] = 1;
-    run_down(downs, waits, flows, first, start);
+}
+
+/// Lets what the places of a band have run down as far as they go. They are those of all from `start` on. Gives where they end.
+fn run_band(bands: &mut [FlowBand], first: u32, count: usize, k: usize, start: u32) -> u32
+    requires even { AreEven bands.old }
+    requires count { count ≡ length (all_downs bands.old) }
+    requires few { count < 4294967296 }
+    requires band { k < length bands.old }
+    requires start { start ≡ sum_by (λ n. n) (take k (counts_of bands.old)) }
+    requires pools { (g : Net) × (r : Places) × (n : ℕ) × ArePools g r first n start None (all_downs bands.old) (all_waits bands.old) (all_flows bands.old) }
+    ensures even { AreEven bands.new }
+    ensures counts { counts_of bands.new ≡ counts_of bands.old }
+    ensures end { result ≡ sum_by (λ n. n) (take (k + 1) (counts_of bands.old)) }
+    ensures pools { (g : Net) (r : Places) (n : ℕ) → ArePools g r first n start None (all_downs bands.old) (all_waits bands.old) (all_flows bands.old) → ArePools g r first n result None (all_downs bands.new) (all_waits bands.new) (all_flows bands.new) }
+{
+    let mut at = start;
+    for i in 0..bands[k].count() {
+        run_from(bands, first, count, k, i, at);
+        at += 1;
+    }
+    at
 }
 
 /// Lets what all places have run down as far as they go.
-pub(crate) fn run_all(downs: &mut [Option<u32>], waits: &mut [u32], flows: &mut [i64], first: u32)
-    requires few { length downs.old < 4294967296 }
-    requires waits { length waits.old ≡ length downs.old }
-    requires pools { (g : Net) × (r : Places) × (n : ℕ) × ArePools g r first n 0 None downs.old waits.old flows.old }
-    ensures { (g : Net) (r : Places) (n : ℕ) → ArePools g r first n 0 None downs.old waits.old flows.old → ArePools g r first n (length downs.old) None downs.new waits.new flows.new }
+pub(crate) fn run_all(bands: &mut [FlowBand], first: u32, count: usize)
+    requires even { AreEven bands.old }
+    requires count { count ≡ length (all_downs bands.old) }
+    requires few { count < 4294967296 }
+    requires pools { (g : Net) × (r : Places) × (n : ℕ) × ArePools g r first n 0 None (all_downs bands.old) (all_waits bands.old) (all_flows bands.old) }
+    ensures even { AreEven bands.new }
+    ensures counts { counts_of bands.new ≡ counts_of bands.old }
+    ensures pools { (g : Net) (r : Places) (n : ℕ) → ArePools g r first n 0 None (all_downs bands.old) (all_waits bands.old) (all_flows bands.old) → ArePools g r first n count None (all_downs bands.new) (all_waits bands.new) (all_flows bands.new) }
 {
-    for start in 0..downs.len() as u32 {
-        run_from(downs, waits, flows, first, start);
+    let mut at = 0;
+    for k in 0..bands.len() {
+        at = run_band(bands, first, count, k, at);
     }
 }
 

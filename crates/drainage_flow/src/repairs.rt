@@ -17,7 +17,8 @@ ghost use Rattle.drainage_flow.specs.Settling.{number_at};
 ghost use Rattle.drainage_flow.specs.Showing.{shown_at, changes, changed_count, ArePlaced};
 ghost use Rattle.drainage_flow.specs.Repairs.{flow_damage, flow_work, IsFlowBefore, IsFlowRepair, IsFlowRefusal};
 
-use crate::pools::{FlowBand, flow_of_band, flows_of_bands};
+use crate::flow_band::FlowBand;
+use crate::pools::{flow_of_band, flows_of_bands};
 use crate::ranges::overflow;
 use crate::repair::mend;
 use crate::showing::{show_flows, show_grounds};
@@ -61,7 +62,7 @@ pub fn flow_repair<M: Tally>(
     }
 }
 
-/// The flow of a map that had none, from that within its bands, top to bottom.
+/// The flow of a map that had none, from that within its bands, top to bottom. What these hold is used up.
 ///
 /// # Errors
 ///
@@ -71,11 +72,11 @@ pub fn flow_of_bands(
     extent: Extent,
     surface: &[Cell],
     weights: &[Cell],
-    bands: &[FlowBand],
+    bands: &mut [FlowBand],
 ) -> Result<Repair, KernelRefusal>
     requires surface { length surface.now ≡ cells_in extent }
     requires weights { length weights.now ≡ cells_in extent }
-    requires bands { AreFlowBands extent surface.now weights.now 0 (cells_in extent) bands.now }
+    requires bands { AreFlowBands extent surface.now weights.now 0 (cells_in extent) bands.old }
     ensures repair { (s w : ChangeState) → HasCells extent surface.now s → HasCells extent weights.now w → IfOk result (λ r. IsFlowRepair s w None r.patch r.worked) }
     ensures refusal { (s w : ChangeState) → HasCells extent surface.now s → HasCells extent weights.now w → IfErr result (IsFlowRefusal s w) }
 {
@@ -117,7 +118,8 @@ fn first_flow<M: Tally>(
     let Ok(band) = flow_of_band(alloc, extent, &heights, &loads, 0, extent.rows()) else {
         return Err(KernelRefusal::NoMemory);
     };
-    flow_of_bands(alloc, extent, &heights, &loads, &[band])
+    let mut bands = [band];
+    flow_of_bands(alloc, extent, &heights, &loads, &mut bands)
 }
 
 /// The flow after an edit, from the flow before it.

@@ -1,32 +1,12 @@
--- Costs and frictions in lists.
-use Rattle.std.proofs.Common.{◌≡◌, inl, inr, ℕ, zero, suc, ◌+◌, ◌<◌, ◌≤◌, List, [], ◌∷◌, ◌++◌, length, length-append, get_or, refl, sym, ◌∙◌, ap, subst, arith}
+-- Costs in lists.
+use Rattle.std.proofs.Common.{◌≡◌, ℕ, zero, suc, ◌+◌, ◌<◌, ◌≤◌, List, length, get_or, refl, ◌∙◌, ap, subst, arith}
 use Rattle.std.specs.Prelude.{slice_set, ◌==◌, if◌then◌else◌}
-use Rattle.std.proofs.lemmas.Bool.{cases_lt}
-use Rattle.std.proofs.lemmas.List.{get_or_default, get_or_past, get_or-set_same, get_or-set_other, get_or_append_left, get_or_push}
-use Rattle.map_defs.specs.Spread.{friction_at}
+use Rattle.std.proofs.lemmas.List.{get_or_default, get_or_past, get_or-set_same, get_or-set_other}
 use Rattle.least_costs.specs.Queue.{IsSetTo}
 use Rattle.least_costs.specs.Filling.{IsFilling}
 use Rattle.least_costs.specs.Ranks.{sum_to, changed}
 use Rattle.friction_spread.specs.Costs.{GroundState, net_of}
-use Rattle.friction_spread.specs.Flat.{costs_of, AreFrictions}
-
--- ---- frictions
-
-pub one_friction_more : (g : GroundState) (list new : List ℕ) (n v : ℕ) → new ≡ list ++ v ∷ [] → v ≡ friction_at g.friction n → v < 2147483648 → AreFrictions g list n → AreFrictions g new (n + 1)
-one_friction_more g list new n v e f m h =
-    let P : List ℕ → Type 0 = λ xs. AreFrictions g xs (n + 1) in
-    subst P (sym e)
-    record {
-      count = omega (arith, length-append list (v ∷ []), h.count);
-      each = λ i l. elim (cases_lt i n) as (λ _. get_or (list ++ v ∷ []) i 0 ≡ friction_at g.friction i) [
-        | inl a ↦ get_or_append_left list (v ∷ []) 0 i (omega (arith, a, h.count)) ∙ h.each i a
-        | inr a ↦ (let q : n ≡ i = omega (arith, l, a) in let Q : ℕ → Type 0 = λ j. get_or (list ++ v ∷ []) j 0 ≡ friction_at g.friction j in subst Q q (get_or_push list v 0 n h.count ∙ f))
-      ];
-      low = λ i l. elim (cases_lt i n) as (λ _. get_or (list ++ v ∷ []) i 0 < 2147483648) [
-        | inl a ↦ omega (arith, get_or_append_left list (v ∷ []) 0 i (omega (arith, a, h.count)), h.low i a)
-        | inr a ↦ (let q : n ≡ i = omega (arith, l, a) in let Q : ℕ → Type 0 = λ j. get_or (list ++ v ∷ []) j 0 < 2147483648 in subst Q q (omega (arith, get_or_push list v 0 n h.count, m)))
-      ];
-    }
+use Rattle.friction_spread.specs.Flat.{costs_of}
 
 -- ---- costs
 

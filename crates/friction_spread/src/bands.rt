@@ -99,8 +99,7 @@ fn costs_of_bands(
 {
     let mut queue = Queue::new(alloc);
     let mut costs = join(alloc, ground, bands, &mut queue)?;
-    let friction = ground.frictions(alloc)?;
-    fill(ground, &friction, &mut costs, &mut queue)?;
+    fill(ground, &mut costs, &mut queue)?;
     Ok(costs)
 }
 

@@ -1,11 +1,11 @@
-//! All costs where there were none: they fall to what their neighbours offer, until the queue is empty. Costs and frictions stand in lists, by place.
+//! All costs where there were none: they fall to what their neighbours offer, until the queue is empty. They stand in a list, by place.
 ghost use Rattle.std.specs.Prelude.{◌≡◌, ◌<◌, ◌≤◌, ◌^◌, ◌∷◌, ℕ, length, OnOk};
 ghost use Rattle.map_nums.specs.Grids.{cells_in, gap};
 ghost use Rattle.map_defs.specs.Nets.{IsLeastIn};
 ghost use Rattle.map_defs.specs.Spread.{friction_at};
 ghost use Rattle.least_costs.specs.Filling.{IsRelaxed, IsFilling, IsOffering, left_to_do};
 ghost use Rattle.friction_spread.specs.Costs.{base_of, net_of};
-ghost use Rattle.friction_spread.specs.Flat.{costs_of, AreAllFrictions};
+ghost use Rattle.friction_spread.specs.Flat.{costs_of};
 ghost use Rattle.friction_spread.specs.Rows.{RowRelaxed};
 ghost use Rattle.friction_spread.specs.Spots.{IsSpot, AreNear};
 
@@ -18,7 +18,6 @@ use least_costs::Queue;
 /// The cost of a place near falls to the cost through this one, and the place comes into the queue, where that is below it.
 fn offer(
     ground: &FlatGround<'_>,
-    friction: &[u32],
     costs: &mut [u32],
     queue: &mut Queue,
     from: Spot,
@@ -28,7 +27,6 @@ fn offer(
 ) -> Result<(), NoMemory>
     requires spots { IsSpot ground.now.size from × IsSpot ground.now.size to }
     requires near { AreNear to from }
-    requires friction { AreAllFrictions ground.now friction.now }
     requires count { length costs.old ≡ cells_in ground.now.size }
     requires value { value ≡ costs_of ground.now costs.old from.at }
     requires low { value < 2 ^ 32 }
@@ -43,7 +41,7 @@ fn offer(
     if there <= value + least_step(own) {
         return Ok(());
     }
-    let beyond = friction[to.at as usize] as u64;
+    let beyond = ground.friction(to.at);
     if beyond == 0 {
         return Ok(());
     }
@@ -59,7 +57,6 @@ fn offer(
 /// The same for a row next to the place.
 fn offer_row(
     ground: &FlatGround<'_>,
-    friction: &[u32],
     costs: &mut [u32],
     queue: &mut Queue,
     from: Spot,
@@ -70,7 +67,6 @@ fn offer_row(
     requires spot { IsSpot ground.now.size from }
     requires row { row < ground.now.size.rows }
     requires close { gap row from.row ≤ 1 }
-    requires friction { AreAllFrictions ground.now friction.now }
     requires count { length costs.old ≡ cells_in ground.now.size }
     requires value { value ≡ costs_of ground.now costs.old from.at }
     requires low { value < 2 ^ 32 }
@@ -83,7 +79,7 @@ fn offer_row(
     let high = (from.column + 2).min(columns);
     for c in low..high {
         let to = ground.spot_at(row, c);
-        offer(ground, friction, costs, queue, from, value, own, to)?;
+        offer(ground, costs, queue, from, value, own, to)?;
     }
     Ok(())
 }
@@ -91,21 +87,19 @@ fn offer_row(
 /// The same for all places near.
 fn offer_round(
     ground: &FlatGround<'_>,
-    friction: &[u32],
     costs: &mut [u32],
     queue: &mut Queue,
     from: Spot,
     value: u64,
 ) -> Result<(), NoMemory>
     requires spot { IsSpot ground.now.size from }
-    requires friction { AreAllFrictions ground.now friction.now }
     requires count { length costs.old ≡ cells_in ground.now.size }
     requires value { value ≡ costs_of ground.now costs.old from.at }
     requires low { value < 2 ^ 32 }
     ensures offered { OnOk result (IsOffering (net_of ground.now) value from.at (costs_of ground.now costs.old) queue.old (costs_of ground.now costs.new) queue.new) }
     ensures relaxed { OnOk result ((i : ℕ) → IsRelaxed (net_of ground.now) (costs_of ground.now costs.new) from.at i) }
 {
-    let own = friction[from.at as usize] as u64;
+    let own = ground.friction(from.at);
     if own == 0 {
         return Ok(());
     }
@@ -113,7 +107,7 @@ fn offer_round(
     let low = from.row.saturating_sub(1);
     let high = (from.row + 2).min(rows);
     for r in low..high {
-        offer_row(ground, friction, costs, queue, from, value, own, r)?;
+        offer_row(ground, costs, queue, from, value, own, r)?;
     }
     Ok(())
 }
@@ -121,13 +115,11 @@ fn offer_round(
 /// Deals with an entry that was taken out of the queue: where it is the cost of its place, that is offered to the places near.
 fn reach(
     ground: &FlatGround<'_>,
-    friction: &[u32],
     costs: &mut [u32],
     queue: &mut Queue,
     key: u64,
     at: u32,
 ) -> Result<(), NoMemory>
-    requires friction { AreAllFrictions ground.now friction.now }
     requires count { length costs.old ≡ cells_in ground.now.size }
     requires filling { IsFilling (net_of ground.now) (costs_of ground.now costs.old) ((key, at) ∷ queue.old) }
     ensures filling { OnOk result (IsFilling (net_of ground.now) (costs_of ground.now costs.new) queue.new) }
@@ -142,18 +134,12 @@ fn reach(
     if cost != key {
         return Ok(());
     }
-    offer_round(ground, friction, costs, queue, ground.spot(at), key)?;
+    offer_round(ground, costs, queue, ground.spot(at), key)?;
     Ok(())
 }
 
 /// Gives each place its least cost, where the sources have theirs and stand in the queue.
-pub fn fill(
-    ground: &FlatGround<'_>,
-    friction: &[u32],
-    costs: &mut [u32],
-    queue: &mut Queue,
-) -> Result<(), NoMemory>
-    requires friction { AreAllFrictions ground.now friction.now }
+pub fn fill(ground: &FlatGround<'_>, costs: &mut [u32], queue: &mut Queue) -> Result<(), NoMemory>
     requires count { length costs.old ≡ cells_in ground.now.size }
     requires filling { IsFilling (net_of ground.now) (costs_of ground.now costs.old) queue.old }
     requires begun { (i : ℕ) → costs_of ground.now costs.old i ≤ base_of ground.now i }
@@ -161,7 +147,7 @@ pub fn fill(
 {
     let _extent = ground.extent();
     while let Some((key, at)) = queue.pop() {
-        reach(ground, friction, costs, queue, key, at)?;
+        reach(ground, costs, queue, key, at)?;
     }
     Ok(())
 }

@@ -9,7 +9,7 @@ ghost use Rattle.layer_tiles.specs.Tiles.{tiles_in};
 ghost use Rattle.layer_tiles.specs.Patches.{patched, HoldsAll};
 ghost use Rattle.least_costs.specs.Filling.{IsFilling};
 ghost use Rattle.friction_spread.specs.Costs.{base_of, net_of};
-ghost use Rattle.friction_spread.specs.Flat.{costs_of, AreAllFrictions};
+ghost use Rattle.friction_spread.specs.Flat.{costs_of};
 
 use crate::fills::fill;
 use crate::flat::FlatGround;
@@ -29,7 +29,6 @@ pub struct Repair {
 /// A source that is no barrier costs nothing, and comes into the queue.
 fn begin_at(
     ground: &FlatGround<'_>,
-    friction: &[u32],
     costs: &mut [u32],
     queue: &mut Queue,
     at: u32,
@@ -37,7 +36,6 @@ fn begin_at(
 ) -> Result<(), NoMemory>
     requires within { at < cells_in ground.now.size }
     requires source { source ≡ cell_at ground.now.sources at }
-    requires friction { AreAllFrictions ground.now friction.now }
     requires count { length costs.old ≡ cells_in ground.now.size }
     requires filling { IsFilling (net_of ground.now) (costs_of ground.now costs.old) queue.old }
     ensures filling { OnOk result (IsFilling (net_of ground.now) (costs_of ground.now costs.new) queue.new) }
@@ -48,7 +46,8 @@ fn begin_at(
     if !begins {
         return Ok(());
     }
-    if friction[at as usize] == 0 {
+    let friction = ground.friction(at);
+    if friction == 0 {
         return Ok(());
     }
     queue.push(0, at)?;
@@ -57,13 +56,7 @@ fn begin_at(
 }
 
 /// The sources cost nothing, and come into the queue.
-fn begin(
-    ground: &FlatGround<'_>,
-    friction: &[u32],
-    costs: &mut [u32],
-    queue: &mut Queue,
-) -> Result<(), NoMemory>
-    requires friction { AreAllFrictions ground.now friction.now }
+fn begin(ground: &FlatGround<'_>, costs: &mut [u32], queue: &mut Queue) -> Result<(), NoMemory>
     requires count { length costs.old ≡ cells_in ground.now.size }
     requires none { (i : ℕ) → costs_of ground.now costs.old i ≡ suc ground.now.limit }
     ensures filling { OnOk result (IsFilling (net_of ground.now) (costs_of ground.now costs.new) queue.new) }
@@ -71,7 +64,7 @@ fn begin(
 {
     let sources = ground.sources();
     for at in 0..ground.extent().cells() {
-        begin_at(ground, friction, costs, queue, at, sources[at as usize])?;
+        begin_at(ground, costs, queue, at, sources[at as usize])?;
     }
     Ok(())
 }
@@ -81,12 +74,11 @@ pub fn costs_in(alloc: Global, ground: &FlatGround<'_>) -> Result<Vec<u32>, NoMe
     ensures count { IfOk result (λ costs. length costs.items ≡ cells_in ground.now.size) }
     ensures least { IfOk result (λ costs. (i : ℕ) → IsLeastIn (net_of ground.now) i (costs_of ground.now costs.items i)) }
 {
-    let friction = ground.frictions(alloc)?;
     let top = ground.top() as u32;
     let mut costs = vec![in alloc; top; ground.extent().cells() as usize]?;
     let mut queue = Queue::new(alloc);
-    begin(ground, &friction, &mut costs, &mut queue)?;
-    fill(ground, &friction, &mut costs, &mut queue)?;
+    begin(ground, &mut costs, &mut queue)?;
+    fill(ground, &mut costs, &mut queue)?;
     Ok(costs)
 }
 

@@ -1,14 +1,13 @@
 //! What a spread goes over, in lists: each place's cells one after the other.
-ghost use Rattle.std.specs.Prelude.{◌≡◌, ◌<◌, ◌≤◌, ◌^◌, suc, length, IfOk};
+ghost use Rattle.std.specs.Prelude.{◌≡◌, ◌<◌, ◌≤◌, ◌^◌, suc, length};
 ghost use Rattle.map_nums.specs.Grids.{cells_in};
+ghost use Rattle.map_defs.specs.Spread.{friction_at};
 ghost use Rattle.friction_spread.specs.Costs.{GroundState, IsGround};
 ghost use Rattle.friction_spread.specs.Spots.{IsSpot};
-ghost use Rattle.friction_spread.specs.Flat.{AreAllFrictions};
 ghost use Rattle.friction_spread.specs.Bands.{ground_of, band_of};
 
 use crate::ground::{Spot, friction_of, spot_at_in, spot_in};
-use layer_tiles::{Cell, Extent, NoMemory};
-use std::alloc::Global;
+use layer_tiles::{Cell, Extent};
 use std::marker::Model;
 
 /// The sources and frictions of a spread, all of them, and the greatest cost that counts.
@@ -104,15 +103,14 @@ impl<'a> FlatGround<'a> {
         self.sources
     }
 
-    /// The frictions of all places.
-    pub fn frictions(&self, alloc: Global) -> Result<Vec<u32>, NoMemory>
-        ensures { IfOk result (λ list. AreAllFrictions self.now list.items) }
+    /// The friction of a place, 0 for a barrier.
+    #[inline]
+    pub fn friction(&self, at: u32) -> u64
+        requires { at < cells_in self.now.size }
+        ensures value { result ≡ friction_at self.now.friction at }
+        ensures low { result < 2 ^ 31 }
     {
-        let mut list = Vec::with_capacity(alloc, self.friction.len())?;
-        for cell in self.friction {
-            list.push(friction_of(*cell) as u32)?;
-        }
-        Ok(list)
+        friction_of(self.friction[at as usize])
     }
 
     /// The rows `first` to before `end`.

@@ -1,8 +1,8 @@
 //! Least costs of spreading from sources over frictions, and their repair.
 //!
 //! `spread_repair` gives the tiles that change and the work that it took. The places that disagree with their equation stand in
-//! a queue (`least_costs`), and are put right in the order of their keys. Where there are no costs yet, they only fall: cells, frictions
-//! and costs are kept in lists then, and the tiles made of the costs at the end. The rows may also be dealt out: `costs_of_band` finds
+//! a queue (`least_costs`), and are put right in the order of their keys. Where there are no costs yet, they only fall: cells and costs
+//! are kept in lists then, and the tiles made of the costs at the end. The rows may also be dealt out: `costs_of_band` finds
 //! the costs within a band of rows, and `spread_of_bands` those of the map from the bands'.
 #![tactic(auto)]
 

@@ -2,7 +2,7 @@
 use Rattle.std.proofs.Common.{◌≡◌, ℕ, suc, ◌+◌, ◌-◌, ◌*◌, ◌<◌, List, [], ◌∷◌, length, Some, slice_get, refl, sym, ap, subst, ◌∙◌, arith}
 use Rattle.map_nums.specs.Grids.{Size, Cells, cells_in}
 use Rattle.drainage_flow.specs.FlowBands.{IsFlowBand, AreFlowBands}
-use Rattle.drainage_flow.specs.declared.pools.FlowBand.{FlowBand}
+use Rattle.drainage_flow.specs.declared.flow_band.FlowBand.{FlowBand}
 use Rattle.op_jobs.specs.Fresh.{IsFlows}
 use Rattle.op_jobs.specs.Parts.{part_start}
 use Rattle.op_jobs.specs.declared.ground.Part.{Part}

@@ -17,7 +17,7 @@ use Rattle.layer_tiles.proofs.Rising.{rises_then, rises_within}
 use Rattle.zonal_totals.specs.Ranges.{CountsState, AreTileCounts, AreRanges}
 use Rattle.friction_spread.specs.Costs.{GroundState}
 use Rattle.friction_spread.specs.declared.bands.CostBand.{CostBand}
-use Rattle.drainage_flow.specs.declared.pools.FlowBand.{FlowBand}
+use Rattle.drainage_flow.specs.declared.flow_band.FlowBand.{FlowBand}
 use Rattle.map_waves.specs.Found.{AreFound}
 use Rattle.map_waves.specs.Operands.{IsOperand}
 use Rattle.map_waves.specs.Keeping.{kept_now, was_of}

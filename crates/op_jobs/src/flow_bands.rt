@@ -3,7 +3,7 @@ ghost use Rattle.std.specs.Prelude.{◌≡◌, ℕ, suc, ◌-◌, ◌*◌, ◌<�
 ghost use Rattle.map_nums.specs.Grids.{Size, Cells, cells_in};
 ghost use Rattle.layer_tiles.specs.Changes.{ChangeState};
 ghost use Rattle.drainage_flow.specs.FlowBands.{IsFlowBand};
-ghost use Rattle.drainage_flow.specs.declared.pools.FlowBand.{FlowBand};
+ghost use Rattle.drainage_flow.specs.declared.flow_band.FlowBand.{FlowBand};
 ghost use Rattle.drainage_flow.specs.Operands.{HasCells};
 ghost use Rattle.drainage_flow.specs.Repairs.{IsFlowRepair};
 ghost use Rattle.op_jobs.specs.Fresh.{IsFlows};
@@ -71,8 +71,8 @@ pub(crate) fn flow_by(
     requires each { (k : ℕ) (p : Part) → slice_get parts.items k ≡ Some p → IsFlows extent ground.now.first.items ground.now.second.items (length parts.items) k p }
     ensures repair { (s w : ChangeState) → HasCells extent ground.now.first.items s → HasCells extent ground.now.second.items w → IfOk result (λ found. IfSome found (λ r. IsFlowRepair s w None r.patch r.worked)) }
 {
-    let bands = bands_of(alloc, parts)?;
-    match flow_of_bands(alloc, extent, &ground.first, &ground.second, &bands) {
+    let mut bands = bands_of(alloc, parts)?;
+    match flow_of_bands(alloc, extent, &ground.first, &ground.second, &mut bands) {
         Ok(repair) => Ok(Some(repair)),
         Err(KernelRefusal::Overflow(_)) => Ok(None),
         Err(KernelRefusal::NoMemory) => Err(NoMemory),

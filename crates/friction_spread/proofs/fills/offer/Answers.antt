@@ -25,16 +25,16 @@ pub returns-then-beyond-eq0-clause-offered : goal.returns-then-beyond-eq0-clause
 returns-then-beyond-eq0-clause-offered c = offered_none (net_of c.args.ground.now) c.args.value c.args.from.at (costs_of c.args.ground.now c.args.costs.now) c.args.queue.now
 
 pub returns-then-beyond-eq0-clause-relaxed : goal.returns-then-beyond-eq0-clause-relaxed
-returns-then-beyond-eq0-clause-relaxed c = λ l. absurd (omega (arith, l, step_to_barrier c.args.ground.now c.args.from.at c.args.to.at (sym (c.requires.friction.each c.args.to.at c.requires.spots.1.within) ∙ c.if-beyond-eq0.true)))
+returns-then-beyond-eq0-clause-relaxed c = λ l. absurd (omega (arith, l, step_to_barrier c.args.ground.now c.args.from.at c.args.to.at (sym c.friction-beyond.ensures.value ∙ c.if-beyond-eq0.true)))
 
 costs : (c : After-weigh) → c.weigh.result ≡ step_of c.args.ground.now c.args.from.at c.args.to.at
 costs c =
     let gr = c.args.ground.now in
     let f = friction_at gr.friction c.args.to.at in
-    let e : get_or c.args.friction.now c.args.to.at 0 ≡ f = c.requires.friction.each c.args.to.at c.requires.spots.1.within in
+    let e : c.friction-beyond.result ≡ f = c.friction-beyond.ensures.value in
     let o : 0 < f = omega (arith, e, c.if-beyond-eq0.false) in
     let u : 0 < friction_at gr.friction c.args.from.at = omega (arith, c.requires.own.0, c.requires.own.1) in
-    c.weigh.ensures.value ∙ ap (λ n. weighed c.args.from c.args.to n (get_or c.args.friction.now c.args.to.at 0)) c.requires.own.0 ∙ ap (λ n. weighed c.args.from c.args.to (friction_at gr.friction c.args.from.at) n) e ∙ sym (step_weighed gr c.args.from c.args.to c.requires.spots.0 c.requires.spots.1 c.requires.near c.if-from-to.false u o)
+    c.weigh.ensures.value ∙ ap (λ n. weighed c.args.from c.args.to n c.friction-beyond.result) c.requires.own.0 ∙ ap (λ n. weighed c.args.from c.args.to (friction_at gr.friction c.args.from.at) n) e ∙ sym (step_weighed gr c.args.from c.args.to c.requires.spots.0 c.requires.spots.1 c.requires.near c.if-from-to.false u o)
 
 there : (c : After-weigh) → get_or c.args.costs.now c.args.to.at 0 ≡ costs_of c.args.ground.now c.args.costs.now c.args.to.at
 there c = cost_read c.args.ground.now c.args.costs.now c.args.to.at (omega (arith, c.requires.count, c.requires.spots.1.within))

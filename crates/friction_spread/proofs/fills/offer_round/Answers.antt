@@ -12,7 +12,10 @@ pub returns-then-own-eq0-clause-offered : goal.returns-then-own-eq0-clause-offer
 returns-then-own-eq0-clause-offered c = offered_none (net_of c.args.ground.now) c.args.value c.args.from.at (costs_of c.args.ground.now c.args.costs.now) c.args.queue.now
 
 pub returns-then-own-eq0-clause-relaxed : goal.returns-then-own-eq0-clause-relaxed
-returns-then-own-eq0-clause-relaxed c = λ i l. absurd (omega (arith, l, step_barrier c.args.ground.now c.args.from.at i (sym (c.requires.friction.each c.args.from.at c.requires.spot.within) ∙ c.if-own-eq0.true)))
+returns-then-own-eq0-clause-relaxed c = λ i l. absurd (omega (arith, l, step_barrier c.args.ground.now c.args.from.at i (sym c.friction-own.ensures.value ∙ c.if-own-eq0.true)))
+
+pub offer_row-requires-clause-own : goal.offer_row-requires-clause-own
+offer_row-requires-clause-own c = (c.friction-own.ensures.value, omega (arith, c.if-own-eq0.false), omega (arith, c.friction-own.ensures.low))
 
 pub offer_row-requires-clause-value : goal.offer_row-requires-clause-value
 offer_row-requires-clause-value c = c.requires.value ∙ sym c.loop-r.invariant.offered.here

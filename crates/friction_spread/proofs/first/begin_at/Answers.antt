@@ -18,11 +18,11 @@ pub returns-clause-filling : goal.returns-clause-filling
 returns-clause-filling c =
     let gr = c.args.ground.now in
     let s : is_some (cell_at gr.sources c.args.at) ≡ true = sym (begins (goal.at.returns-clause-filling c).After-is_some-begins) ∙ c.if-not-begins.false in
-    let f : 0 < friction_at gr.friction c.args.at = omega (arith, c.requires.friction.each c.args.at c.requires.within, c.if-friction-at-eq0.false) in
+    let f : 0 < friction_at gr.friction c.args.at = omega (arith, c.friction-friction.ensures.value, c.if-friction-eq0.false) in
     lowered (net_of gr) (costs_of gr c.args.costs.now) _ c.args.queue.now c.push.new.self c.args.at 0 [] (base_source gr c.args.at c.requires.within f s) (omega arith) (cost_set gr c.args.costs.now _ c.args.at 0 (omega arith) refl) (pushed_kept _ _ _ c.in_ok-push.ensures) (pushed_there _ _ _ c.in_ok-push.ensures) c.requires.filling
 
 pub returns-then-not-begins-clause-begun : goal.returns-then-not-begins-clause-begun
 returns-then-not-begins-clause-begun c = omega (arith, base_other c.args.ground.now c.args.at (sym (begins (goal.at.returns-then-not-begins-clause-begun c).After-is_some-begins) ∙ c.if-not-begins.true), c.requires.filling.most c.args.at)
 
-pub returns-then-friction-at-eq0-clause-begun : goal.returns-then-friction-at-eq0-clause-begun
-returns-then-friction-at-eq0-clause-begun c = omega (arith, base_barrier c.args.ground.now c.args.at (sym (c.requires.friction.each c.args.at c.requires.within) ∙ c.if-friction-at-eq0.true), c.requires.filling.most c.args.at)
+pub returns-then-friction-eq0-clause-begun : goal.returns-then-friction-eq0-clause-begun
+returns-then-friction-eq0-clause-begun c = omega (arith, base_barrier c.args.ground.now c.args.at (sym c.friction-friction.ensures.value ∙ c.if-friction-eq0.true), c.requires.filling.most c.args.at)

@@ -1,6 +1,6 @@
 use Rattle.std.proofs.Common.{◌≡◌, ℕ, ◌+◌, length, drop, Some, slice_get}
 use Rattle.std.specs.Vec.Iter.{into_iter_items, into_iter_len}
-use Rattle.drainage_flow.specs.declared.pools.FlowBand.{FlowBand}
+use Rattle.drainage_flow.specs.declared.flow_band.FlowBand.{FlowBand}
 use Rattle.op_jobs.specs.declared.ground.Part.TheVariants.{Flows}
 use Rattle.op_jobs.proofs.flow_bands.bands_of.Given as goal
 

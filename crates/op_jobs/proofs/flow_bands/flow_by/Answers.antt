@@ -8,7 +8,7 @@ bands_of-requires c = (c.args.extent, c.args.ground.now.first.items, c.args.grou
 
 pub flow_of_bands-requires-clause-bands : goal.flow_of_bands-requires-clause-bands
 flow_of_bands-requires-clause-bands c =
-    bands_are c.args.extent _ _ _ _ c.in_ok-bands.bands.items _ c.args.parts.items c.deref.ensures.value c.deref-2.ensures.value c.deref-3.ensures.value c.requires.some c.in_ok-bands.ensures.count c.in_ok-bands.ensures.each c.requires.each
+    bands_are c.args.extent _ _ _ _ c.in_ok-bands.bands.items _ c.args.parts.items c.deref.ensures.value c.deref-2.ensures.value c.deref_mut.ensures.value c.requires.some c.in_ok-bands.ensures.count c.in_ok-bands.ensures.each c.requires.each
 
 pub returns-in-Ok : goal.returns-in-Ok
 returns-in-Ok c = record {
