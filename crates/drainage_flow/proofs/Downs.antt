@@ -3,7 +3,7 @@ use Rattle.std.proofs.Common.{◌≡◌, ℕ, zero, suc, ◌+◌, ◌-◌, ◌*�
 use Rattle.std.specs.Prelude.{◌-ℤ◌, slice_index}
 use Rattle.std.proofs.lemmas.Bool.{cases_lt}
 use Rattle.std.proofs.lemmas.Int.{ints}
-use Rattle.std.proofs.lemmas.List.{length-append, append-nil, get_or_append_left, get_or-append_right, get_or-take, get_or-drop, length-take, length-drop}
+use Rattle.std.proofs.lemmas.List.{length-append, get_or_append_left, get_or-append_right, get_or-take, get_or-drop, length-take, length-drop}
 use Rattle.std.proofs.lemmas.Nat.{div-mul-add, mod-mul-add, mul-le}
 use Rattle.map_nums.specs.Grids.{Size, Cells, Offset, cell_at, cell_there, cells_in, moved, near, row_of, column_of}
 use Rattle.map_defs.specs.Flow.{downstream_of}
@@ -14,9 +14,6 @@ use Rattle.drainage_flow.specs.Bands.{AreDowns, AddsDowns, LeadOn}
 use Rattle.drainage_flow.proofs.Places.{line_some, place_some}
 
 -- ---- one band after another
-
-pub downs_none : (s : Size) (surface : Cells) (at : ℕ) → AreDowns s surface at 0 []
-downs_none s surface at = record { count = refl; each = λ k l. absurd (omega (arith, l)) }
 
 pub downs_join : (s : Size) (surface : Cells) (at n m : ℕ) (xs ys : List (Option ℕ)) → AreDowns s surface at n xs → AreDowns s surface (at + n) m ys → AreDowns s surface at (n + m) (xs ++ ys)
 downs_join s surface at n m xs ys a b = record {
@@ -35,9 +32,6 @@ downs_one s surface at d e = record {
 
 -- ---- what was added to a list
 
-pub adds_none : (s : Size) (surface : Cells) (at : ℕ) (xs : List (Option ℕ)) → AddsDowns s surface at 0 xs xs
-adds_none s surface at xs = record { added = []; joined = sym (append-nil xs); downs = downs_none s surface at }
-
 pub adds_then : (s : Size) (surface : Cells) (at n next m : ℕ) (xs ys zs : List (Option ℕ)) → next ≡ at + n → AddsDowns s surface at n xs ys → AddsDowns s surface next m ys zs → AddsDowns s surface at (n + m) xs zs
 adds_then s surface at n next m xs ys zs e a b = record {
   added = a.added ++ b.added;
@@ -51,10 +45,6 @@ adds_one s surface at n xs ys zs d a e j = adds_then s surface at n (at + n) 1 x
 -- as many, by another sum
 pub adds_count : (s : Size) (surface : Cells) (at n m : ℕ) (xs ys : List (Option ℕ)) → n ≡ m → AddsDowns s surface at n xs ys → AddsDowns s surface at m xs ys
 adds_count s surface at n m xs ys e a = subst (λ k. AddsDowns s surface at k xs ys) e a
-
--- all that an empty list became
-pub adds_all : (s : Size) (surface : Cells) (at n : ℕ) (xs : List (Option ℕ)) → AddsDowns s surface at n [] xs → AreDowns s surface at n xs
-adds_all s surface at n xs a = rw (a.joined) a.downs
 
 -- a row of its first cell, the inner ones, and its last
 pub row_joined : (s : Size) (surface : Cells) (row columns : ℕ) (xs ys zs ws : List (Option ℕ)) → columns ≡ s.columns → 1 < s.columns → AddsDowns s surface (row * columns) 1 xs ys → AddsDowns s surface (row * s.columns + 1) (s.columns - 2) ys zs → AddsDowns s surface (row * columns + columns - 1) 1 zs ws → AddsDowns s surface (row * s.columns) s.columns xs ws

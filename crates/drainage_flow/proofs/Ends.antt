@@ -11,7 +11,7 @@ use Rattle.map_nums.specs.Numbers.{is_value}
 use Rattle.map_nums.specs.Answers.{is_wide}
 use Rattle.map_defs.specs.Flow.{flow_at, flow_grid}
 use Rattle.map_defs.specs.Ops.{Term}
-use Rattle.map_defs.specs.Work.{op_work}
+use Rattle.map_defs.specs.Work.{op_work, first_work}
 use Rattle.map_defs.specs.Differences.{differs}
 use Rattle.layer_tiles.specs.Changes.{ChangeState, cells_before}
 use Rattle.changed_cells.specs.Unions.{AreAllPlaces, both_changed}
@@ -117,11 +117,10 @@ is_some_shown : (o : Option ℤ) (z : ℤ) → is_some (shown o z) ≡ is_some o
 is_some_shown None z = refl
 is_some_shown (Some y) z = refl
 
-pub first_worked : (t u : Term) (surface weights : ChangeState) (n : ℕ) → n ≡ length (filter (λ i. is_some (cell_at surface.cells i)) (places surface.size)) → cells_in surface.size + n ≡ flow_work t u surface weights None
-unfolding op_work
-first_worked t u surface weights n e =
-    ap (λ m. cells_in surface.size + m) (e ∙ count_same (λ i. is_some (cell_at surface.cells i)) (λ i. is_some (cell_at (flow_now surface weights) i)) 0 (cells_in surface.size)
-    (λ i l m. (let k : i < cells_in surface.size = omega (arith, m) in sym (ap is_some (flow_cell surface.size surface.cells weights.cells i k ∙ sym (shown_flow surface.size surface.cells weights.cells i)) ∙ is_some_shown (cell_at surface.cells i) (flow_number surface.size surface.cells weights.cells i)))))
+pub first_worked : (s : Size) (surface weights : Cells) (n : ℕ) → n ≡ length (filter (λ i. is_some (cell_at surface i)) (places s)) → cells_in s + n ≡ first_work s (flow_grid s surface weights).cells
+first_worked s surface weights n e =
+    ap (λ m. cells_in s + m) (e ∙ count_same (λ i. is_some (cell_at surface i)) (λ i. is_some (cell_at (flow_grid s surface weights).cells i)) 0 (cells_in s)
+    (λ i l m. (let k : i < cells_in s = omega (arith, m) in sym (ap is_some (flow_cell s surface weights i k ∙ sym (shown_flow s surface weights i)) ∙ is_some_shown (cell_at surface i) (flow_number s surface weights i)))))
 
 pub next_worked : (t u : Term) (surface weights : ChangeState) (old : Cells) (changed : List ℕ) (n : ℕ) → AreAllPlaces surface.size (both_changed surface weights) changed → n ≡ length changed + changes surface.size old (flow_now surface weights) → n ≡ flow_work t u surface weights (Some old)
 unfolding op_work

@@ -1,5 +1,5 @@
 -- The flow within bands, and that of the map from theirs.
-use Rattle.std.proofs.Common.{◌≡◌, ◌≢◌, min, ℕ, zero, suc, ◌+◌, ◌-◌, ◌*◌, ◌/◌, ◌<◌, ◌≤◌, Bool, true, false, cond, List, [], ◌∷◌, ◌++◌, length, get_or, take, drop, Option, Some, None, refl, sym, ◌∙◌, ap, subst, arith, inl, inr, append_assoc, ℤ, pos, ◌+ℤ◌}
+use Rattle.std.proofs.Common.{◌≡◌, ◌≢◌, min, ℕ, zero, suc, ◌+◌, ◌-◌, ◌*◌, ◌<◌, ◌≤◌, Bool, true, false, cond, List, [], ◌∷◌, ◌++◌, length, get_or, take, drop, Option, Some, None, refl, sym, ◌∙◌, ap, subst, arith, inl, inr, append_assoc, ℤ, pos, ◌+ℤ◌}
 use Rattle.std.specs.Prelude.{◌⊎◌, slice_set, IfSome}
 use Rattle.std.specs.List.{flat_map}
 use Rattle.std.proofs.lemmas.Int.{ints}
@@ -7,7 +7,7 @@ use Rattle.std.proofs.lemmas.Bool.{cases_lt}
 use Rattle.std.proofs.lemmas.Nat.{mul-le}
 use Rattle.std.proofs.lemmas.List.{get_or_append_left, get_or-append_right, get_or_default, get_or_past, get_or-set_same, get_or-set_other, length-append, length-set, length-take, length-drop, append-nil, drop_more, drop_all}
 use Rattle.std.proofs.Math.Nat.{min-eq_left, min-eq_right}
-use Rattle.map_nums.specs.Grids.{Size, IsSize, Cells, cell_at, cells_in, row_of, column_of, moved}
+use Rattle.map_nums.specs.Grids.{Size, IsSize, Cells, cell_at, cells_in, row_of, column_of}
 use Rattle.map_defs.specs.Drainage.{winner_at}
 use Rattle.map_defs.specs.Flow.{downstream_of}
 use Rattle.drainage_flow.specs.Nets.{Net, part, sum_to, is_to, inflow}
@@ -362,6 +362,10 @@ lists_end {B} f xs all bs k l h = sym (append-nil xs) ∙ ap (λ (cs : List B). 
 
 -- ---- bands one after another
 
+pub even_flows : (bs : List FlowBand) → AreEven bs → length (all_flows bs) ≡ length (all_downs bs)
+even_flows [] h = refl
+even_flows (b ∷ bs) h = omega (arith, length-append b.downs.items (all_downs bs), length-append b.flows.items (all_flows bs), h.1, even_flows bs h.2)
+
 module _ (s : Size) (surface weights : Cells) where
   abbrev net : Net
   net = net_of s surface weights
@@ -376,10 +380,6 @@ module _ (s : Size) (surface weights : Cells) where
   pub bands_waits : (bs : List FlowBand) (first end : ℕ) → Bands first end bs → length (all_waits bs) ≡ length (all_downs bs)
   bands_waits [] first end h = refl
   bands_waits (b ∷ bs) first end h = omega (arith, length-append b.downs.items (all_downs bs), length-append b.waits.items (all_waits bs), h.0.waits_count, bands_waits bs (first + length b.downs.items) end h.1)
-
-  pub bands_flows : (bs : List FlowBand) (first end : ℕ) → Bands first end bs → length (all_flows bs) ≡ length (all_downs bs)
-  bands_flows [] first end h = refl
-  bands_flows (b ∷ bs) first end h = omega (arith, length-append b.downs.items (all_downs bs), length-append b.flows.items (all_flows bs), h.0.flows_count, bands_flows bs (first + length b.downs.items) end h.1)
 
   pub bands_even : (bs : List FlowBand) (first end : ℕ) → Bands first end bs → AreEven bs
   bands_even [] first end h = tt
@@ -419,7 +419,7 @@ module _ (s : Size) (surface weights : Cells) where
         within = omega arith;
         downs_count = omega (arith, end);
         waits_count = omega (arith, end, bands_waits bs 0 (cells_in s) h);
-        flows_count = omega (arith, end, bands_flows bs 0 (cells_in s) h);
+        flows_count = omega (arith, end, even_flows bs (bands_even bs 0 (cells_in s) h));
         pouring = bands_pour bs 0 (cells_in s) h (fresh_places net) (fresh_pouring s surface net size refl refl (λ c l. bands_small bs 0 (cells_in s) h c (omega arith) l)) (fresh_begun net 0 (cells_in s));
         started = λ z e k l. absurd (omega (arith, l));
       }

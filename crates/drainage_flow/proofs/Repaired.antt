@@ -1,10 +1,10 @@
 -- The flow that was mended and written is the flow after the edit.
 use Rattle.std.proofs.Common.{◌≡◌, ℕ, ◌+◌, ◌<◌, List, length, get_or, Some, None, ◌∙◌, ap, subst, ℤ, true}
-use Rattle.std.specs.Prelude.{filter, is_some}
-use Rattle.std.specs.List.{All, range_with_len}
+use Rattle.std.specs.List.{All}
 use Rattle.std.proofs.lemmas.List.Elements.{Contains-get_or}
-use Rattle.map_nums.specs.Grids.{Size, Cells, cell_at, cells_in, grid_by, places}
+use Rattle.map_nums.specs.Grids.{Size, Cells, cells_in, grid_by}
 use Rattle.map_nums.specs.Numbers.{is_value}
+use Rattle.map_defs.specs.Work.{op_work, first_work}
 use Rattle.layer_tiles.specs.Changes.{ChangeState}
 use Rattle.layer_tiles.specs.Patches.{PatchState}
 use Rattle.tile_work.specs.Working.{IsPatchTo}
@@ -18,7 +18,7 @@ use Rattle.drainage_flow.specs.First.{AreFlows}
 use Rattle.drainage_flow.specs.Showing.{shown_at, changes, ArePlaced}
 use Rattle.drainage_flow.specs.Whole.{AreInRange}
 use Rattle.drainage_flow.specs.Repairs.{flow_now, IsFlowRepair}
-use Rattle.drainage_flow.proofs.Ends.{grid_shown, number_in_range, next_worked, first_worked, all_narrow}
+use Rattle.drainage_flow.proofs.Ends.{grid_shown, number_in_range, next_worked, all_narrow}
 
 module _ (s : Size) (surface weights old : Cells) (puts : List (ℕ × ℤ)) (new : AreNewFlows s surface weights old puts) where
   pub placed : ArePlaced s old puts (flow_number s surface weights)
@@ -42,14 +42,13 @@ flow_repaired surface weights old changed puts patch n all new none size makes w
       in_range = none;
     }
 
-pub flow_begun : (surface weights : ChangeState) (cells : Cells) (flows : List ℤ) (patch : PatchState) (count : ℕ) → cells ≡ surface.cells → AreFlows surface.size cells weights.cells flows → AreInRange flows → patch.size ≡ surface.size → IsPatchTo surface.size None (grid_by surface.size (shown_at cells (flow_in flows))).cells patch.tiles → length cells ≡ cells_in surface.size → count ≡ length (filter (λ i. is_some (cell_at cells i)) (range_with_len 0 (length cells))) → IsFlowRepair surface weights None patch (cells_in surface.size + count)
-flow_begun surface weights cells flows patch count same flow narrow size makes len counted =
-    let a : AreFlows surface.size surface.cells weights.cells flows = subst (λ (xs : Cells). AreFlows surface.size xs weights.cells flows) same flow in
-    let e : (grid_by surface.size (shown_at cells (flow_in flows))).cells ≡ flow_now surface weights = ap (λ (xs : Cells). (grid_by surface.size (shown_at xs (flow_in flows))).cells) same ∙ grid_shown surface.size surface.cells weights.cells (flow_in flows) a.each in
-    let c : count ≡ length (filter (λ i. is_some (cell_at surface.cells i)) (places surface.size)) = counted ∙ ap (λ (m : ℕ). length (filter (λ i. is_some (cell_at cells i)) (range_with_len 0 m))) len ∙ ap (λ (xs : Cells). length (filter (λ i. is_some (cell_at xs i)) (places surface.size))) same in
+pub flow_begun : (surface weights : ChangeState) (flows : List ℤ) (patch : PatchState) (n : ℕ) → AreFlows surface.size surface.cells weights.cells flows → AreInRange flows → patch.size ≡ surface.size → IsPatchTo surface.size None (grid_by surface.size (shown_at surface.cells (flow_in flows))).cells patch.tiles → n ≡ first_work surface.size (flow_now surface weights) → IsFlowRepair surface weights None patch n
+unfolding op_work
+flow_begun surface weights flows patch n a narrow size makes worked =
+    let e : (grid_by surface.size (shown_at surface.cells (flow_in flows))).cells ≡ flow_now surface weights = grid_shown surface.size surface.cells weights.cells (flow_in flows) a.each in
     record {
       size = size;
       flow = subst (λ (xs : Cells). IsPatchTo surface.size None xs patch.tiles) e makes;
-      worked = λ t u. first_worked t u surface weights count c;
+      worked = λ t u. worked;
       in_range = all_narrow surface.size surface.cells weights.cells flows a narrow;
     }

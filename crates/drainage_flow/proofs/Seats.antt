@@ -1,5 +1,5 @@
 -- The places of bands, one after another.
-use Rattle.std.proofs.Common.{◌≡◌, ◌≢◌, ℕ, zero, suc, ◌+◌, ◌-◌, ◌<◌, ◌≤◌, Bool, true, false, cond, List, [], ◌∷◌, ◌++◌, length, get_or, set, map, take, drop, Option, Some, None, Result, Ok, Err, IfOk, refl, sym, ◌∙◌, ap, subst, arith, inl, inr, ℤ, pos, ◌+ℤ◌}
+use Rattle.std.proofs.Common.{◌≡◌, ◌≢◌, ℕ, zero, suc, ◌+◌, ◌-◌, ◌<◌, ◌≤◌, Bool, true, false, cond, List, [], ◌∷◌, ◌++◌, length, get_or, set, take, drop, Option, Some, None, Result, Ok, Err, IfOk, refl, sym, ◌∙◌, ap, subst, arith, inl, inr, ℤ, pos, ◌+ℤ◌}
 use Rattle.std.specs.Prelude.{◌⊎◌, IfSome}
 use Rattle.std.specs.List.{flat_map, sum_by}
 use Rattle.std.proofs.lemmas.List.{get_or_append_left, get_or-append_right, set-append_left, set-append_right, length-append, length-set, drop_more, drop_all, take_more, append-nil}
@@ -120,6 +120,21 @@ pub counts_count : (bs : List FlowBand) → length (counts_of bs) ≡ length bs
 counts_count [] = refl
 counts_count (b ∷ bs) = omega (arith, counts_count bs)
 
+-- ---- places of one part
+
+pub seat_low : (ns : List ℕ) (at k i : ℕ) → IsSeat ns at k i → (k < length ns) × (i ≤ at)
+seat_low [] at k i s = absurd s
+seat_low (n ∷ ns) at zero i s = (omega arith, omega (arith, s.0))
+seat_low (n ∷ ns) at (suc k) i s = let r = seat_low ns (at - n) k i s.1 in (omega (arith, r.0), omega (arith, r.1))
+
+-- so many places on, as long as the part goes
+pub seat_on : (ns : List ℕ) (at k i c : ℕ) → IsSeat ns at k i → i + c < get_or ns k 0 → IsSeat ns (at + c) k (i + c)
+seat_on [] at k i c s l = absurd s
+seat_on (n ∷ ns) at zero i c s l = (omega (arith, s.0), l)
+seat_on (n ∷ ns) at (suc k) i c s l =
+    let e : at - n + c ≡ at + c - n = omega (arith, s.0) in
+    (omega (arith, s.0), subst (λ x. IsSeat ns x k (i + c)) e (seat_on ns (at - n) k i c s.1 l))
+
 -- ---- a place passes on what it has
 
 module _ (bs : List FlowBand) (even : AreEven bs) (first at k i : ℕ) (e : FlowBand) (s : IsSeat (counts_of bs) at k i) where
@@ -134,9 +149,6 @@ module _ (bs : List FlowBand) (even : AreEven bs) (first at k i : ℕ) (e : Flow
 
   pub flow_here : flow_in (all_flows bs) at ≡ flow_in b.flows.items i
   flow_here = seat_get (λ (x : FlowBand). x.flows.items) bs at k i (pos 0) e (flows_long bs even) s
-
-  pub wait_here : wait_in (all_waits bs) at ≡ wait_in b.waits.items i
-  wait_here = seat_get (λ (x : FlowBand). x.waits.items) bs at k i 0 e (waits_long bs even) s
 
   pub passes_none : down_in b.downs.items i ≡ None → Passes first (down_in (all_downs bs) at) at (all_downs bs) (all_waits bs) (all_flows bs) (all_downs bs) (all_waits bs) (all_flows bs) None
   passes_none d = rw (down_here ∙ d) (refl, refl, refl, refl)
@@ -234,6 +246,13 @@ module _ (bs : List FlowBand) (even : AreEven bs) (first at k i : ℕ) (e : Flow
           pub passes_waits : ready ≡ false → Passes first (down_in (all_downs bs) at) at (all_downs bs) (all_waits bs) (all_flows bs) (all_downs (set bs' m b'')) (all_waits (set bs' m b'')) (all_flows (set bs' m b'')) None
           passes_waits r = subst (λ (x : Bool). Passes first (down_in (all_downs bs) at) at (all_downs bs) (all_waits bs) (all_flows bs) (all_downs (set bs' m b'')) (all_waits (set bs' m b'')) (all_flows (set bs' m b'')) (cond x (Some next) None)) r passes_to
 
+-- what a place has is found in its band
+pub flow_found : (bs : List FlowBand) (at k i : ℕ) (b : FlowBand) → AreEven bs → IsSeat (counts_of bs) at k i → b ≡ get_or bs k b → (i < length b.flows.items) × (flow_in b.flows.items i ≡ flow_in (all_flows bs) at)
+flow_found bs at k i b even s e =
+    let w = seat_within bs at k i b s in
+    let count : length b.flows.items ≡ length (get_or bs k b).downs.items = ap (λ (x : FlowBand). length x.flows.items) e ∙ (even_at bs k b even w.0).1 in
+    (omega (arith, w.1, count), ap (λ (x : FlowBand). flow_in x.flows.items i) e ∙ sym (flow_here bs even 0 at k i b s))
+
 -- ---- a place starts
 
 module _ (bs : List FlowBand) (even : AreEven bs) (at k i : ℕ) (e b' : FlowBand) (s : IsSeat (counts_of bs) at k i) (ds : b'.downs.items ≡ (get_or bs k e).downs.items) (fs : b'.flows.items ≡ (get_or bs k e).flows.items) where
@@ -297,9 +316,6 @@ last_alone bs [] b n c e = e
 last_alone bs (x ∷ rest) b n c e =
     let one : length bs ≡ 1 = sym (counts_count bs) ∙ ap length c in
     absurd (omega (arith, one, ap length e, length-append (x ∷ rest) (b ∷ [])))
-
-pub none_alone : {P : Type 0} (bs : List FlowBand) (n : ℕ) → counts_of bs ≡ n ∷ [] → bs ≡ [] → P
-none_alone bs n c e = let one : length bs ≡ 1 = sym (counts_count bs) ∙ ap length c in absurd (omega (arith, one, ap length e))
 
 pub alone : (g : Net) (r : Places) (first n end : ℕ) (bs : List FlowBand) (b : FlowBand) → bs ≡ b ∷ [] → ArePools g r first n end None (all_downs bs) (all_waits bs) (all_flows bs) → ArePools g r first n end None b.downs.items b.waits.items b.flows.items
 alone g r first n end bs b e p =

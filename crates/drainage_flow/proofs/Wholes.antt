@@ -1,6 +1,8 @@
--- A tile of a flow that is known everywhere.
-use Rattle.std.proofs.Common.{◌≡◌, ℕ, ◌<◌, List, [], ◌∷◌, ◌++◌, length, Option, Some, None, refl, sym, ◌∙◌, ap, arith, inl, ℤ, true, false}
-use Rattle.std.specs.Prelude.{not, Result}
+-- The tiles of a flow that bands have, and the first flow of theirs that is out of range.
+use Rattle.std.proofs.Common.{◌≡◌, ℕ, ◌+◌, ◌-◌, ◌<◌, ◌≤◌, true, false, List, [], ◌∷◌, ◌++◌, length, get_or, drop, Option, Some, None, refl, sym, ◌∙◌, ap, subst, arith, inl, inr, ℤ, pos}
+use Rattle.std.specs.Prelude.{not, Result, IsTrue}
+use Rattle.std.proofs.lemmas.Bool.{cases_lt}
+use Rattle.std.proofs.lemmas.List.{get_or_append_left, get_or-append_right, length-append}
 use Rattle.std.proofs.lemmas.List.FromFn.{get_or-map-range_with_len}
 use Rattle.map_nums.specs.Grids.{Size, IsSize, Cells, cell_at, cells_in, grid_by}
 use Rattle.map_nums.specs.Numbers.{is_value}
@@ -12,9 +14,12 @@ use Rattle.layer_tiles.specs.declared.kernels.KernelRefusal.{KernelRefusal}
 use Rattle.tile_frame.specs.Frames.{by_row}
 use Rattle.tile_frame.proofs.Answering.{grid_answer}
 use Rattle.tile_work.specs.Working.{IsPushed}
+use Rattle.drainage_flow.specs.FlowBands.{all_flows}
 use Rattle.drainage_flow.specs.Pouring.{flow_in}
 use Rattle.drainage_flow.specs.Showing.{shown, shown_at}
-use Rattle.drainage_flow.specs.Whole.{AreInRange}
+use Rattle.drainage_flow.specs.Whole.{AreInRange, IsFirstWide}
+use Rattle.drainage_flow.specs.declared.flow_band.FlowBand.{FlowBand}
+use Rattle.drainage_flow.proofs.FlowBands.{lists_next}
 
 no_before : {P : Type 0} → false ≡ true → P
 no_before e = absurd (cc)
@@ -36,3 +41,47 @@ never_wide s cells flows t at count r w =
     let n : is_wide (f at) ≡ false = narrow (cell_at cells at) (flow_in flows at) (r.each at (omega (arith, count, w.within))) in
     let y : is_wide (cell_at (grid_by s f).cells at) ≡ true = w.wide in
     no_before (sym n ∙ sym e ∙ y)
+
+-- ---- one list of flows behind another
+
+in_both : (xs ys : List ℤ) (c : ℕ) → AreInRange xs → (length xs ≤ c → IsTrue (is_value (flow_in ys (c - length xs)))) → IsTrue (is_value (flow_in (xs ++ ys) c))
+in_both xs ys c r h = elim (cases_lt c (length xs)) as (λ _. IsTrue (is_value (flow_in (xs ++ ys) c))) [
+  | inl l ↦ ap is_value (get_or_append_left xs ys (pos 0) c l) ∙ r.each c l
+  | inr l ↦ ap is_value (get_or-append_right xs ys (length xs) c (pos 0) refl l) ∙ h l
+]
+
+pub range_none : AreInRange []
+range_none = record { each = λ c l. absurd (omega (arith, l)) }
+
+pub range_both : (xs ys : List ℤ) → AreInRange xs → AreInRange ys → AreInRange (xs ++ ys)
+range_both xs ys a b = record { each = λ c l. in_both xs ys c a (λ m. b.each (c - length xs) (omega (arith, l, m, length-append xs ys))) }
+
+wide_before : (xs ys : List ℤ) (at : ℕ) → IsFirstWide xs at → IsFirstWide (xs ++ ys) at
+wide_before xs ys at w = record {
+  within = omega (arith, length-append xs ys, w.within);
+  wide = ap is_value (get_or_append_left xs ys (pos 0) at w.within) ∙ w.wide;
+  first = λ c l. ap is_value (get_or_append_left xs ys (pos 0) c (omega (arith, l, w.within))) ∙ w.first c l;
+}
+
+wide_behind : (xs ys : List ℤ) (at : ℕ) → AreInRange xs → IsFirstWide ys at → IsFirstWide (xs ++ ys) (length xs + at)
+wide_behind xs ys at r w =
+    let n : length xs + at - length xs ≡ at = omega arith in
+    record {
+      within = omega (arith, length-append xs ys, w.within);
+      wide = ap is_value (get_or-append_right xs ys (length xs) (length xs + at) (pos 0) refl (omega arith) ∙ ap (flow_in ys) n) ∙ w.wide;
+      first = λ c l. in_both xs ys c r (λ m. w.first (c - length xs) (omega (arith, l, m)));
+    }
+
+-- the bands before band k have the flows xs
+module _ (bs : List FlowBand) (k : ℕ) (b : FlowBand) (xs : List ℤ) (l : k < length bs) (e : b ≡ get_or bs k b) (h : xs ++ all_flows (drop k bs) ≡ all_flows bs) where
+  pub flows_next : (xs ++ b.flows.items) ++ all_flows (drop (k + 1) bs) ≡ all_flows bs
+  flows_next = lists_next (λ (x : FlowBand). x.flows.items) xs (all_flows bs) bs k b l e h
+
+  pub flows_few : length xs + length b.flows.items ≤ length (all_flows bs)
+  flows_few = omega (arith, ap length flows_next, length-append (xs ++ b.flows.items) (all_flows (drop (k + 1) bs)), length-append xs b.flows.items)
+
+  pub wide_here : (flows : List ℤ) (at first : ℕ) → flows ≡ b.flows.items → first ≡ length xs → AreInRange xs → IsFirstWide flows at → IsFirstWide (all_flows bs) (first + at)
+  wide_here flows at first same start r w =
+      let own : IsFirstWide b.flows.items at = subst (λ (ys : List ℤ). IsFirstWide ys at) same w in
+      subst (λ n. IsFirstWide (all_flows bs) (n + at)) (sym start)
+      (subst (λ (ys : List ℤ). IsFirstWide ys (length xs + at)) flows_next (wide_before (xs ++ b.flows.items) (all_flows (drop (k + 1) bs)) (length xs + at) (wide_behind xs b.flows.items at r own)))

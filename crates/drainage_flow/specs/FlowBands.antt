@@ -1,5 +1,5 @@
 -- The flow within bands of rows, which later pass on to one another.
-use Rattle.std.specs.Prelude.{◌≡◌, ◌*◌, ℕ, zero, suc, ◌+◌, ◌-◌, ◌<◌, ◌≤◌, ℤ, pos, ◌+ℤ◌, ◌≤ℤ◌, List, [], ◌∷◌, length, map, Option, None}
+use Rattle.std.specs.Prelude.{◌≡◌, ℕ, zero, suc, ◌+◌, ◌-◌, ◌<◌, ◌≤◌, ℤ, pos, ◌+ℤ◌, ◌≤ℤ◌, List, [], ◌∷◌, length, map, Option, None}
 use Rattle.std.specs.List.{flat_map}
 use Rattle.map_nums.specs.Grids.{Size, Cells}
 use Rattle.drainage_flow.specs.Nets.{Net, inflow}

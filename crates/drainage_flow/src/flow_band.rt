@@ -27,6 +27,14 @@ impl FlowBand {
         self.downs[at]
     }
 
+    /// What a place has.
+    pub(crate) fn flow(&self, at: usize) -> i64
+        requires { at < length self.now.flows.items }
+        ensures { result ≡ flow_in self.now.flows.items at }
+    {
+        self.flows[at]
+    }
+
     /// A place passes on what it has.
     pub(crate) fn leave(&mut self, at: usize) -> i64
         requires down { at < length self.old.downs.items }

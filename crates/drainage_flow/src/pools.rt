@@ -4,12 +4,14 @@
 //! on what they have, and those that drain to another band's rows are ready to.
 ghost use Rattle.std.specs.Prelude.{◌≡◌, ℕ, pos, ◌+◌, ◌-◌, ◌*◌, ◌<◌, ◌≤◌, ◌∷◌, [], length, None, IfOk};
 ghost use Rattle.map_nums.specs.Grids.{cells_in};
+ghost use Rattle.map_defs.specs.Flow.{flow_grid};
 ghost use Rattle.drainage_flow.specs.Nets.{Net, inflow};
 ghost use Rattle.drainage_flow.specs.FlowNets.{net_of};
 ghost use Rattle.drainage_flow.specs.Pouring.{wait_in, Places, ArePools};
 ghost use Rattle.drainage_flow.specs.Bands.{AreDowns};
 ghost use Rattle.drainage_flow.specs.First.{AreFlows};
-ghost use Rattle.drainage_flow.specs.FlowBands.{IsFlowBand, AreFlowBands, AreEven, all_flows};
+ghost use Rattle.drainage_flow.specs.FlowBands.{IsFlowBand, AreFlowBands, AreEven, all_flows, counts_of};
+ghost use Rattle.drainage_flow.specs.Whole.{flow_cells};
 
 use crate::bands::downs_between;
 use crate::first::brought_by;
@@ -106,28 +108,13 @@ fn poured(alloc: Global, band: FlowBand, first: u32) -> Result<FlowBand, NoMemor
     Ok(band)
 }
 
-/// The flows of all bands.
-fn joined(alloc: Global, extent: Extent, bands: &[FlowBand]) -> Result<Vec<i64>, NoMemory>
-    ensures { IfOk result (λ flows. flows.items ≡ all_flows bands.now) }
-{
-    let mut flows = Vec::with_capacity(alloc, extent.cells() as usize)?;
-    for band in bands {
-        flows.extend_from_slice(&band.flows)?;
-    }
-    Ok(flows)
-}
-
-/// The flow at each place of a map, 0 where it is null, from that of its bands, one after another. What these hold is used up.
-pub(crate) fn flows_of_bands(
-    alloc: Global,
-    extent: Extent,
-    _surface: &[Cell],
-    _weights: &[Cell],
-    bands: &mut [FlowBand],
-) -> Result<Vec<i64>, NoMemory>
+/// The flow of a map, from that of its bands, one after another, which have it from then on.
+pub fn pour(extent: Extent, _surface: &[Cell], _weights: &[Cell], bands: &mut [FlowBand])
     requires bands { AreFlowBands extent _surface.now _weights.now 0 (cells_in extent) bands.old }
-    ensures { IfOk result (λ flows. AreFlows extent _surface.now _weights.now flows.items) }
+    ensures even { AreEven bands.new }
+    ensures counts { counts_of bands.new ≡ counts_of bands.old }
+    ensures flows { AreFlows extent _surface.now _weights.now (all_flows bands.new) }
+    ensures cells { flow_cells extent _surface.now bands.new ≡ (flow_grid extent _surface.now _weights.now).cells }
 {
     run_all(bands, 0, extent.cells() as usize);
-    joined(alloc, extent, bands)
 }

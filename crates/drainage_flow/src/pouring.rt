@@ -23,7 +23,7 @@ fn place_in(first: u32, count: usize, at: u32) -> Option<u32>
 }
 
 /// The band that has a place of all, and where in it.
-fn seat(bands: &[FlowBand], at: u32) -> (usize, usize)
+pub(crate) fn seat(bands: &[FlowBand], at: u32) -> (usize, usize)
     requires { at < length (all_downs bands.now) }
     ensures seat { IsSeat (counts_of bands.now) at result.0 result.1 }
     ensures band { result.0 < length bands.now }

@@ -2,15 +2,18 @@
 ghost use Rattle.std.specs.Prelude.{◌≡◌, ◌⊎◌, ◌<◌, ◌≤◌, ◌+◌, ◌*◌, ℕ, ℤ, length, filter, Some, None, IfOk, IfErr, IsSome, IsTrue};
 ghost use Rattle.std.specs.List.{All, Contains};
 ghost use Rattle.std.specs.Option.{option_copied};
-ghost use Rattle.map_nums.specs.Grids.{cells_in, cell_at, grid_by};
+ghost use Rattle.map_nums.specs.Grids.{Cells, cells_in, cell_at, grid_by};
 ghost use Rattle.map_nums.specs.Numbers.{is_value};
+ghost use Rattle.map_defs.specs.Flow.{flow_grid};
 ghost use Rattle.map_defs.specs.Ops.{Term};
+ghost use Rattle.map_defs.specs.Work.{first_work};
 ghost use Rattle.layer_tiles.specs.Tiles.{tiles_in};
 ghost use Rattle.layer_tiles.specs.Changes.{ChangeState};
 ghost use Rattle.layer_tiles.specs.Tallies.{RisesBy};
 ghost use Rattle.layer_tiles.specs.ChangeFacts.{HoldsNoUnchanged};
 ghost use Rattle.tile_work.specs.Working.{before_of, IsPatchTo};
-ghost use Rattle.drainage_flow.specs.FlowBands.{AreFlowBands};
+ghost use Rattle.drainage_flow.specs.First.{AreFlows};
+ghost use Rattle.drainage_flow.specs.FlowBands.{AreEven, all_flows};
 ghost use Rattle.drainage_flow.specs.Operands.{HasCells};
 ghost use Rattle.drainage_flow.specs.Mending.{now_at};
 ghost use Rattle.drainage_flow.specs.Settling.{number_at};
@@ -18,7 +21,7 @@ ghost use Rattle.drainage_flow.specs.Showing.{shown_at, changes, changed_count, 
 ghost use Rattle.drainage_flow.specs.Repairs.{flow_damage, flow_work, IsFlowBefore, IsFlowRepair, IsFlowRefusal};
 
 use crate::flow_band::FlowBand;
-use crate::pools::{flow_of_band, flows_of_bands};
+use crate::pools::{flow_of_band, pour};
 use crate::ranges::overflow;
 use crate::repair::mend;
 use crate::showing::{show_flows, show_grounds};
@@ -62,39 +65,6 @@ pub fn flow_repair<M: Tally>(
     }
 }
 
-/// The flow of a map that had none, from that within its bands, top to bottom. What these hold is used up.
-///
-/// # Errors
-///
-/// `Overflow` at the least cell whose flow is out of range, exactly where there is one; `NoMemory`.
-pub fn flow_of_bands(
-    alloc: Global,
-    extent: Extent,
-    surface: &[Cell],
-    weights: &[Cell],
-    bands: &mut [FlowBand],
-) -> Result<Repair, KernelRefusal>
-    requires surface { length surface.now ≡ cells_in extent }
-    requires weights { length weights.now ≡ cells_in extent }
-    requires bands { AreFlowBands extent surface.now weights.now 0 (cells_in extent) bands.old }
-    ensures repair { (s w : ChangeState) → HasCells extent surface.now s → HasCells extent weights.now w → IfOk result (λ r. IsFlowRepair s w None r.patch r.worked) }
-    ensures refusal { (s w : ChangeState) → HasCells extent surface.now s → HasCells extent weights.now w → IfErr result (IsFlowRefusal s w) }
-{
-    let Ok(flows) = flows_of_bands(alloc, extent, surface, weights, bands) else {
-        return Err(KernelRefusal::NoMemory);
-    };
-    if let Some(at) = first_wide(&flows) {
-        return Err(KernelRefusal::Overflow(at));
-    }
-    match whole_patch(alloc, extent, surface, &flows) {
-        Ok(patch) => Ok(Repair {
-            patch,
-            worked: extent.cells() as u64 + count_some(surface),
-        }),
-        Err(NoMemory) => Err(KernelRefusal::NoMemory),
-    }
-}
-
 /// The flow of a map that had none. Two looks at each tile.
 fn first_flow<M: Tally>(
     alloc: Global,
@@ -119,7 +89,42 @@ fn first_flow<M: Tally>(
         return Err(KernelRefusal::NoMemory);
     };
     let mut bands = [band];
-    flow_of_bands(alloc, extent, &heights, &loads, &mut bands)
+    pour(extent, &heights, &loads, &mut bands);
+    whole_flow(alloc, extent, &heights, &loads, &bands)
+}
+
+/// The tiles of the flow of a map that had none, which bands have, and the work; or the first cell that is out of range.
+fn whole_flow(
+    alloc: Global,
+    extent: Extent,
+    surface: &[Cell],
+    _weights: &[Cell],
+    bands: &[FlowBand],
+) -> Result<Repair, KernelRefusal>
+    requires surface { length surface.now ≡ cells_in extent }
+    requires even { AreEven bands.now }
+    requires flows { AreFlows extent surface.now _weights.now (all_flows bands.now) }
+    ensures repair { (s w : ChangeState) → HasCells extent surface.now s → HasCells extent _weights.now w → IfOk result (λ r. IsFlowRepair s w None r.patch r.worked) }
+    ensures refusal { (s w : ChangeState) → HasCells extent surface.now s → HasCells extent _weights.now w → IfErr result (IsFlowRefusal s w) }
+{
+    if let Some(at) = first_wide(bands) {
+        return Err(KernelRefusal::Overflow(at));
+    }
+    match whole_patch(alloc, extent, surface, bands) {
+        Ok(patch) => Ok(Repair {
+            patch,
+            worked: first_flow_work(extent, surface),
+        }),
+        Err(NoMemory) => Err(KernelRefusal::NoMemory),
+    }
+}
+
+/// The units of work of the flow over a surface where there was none.
+pub fn first_flow_work(extent: Extent, surface: &[Cell]) -> u64
+    requires { length surface.now ≡ cells_in extent }
+    ensures { (weights : Cells) → result ≡ first_work extent (flow_grid extent surface.now weights).cells }
+{
+    extent.cells() as u64 + count_some(surface)
 }
 
 /// The flow after an edit, from the flow before it.

@@ -139,68 +139,150 @@ module _ (g : GroundState) (first end : ℕ) (some_column : 0 < g.size.columns) 
       let r = div-add-mod' i w in
       (omega (arith, r, mul-le first w (i / w) w low (omega arith)), omega (arith, ends, r, mod_below i w some_column, mul-le (i / w + 1) w end w (omega (arith, high)) (omega arith)))
 
-  -- ---- the costs of a band below those of the rows above
+-- ---- the costs of a band below those of the rows above
 
-  module _ (costs band : List ℕ) (entries entries' : List (ℕ × ℕ)) (now : AreCostsTo g first costs entries) (count : length band ≡ size) (are_least : (i : ℕ) → IsLeastIn (net_of h) i (costs_of h band i)) (kept : IsKept entries entries') (seams : (c : ℕ) → IsAtSeam g.size first end c → costs_of g (costs ++ band) c < suc g.limit → Contains entries' (costs_of g (costs ++ band) c, c)) where
+-- of a list of costs from row `from` on, those of the rows `first` to before `end`
+abbrev pub own_rows : ℕ → ℕ → ℕ → ℕ → List ℕ → List ℕ
+own_rows w first end from wide = take ((end - first) * w) (drop ((first - from) * w) wide)
+
+-- the band's rows are `first` to before `end`; its costs were found with the rows `from` to before `until`
+module _ (g : GroundState) (first end from until : ℕ) (some_column : 0 < g.size.columns) (some : first < end) (before : from ≤ first) (after : end ≤ until) (within : until ≤ g.size.rows) where
+  abbrev w : ℕ
+  w = g.size.columns
+
+  abbrev taken : GroundState
+  taken = band_of g from until
+
+  abbrev top : ℕ
+  top = suc g.limit
+
+  -- the places above the band, and in it, and those taken in above it
+  abbrev up : ℕ
+  up = first * w
+
+  abbrev many : ℕ
+  many = (end - first) * w
+
+  abbrev skipped : ℕ
+  skipped = (first - from) * w
+
+  more : from < until
+  more = omega (arith, some, before, after)
+
+  past : up + many ≡ end * w
+  past = ends g first end some_column some (omega (arith, after, within))
+
+  moved : (k : ℕ) → from * w + (skipped + k) ≡ up + k
+  moved k = let q : from + (first - from) ≡ first = omega (arith, before) in omega (arith, ap (λ n. n * w) q)
+
+  room : skipped + many ≤ (until - from) * w
+  room = let q : first - from + (end - first) + (until - end) ≡ until - from = omega (arith, some, before, after) in omega (arith, ap (λ n. n * w) q)
+
+  fits : (k : ℕ) → k < many → skipped + k < (until - from) * w
+  fits k l = omega (arith, l, room)
+
+  -- the band's own costs
+  abbrev own : List ℕ → List ℕ
+  own = own_rows w first end from
+
+  pub own_count : (wide : List ℕ) → length wide ≡ (until - from) * w → length (own wide) ≡ many
+  own_count wide n = length-take-le many (drop skipped wide) (omega (arith, length-drop skipped wide, n, room))
+
+  module _ (above rows columns : ℕ) (skips : from + above ≡ first) (has : first + rows ≡ end) (width : columns ≡ w) where
+    skips_so : above * columns ≡ skipped
+    skips_so = let e : above ≡ first - from = omega (arith, skips) in ap (λ n. n * columns) e ∙ ap (λ n. (first - from) * n) width
+
+    has_so : rows * columns ≡ many
+    has_so = let e : rows ≡ end - first = omega (arith, has) in ap (λ n. n * columns) e ∙ ap (λ n. (end - first) * n) width
+
+    pub own_ends : above * columns + rows * columns ≤ (until - from) * w
+    own_ends = omega (arith, skips_so, has_so, room)
+
+    pub own_cut : (wide : List ℕ) → take (above * columns + rows * columns - above * columns) (drop (above * columns) wide) ≡ own wide
+    own_cut wide =
+        let e : above * columns + rows * columns - above * columns ≡ many = omega (arith, has_so) in
+        ap (λ n. take n (drop (above * columns) wide)) e ∙ ap (λ n. take many (drop n wide)) skips_so
+
+  own_at : (wide : List ℕ) (k : ℕ) → k < many → costs_of g (own wide) k ≡ costs_of g wide (skipped + k)
+  own_at wide k l = get_or-take many (drop skipped wide) k top l ∙ get_or-drop skipped wide k top
+
+  module _ (costs wide : List ℕ) (entries entries' : List (ℕ × ℕ)) (now : AreCostsTo g first costs entries) (count : length wide ≡ (until - from) * w) (are_least : (i : ℕ) → IsLeastIn (net_of taken) i (costs_of taken wide i)) (kept : IsKept entries entries') (seams : (c : ℕ) → IsAtSeam g.size first end c → costs_of g (costs ++ own wide) c < suc g.limit → Contains entries' (costs_of g (costs ++ own wide) c, c)) where
     abbrev d : ℕ → ℕ
     d = costs_of g costs
 
     abbrev d' : ℕ → ℕ
-    d' = costs_of g (costs ++ band)
+    d' = costs_of g (costs ++ own wide)
 
-    by_part : (P : ℕ → Type 0) → ((i : ℕ) → i < above → P i) → ((k : ℕ) → P (above + k)) → (i : ℕ) → P i
-    by_part P a b i = elim (cases_lt i above) as (λ _. P i) [ inl l ↦ a i l | inr l ↦ (let q : above + (i - above) ≡ i = omega (arith, l) in subst P q (b (i - above))) ]
+    by_part : (P : ℕ → Type 0) → ((i : ℕ) → i < up → P i) → ((k : ℕ) → k < many → P (up + k)) → ((i : ℕ) → up + many ≤ i → P i) → (i : ℕ) → P i
+    by_part P a b o i = elim (cases_lt i up) as (λ _. P i) [
+      | inl l ↦ a i l
+      | inr l ↦ (let q : up + (i - up) ≡ i = omega (arith, l) in elim (cases_lt (i - up) many) as (λ _. P i) [
+        | inl m ↦ subst P q (b (i - up) m)
+        | inr m ↦ o i (omega (arith, l, m))
+      ])
+    ]
 
-    upper : (i : ℕ) → i < above → d' i ≡ d i
-    upper i l = get_or_append_left costs band (suc g.limit) i (omega (arith, l, now.count))
+    upper : (i : ℕ) → i < up → d' i ≡ d i
+    upper i l = get_or_append_left costs (own wide) top i (omega (arith, l, now.count))
 
-    lower : (k : ℕ) → d' (above + k) ≡ costs_of h band k
-    lower k = let e : above + k - above ≡ k = omega arith in get_or-append_right costs band above (above + k) (suc g.limit) now.count (omega arith) ∙ ap (costs_of h band) e
+    lower : (k : ℕ) → k < many → d' (up + k) ≡ costs_of taken wide (skipped + k)
+    lower k l = let e : up + k - up ≡ k = omega arith in get_or-append_right costs (own wide) up (up + k) top now.count (omega arith) ∙ ap (costs_of g (own wide)) e ∙ own_at wide k l
 
-    most : (i : ℕ) → d' i ≤ suc g.limit
-    most = by_part (λ i. d' i ≤ suc g.limit) (λ i l. omega (arith, upper i l, now.filling.most i)) (λ k. omega (arith, lower k, (are_least k).capped))
+    outside : (i : ℕ) → up + many ≤ i → d' i ≡ top
+    outside i l = cost_past g (costs ++ own wide) i (omega (arith, l, length-append costs (own wide), now.count, own_count wide count))
+
+    most : (i : ℕ) → d' i ≤ top
+    most = by_part (λ i. d' i ≤ top) (λ i l. omega (arith, upper i l, now.filling.most i)) (λ k l. omega (arith, lower k l, (are_least (skipped + k)).capped)) (λ i l. omega (arith, outside i l))
 
     falls : (i : ℕ) → d' i ≤ d i
-    falls i = elim (cases_lt i above) as (λ _. d' i ≤ d i) [ inl l ↦ omega (arith, upper i l) | inr l ↦ omega (arith, most i, cost_past g costs i (omega (arith, l, now.count))) ]
+    falls i = elim (cases_lt i up) as (λ _. d' i ≤ d i) [ inl l ↦ omega (arith, upper i l) | inr l ↦ omega (arith, most i, cost_past g costs i (omega (arith, l, now.count))) ]
 
-    reached : (i : ℕ) → d' i < suc g.limit → (js : List ℕ) × (cost_in (net_of g) i js ≡ d' i)
-    reached = by_part (λ i. d' i < suc g.limit → (js : List ℕ) × (cost_in (net_of g) i js ≡ d' i))
+    reached : (i : ℕ) → d' i < top → (js : List ℕ) × (cost_in (net_of g) i js ≡ d' i)
+    reached = by_part (λ i. d' i < top → (js : List ℕ) × (cost_in (net_of g) i js ≡ d' i))
         (λ i l m. let r = now.filling.reached i (omega (arith, upper i l, m)) in (r.0, r.1 ∙ sym (upper i l)))
-        (λ k m. let r = (are_least k).reached (omega (arith, lower k, m)) in let p = path_kept k r.0 (omega (arith, r.2, lower k, m)) in (p.0, p.1 ∙ r.2 ∙ sym (lower k)))
+        (λ k l m. let r = (are_least (skipped + k)).reached (omega (arith, lower k l, m)) in
+        let p = path_kept g from until some_column more within (skipped + k) r.0 (omega (arith, r.2, lower k l, m)) in
+        (p.0, ap (λ i. cost_in (net_of g) i p.0) (sym (moved k)) ∙ p.1 ∙ r.2 ∙ sym (lower k l)))
+        (λ i l m. absurd (omega (arith, outside i l, m)))
 
     -- a step within the band was counted in its costs
-    stepped : (k i : ℕ) → d' (above + k) < suc g.limit → IsJoined h k i → d' (above + i) ≤ d' (above + k) + step_of g (above + k) (above + i)
-    stepped k i m q = let r = (are_least k).reached (omega (arith, lower k, m)) in omega (arith, lower k, lower i, r.2, (are_least i).least (k ∷ r.0), step_kept k i q)
+    stepped : (k i : ℕ) → k < many → i < many → d' (up + k) < top → IsJoined taken (skipped + k) (skipped + i) → d' (up + i) ≤ d' (up + k) + step_of g (up + k) (up + i)
+    stepped k i l n m q =
+        let r = (are_least (skipped + k)).reached (omega (arith, lower k l, m)) in
+        let e : step_of g (up + k) (up + i) ≡ step_of taken (skipped + k) (skipped + i) = ap (λ x. step_of g x (up + i)) (sym (moved k)) ∙ ap (step_of g (from * w + (skipped + k))) (sym (moved i)) ∙ step_kept g from until some_column more within (skipped + k) (skipped + i) q in
+        omega (arith, lower k l, lower i n, r.2, (are_least (skipped + i)).least ((skipped + k) ∷ r.0), e)
 
-    relaxed : (k : ℕ) → (IsAtSeam g.size first end (above + k) → ⊥) → d' (above + k) < suc g.limit → (i : ℕ) → IsRelaxed (net_of g) d' (above + k) i
-    relaxed k apart m i s =
-        let l : k < size = elim (cases_lt k size) as (λ _. k < size) [ inl x ↦ x | inr x ↦ absurd (omega (arith, m, lower k, cost_past h band k (omega (arith, x, count)))) ] in
-        let q = leads g (above + k) i s in
-        let n = leads_inside k i l apart q in
-        let e : above + (i - above) ≡ i = omega (arith, n.0) in
-        let P : ℕ → Type 0 = λ x. d' x ≤ d' (above + k) + step_of g (above + k) x in
-        let Q : ℕ → Type 0 = IsJoined g (above + k) in
-        subst P e (stepped k (i - above) m (joined_down k (i - above) l (omega (arith, n.0, n.1)) (subst Q (sym e) q)))
+    relaxed : (k : ℕ) → k < many → (IsAtSeam g.size first end (up + k) → ⊥) → d' (up + k) < top → (i : ℕ) → IsRelaxed (net_of g) d' (up + k) i
+    relaxed k l apart m i s =
+        let q = leads g (up + k) i s in
+        let n = leads_inside g first end some_column some (omega (arith, after, within)) k i l apart q in
+        let e : up + (i - up) ≡ i = omega (arith, n.0) in
+        let b : i - up < many = omega (arith, n.0, n.1) in
+        let P : ℕ → Type 0 = λ x. d' x ≤ d' (up + k) + step_of g (up + k) x in
+        let j : IsJoined g (from * w + (skipped + k)) (from * w + (skipped + (i - up))) = subst (λ x. IsJoined g x (from * w + (skipped + (i - up)))) (sym (moved k)) (subst (IsJoined g (up + k)) (sym (moved (i - up) ∙ e)) q) in
+        subst P e (stepped k (i - up) l b m (joined_down g from until some_column more within (skipped + k) (skipped + (i - up)) (fits k l) (fits (i - up) b) j))
 
-    tried : (c : ℕ) → d' c < suc g.limit → Contains entries' (d' c, c) ⊎ ((i : ℕ) → IsRelaxed (net_of g) d' c i)
-    tried = by_part (λ c. d' c < suc g.limit → Contains entries' (d' c, c) ⊎ ((i : ℕ) → IsRelaxed (net_of g) d' c i))
+    tried : (c : ℕ) → d' c < top → Contains entries' (d' c, c) ⊎ ((i : ℕ) → IsRelaxed (net_of g) d' c i)
+    tried = by_part (λ c. d' c < top → Contains entries' (d' c, c) ⊎ ((i : ℕ) → IsRelaxed (net_of g) d' c i))
         (λ c l m. elim (now.filling.tried c (omega (arith, upper c l, m))) as (λ _. Contains entries' (d' c, c) ⊎ ((i : ℕ) → IsRelaxed (net_of g) d' c i)) [
           | inl t ↦ inl (let P : ℕ → Type 0 = λ x. Contains entries' (x, c) in subst P (sym (upper c l)) (kept (d c, c) t))
           | inr r ↦ inr (λ i. relaxed_still (net_of g) d d' c i falls (upper c l) (r i))
         ])
-        (λ k m. elim (seam_or g.size first end (above + k)) as (λ _. Contains entries' (d' (above + k), above + k) ⊎ ((i : ℕ) → IsRelaxed (net_of g) d' (above + k) i)) [
-          | inl s ↦ inl (seams (above + k) s m)
-          | inr s ↦ inr (relaxed k s m)
+        (λ k l m. elim (seam_or g.size first end (up + k)) as (λ _. Contains entries' (d' (up + k), up + k) ⊎ ((i : ℕ) → IsRelaxed (net_of g) d' (up + k) i)) [
+          | inl s ↦ inl (seams (up + k) s m)
+          | inr s ↦ inr (relaxed k l s m)
         ])
+        (λ c l m. absurd (omega (arith, outside c l, m)))
 
-    begun : (i : ℕ) → i < end * g.size.columns → d' i ≤ base_of g i
-    begun = by_part (λ i. i < end * g.size.columns → d' i ≤ base_of g i)
+    begun : (i : ℕ) → i < end * w → d' i ≤ base_of g i
+    begun = by_part (λ i. i < end * w → d' i ≤ base_of g i)
         (λ i l m. omega (arith, upper i l, now.begun i l))
-        (λ k m. omega (arith, lower k, (are_least k).least [], base_kept k (omega (arith, m, ends))))
+        (λ k l m. let b = base_kept g from until some_column more within (skipped + k) (fits k l) in omega (arith, lower k l, (are_least (skipped + k)).least [], b, ap (base_of g) (moved k)))
+        (λ i l m. absurd (omega (arith, l, m, past)))
 
-    pub joined : AreCostsTo g end (costs ++ band) entries'
+    pub joined : AreCostsTo g end (costs ++ own wide) entries'
     joined = record {
-      count = omega (arith, length-append costs band, now.count, count, ends);
+      count = omega (arith, length-append costs (own wide), now.count, own_count wide count, past);
       filling = record { most = most; reached = reached; tried = tried };
       begun = begun;
     }

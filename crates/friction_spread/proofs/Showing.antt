@@ -11,6 +11,8 @@ use Rattle.map_nums.specs.Numbers.{is_value}
 use Rattle.map_nums.specs.Answers.{is_wide}
 use Rattle.map_defs.specs.Nets.{IsLeastIn}
 use Rattle.map_defs.specs.Rounds.{cost_cell}
+use Rattle.map_defs.specs.Spread.{IsSpread}
+use Rattle.map_defs.specs.Work.{first_work}
 use Rattle.layer_tiles.specs.Tiles.{Block, tiles_in, tile_width}
 use Rattle.layer_tiles.specs.Answers.{IsTileAnswer, IsLeastWide}
 use Rattle.layer_tiles.specs.PlaceByPlace.{cell_in, IsPlacesAnswer}
@@ -21,10 +23,12 @@ use Rattle.tile_work.specs.Working.{IsPushed}
 use Rattle.least_costs.specs.Ranks.{changed}
 use Rattle.friction_spread.specs.Costs.{GroundState, cost_of, values, AreCosts, net_of}
 use Rattle.friction_spread.specs.Flat.{costs_of}
+use Rattle.friction_spread.specs.Lists.{IsCostList, list_cells}
 use Rattle.friction_spread.specs.Shown.{shown_at, shown_cells}
+use Rattle.friction_spread.specs.declared.lists.CostList.{CostList}
 use Rattle.friction_spread.proofs.Grounds.{cost_back}
 use Rattle.friction_spread.proofs.Flats.{cost_read, changed_alike}
-use Rattle.friction_spread.proofs.Results.{first_moved}
+use Rattle.friction_spread.proofs.Results.{first_moved, spread_from}
 
 no_before : {P : Type 0} → false ≡ true → P
 no_before e = absurd (cc)
@@ -81,6 +85,9 @@ module _ (g : GroundState) (costs : List ℕ) (count : length costs ≡ cells_in
   pub shown_least : (i : ℕ) → IsLeastIn (net_of g) i (values g.limit cells i)
   shown_least i = let P : ℕ → Type 0 = IsLeastIn (net_of g) i in subst P (sym (shown_values i)) (least i)
 
+  pub shown_spread : IsSpread g.size g.sources g.friction g.limit cells
+  shown_spread = spread_from g cells (shown_count g.size g.limit costs) shown_costs shown_least
+
   pub costs_most : (i : ℕ) → get_or costs i 0 ≤ suc g.limit
   costs_most i = elim (cases_lt i (length costs)) as (λ _. get_or costs i 0 ≤ suc g.limit) [ inl l ↦ omega (arith, cost_read g costs i l, (least i).capped) | inr l ↦ omega (arith, get_or_past costs i 0 l) ]
 
@@ -90,3 +97,14 @@ module _ (g : GroundState) (costs : List ℕ) (count : length costs ≡ cells_in
       let at_limit : changed (values limit []) (λ i. get_or costs i (suc limit)) (length costs) ≡ changed (values g.limit []) (costs_of g costs) (length costs) = ap (λ (k : ℕ). changed (values k []) (λ i. get_or costs i (suc k)) (length costs)) e in
       let all : changed (values g.limit []) (costs_of g costs) (length costs) ≡ changed (values g.limit []) (costs_of g costs) (cells_in g.size) = ap (changed (values g.limit []) (costs_of g costs)) count in
       m ∙ at_limit ∙ all ∙ changed_alike (values g.limit []) (costs_of g costs) (values g.limit cells) (cells_in g.size) (λ j l. sym (shown_values j)) ∙ first_moved g cells shown_costs
+
+  pub list_is : (list : CostList) → list.limit ≡ g.limit → g.limit ≤ 2000000000 → list.costs.items ≡ costs → list.worked ≡ first_work g.size cells → IsCostList g list
+  list_is list limit low same work =
+      let e : list_cells g.size list ≡ cells = ap (λ n. shown_cells g.size n list.costs.items) limit ∙ ap (shown_cells g.size g.limit) same in
+      let P : Cells → Type 0 = IsSpread g.size g.sources g.friction g.limit in
+      record {
+        limit = omega (arith, limit, low);
+        count = ap length same ∙ count;
+        spread = subst P (sym e) shown_spread;
+        worked = work ∙ ap (first_work g.size) (sym e);
+      }

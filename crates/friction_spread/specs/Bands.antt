@@ -1,4 +1,4 @@
--- Bands of rows of a map: grounds of their own, and the least costs by paths that stay in them.
+-- Bands of rows of a map: grounds of their own, and the least costs in them.
 use Rattle.std.specs.Prelude.{◌≡◌, ℕ, ◌+◌, ◌-◌, ◌*◌, ◌<◌, ◌≤◌, List, [], ◌∷◌, length, take, drop, ℤ, Option}
 use Rattle.map_nums.specs.Grids.{Size, Cells, cells_in}
 use Rattle.map_defs.specs.Nets.{IsLeastIn}
@@ -23,13 +23,17 @@ band_of g first end = record {
   limit = g.limit;
 }
 
--- the band has these rows and their least costs, by paths that stay in them
+-- the band has these rows; its costs are the least by paths that stay in them and in rows that were taken in beside them, `from` to before `until`
 pub record IsCostBand (g : GroundState) (first end : ℕ) (band : CostBand) : Type 0 where
   pub some : first < end
-  pub within : end ≤ g.size.rows
   pub rows : first + band.rows ≡ end
-  pub count : length band.costs.items ≡ cells_in (band_of g first end).size
-  pub least : (i : ℕ) → IsLeastIn (net_of (band_of g first end)) i (costs_of (band_of g first end) band.costs.items i)
+  pub from : ℕ
+  pub until : ℕ
+  pub above : from + band.above ≡ first
+  pub below : end ≤ until
+  pub within : until ≤ g.size.rows
+  pub count : length band.costs.items ≡ cells_in (band_of g from until).size
+  pub least : (i : ℕ) → IsLeastIn (net_of (band_of g from until)) i (costs_of (band_of g from until) band.costs.items i)
 
 -- bands one below the other, from a row to the last one
 abbrev pub AreCostBands : GroundState → ℕ → List CostBand → Type 0

@@ -4,6 +4,7 @@ pub mod Rows
 pub mod Flat
 pub mod Bands
 pub mod Joins
+pub mod Lists
 pub mod Shown
 pub mod Copied
 pub mod Near

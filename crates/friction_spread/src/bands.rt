@@ -1,38 +1,41 @@
 //! Bands of rows of a map: the least costs within each, and those of the map from them.
 //!
-//! A path that stays in a band costs the same in the map. So the costs of the bands, one below the other, are what some paths cost, and a place
+//! A path that stays in some rows costs the same in the map. So the costs of the bands, one below the other, are what some paths cost, and a place
 //! that lies in no row beside another band has its steps tried: they lead to places of its band. The others come into the queue.
-ghost use Rattle.std.specs.Prelude.{◌≡◌, ◌<◌, ◌≤◌, ◌≤ℤ◌, ◌+◌, ◌*◌, ◌⊎◌, ℕ, suc, pos, nat_abs, true, [], length, IfOk, OnOk};
+ghost use Rattle.std.specs.Prelude.{◌≡◌, ◌<◌, ◌≤◌, ◌≤ℤ◌, ◌+◌, ◌*◌, ℕ, suc, pos, nat_abs, true, length, IfOk, OnOk};
 ghost use Rattle.std.specs.List.{Contains};
 ghost use Rattle.map_nums.specs.Grids.{cells_in, row_of};
 ghost use Rattle.map_defs.specs.Nets.{IsLeastIn};
-ghost use Rattle.map_defs.specs.Spread.{IsSpread};
-ghost use Rattle.map_defs.specs.Work.{first_work};
-ghost use Rattle.layer_tiles.specs.Patches.{patched, HoldsAll};
 ghost use Rattle.least_costs.specs.Queue.{IsKept};
 ghost use Rattle.friction_spread.specs.Costs.{net_of};
 ghost use Rattle.friction_spread.specs.Flat.{costs_of};
 ghost use Rattle.friction_spread.specs.Bands.{ground_of, IsCostBand, AreCostBands};
 ghost use Rattle.friction_spread.specs.Joins.{AreCostsTo, IsAtSeam};
+ghost use Rattle.friction_spread.specs.Lists.{IsCostList};
 
 use crate::deals::offer_cost;
 use crate::fills::fill;
-use crate::first::{Repair, costs_in, first_repair};
+use crate::first::{costs_in, work_of};
 use crate::flat::FlatGround;
 use crate::ground::limit_of;
+use crate::lists::CostList;
+use crate::reaches::{rows_above, rows_below};
 use layer_tiles::{Cell, Extent, NoMemory, Value};
 use least_costs::Queue;
 use std::alloc::Global;
 
-/// The least costs within some rows of a map, by paths that stay in these rows.
+/// The least costs within some rows of a map, by paths that stay in these rows and those that were taken in beside them.
 #[derive(Drop)]
 pub struct CostBand {
+    /// How many rows above were taken in.
+    above: u32,
     rows: u32,
+    /// Of all rows, those taken in too.
     costs: Vec<u32>,
 }
 
-/// The least costs within the rows `first` to before `end` of a map, whose sources and frictions are given whole. The limit is the
-/// greatest cost that counts, of 0 to 2,000,000,000.
+/// The least costs within the rows `first` to before `end` of a map, whose sources and frictions are given whole; rows beside them may
+/// be taken in. The limit is the greatest cost that counts, of 0 to 2,000,000,000.
 ///
 /// # Errors
 ///
@@ -53,8 +56,11 @@ pub fn costs_of_band(
     ensures { IfOk result (IsCostBand (ground_of extent sources.now friction.now (nat_abs limit)) first end) }
 {
     let whole = FlatGround::new(extent, sources, friction, limit_of(limit));
-    let costs = costs_in(alloc, &whole.band(first, end))?;
+    let above = rows_above(&whole, first, end);
+    let below = rows_below(&whole, first, end);
+    let costs = costs_in(alloc, &whole.band(first - above, end + below))?;
     Ok(CostBand {
+        above,
         rows: end - first,
         costs,
     })
@@ -72,19 +78,21 @@ pub fn spread_of_bands(
     friction: &[Cell],
     limit: Value,
     bands: &[CostBand],
-) -> Result<Repair, NoMemory>
+) -> Result<CostList, NoMemory>
     requires sources { length sources.now ≡ cells_in extent }
     requires friction { length friction.now ≡ cells_in extent }
     requires limit { (pos 0 ≤ℤ limit) × (limit ≤ℤ pos 2000000000) }
     requires bands { AreCostBands (ground_of extent sources.now friction.now (nat_abs limit)) 0 bands.now }
-    ensures size { IfOk result (λ r. r.patch.size ≡ extent) }
-    ensures spread { IfOk result (λ r. IsSpread extent sources.now friction.now (nat_abs limit) (patched extent [] r.patch.tiles)) }
-    ensures all { IfOk result (λ r. HoldsAll r.patch) }
-    ensures worked { IfOk result (λ r. r.worked ≡ first_work extent (patched extent [] r.patch.tiles)) }
+    ensures { IfOk result (IsCostList (ground_of extent sources.now friction.now (nat_abs limit))) }
 {
     let ground = FlatGround::new(extent, sources, friction, limit_of(limit));
     let costs = costs_of_bands(alloc, &ground, bands)?;
-    first_repair(alloc, &ground, &costs)
+    let worked = work_of(&ground, &costs);
+    Ok(CostList {
+        limit: ground.limit(),
+        costs,
+        worked,
+    })
 }
 
 /// The least costs of a map, from those of its bands.
@@ -134,9 +142,11 @@ fn join_band(
     ensures end { IfOk result (λ end. end ≡ first + band.now.rows) }
     ensures joined { IfOk result (λ end. AreCostsTo ground.now end costs.new.items queue.new) }
 {
-    let _extent = ground.extent();
+    let columns = ground.extent().columns();
     let end = first + band.rows;
-    costs.extend_from_slice(&band.costs)?;
+    let start = band.above * columns;
+    let past = start + band.rows * columns;
+    costs.extend_from_slice(&band.costs[start as usize..past as usize])?;
     push_seams(ground, costs, queue, first, end)?;
     Ok(end)
 }

@@ -10,6 +10,7 @@ ghost use Rattle.layer_tiles.specs.Patches.{patched, HoldsAll};
 ghost use Rattle.least_costs.specs.Filling.{IsFilling};
 ghost use Rattle.friction_spread.specs.Costs.{base_of, net_of};
 ghost use Rattle.friction_spread.specs.Flat.{costs_of};
+ghost use Rattle.friction_spread.specs.Shown.{shown_cells};
 
 use crate::fills::fill;
 use crate::flat::FlatGround;
@@ -82,12 +83,17 @@ pub fn costs_in(alloc: Global, ground: &FlatGround<'_>) -> Result<Vec<u32>, NoMe
     Ok(costs)
 }
 
+/// The units of work of least costs where there were none.
+pub fn work_of(ground: &FlatGround<'_>, costs: &[u32]) -> u64
+    requires count { length costs.now ≡ cells_in ground.now.size }
+    requires least { (i : ℕ) → IsLeastIn (net_of ground.now) i (costs_of ground.now costs.now i) }
+    ensures { result ≡ first_work ground.now.size (shown_cells ground.now.size ground.now.limit costs.now) }
+{
+    ground.extent().cells() as u64 + count_costs(ground.limit(), costs)
+}
+
 /// The tiles of least costs where there were none, and the work that they are.
-pub fn first_repair(
-    alloc: Global,
-    ground: &FlatGround<'_>,
-    costs: &[u32],
-) -> Result<Repair, NoMemory>
+fn first_repair(alloc: Global, ground: &FlatGround<'_>, costs: &[u32]) -> Result<Repair, NoMemory>
     requires count { length costs.now ≡ cells_in ground.now.size }
     requires least { (i : ℕ) → IsLeastIn (net_of ground.now) i (costs_of ground.now costs.now i) }
     ensures size { IfOk result (λ r. r.patch.size ≡ ground.now.size) }
@@ -95,10 +101,8 @@ pub fn first_repair(
     ensures all { IfOk result (λ r. HoldsAll r.patch) }
     ensures worked { IfOk result (λ r. r.worked ≡ first_work ground.now.size (patched ground.now.size [] r.patch.tiles)) }
 {
-    let extent = ground.extent();
-    let limit = ground.limit();
-    let patch = cost_patch(alloc, extent, limit, costs)?;
-    let worked = extent.cells() as u64 + count_costs(limit, costs);
+    let patch = cost_patch(alloc, ground.extent(), ground.limit(), costs)?;
+    let worked = work_of(ground, costs);
     Ok(Repair { patch, worked })
 }
 

@@ -3,7 +3,7 @@
 //! `spread_repair` gives the tiles that change and the work that it took. The places that disagree with their equation stand in
 //! a queue (`least_costs`), and are put right in the order of their keys. Where there are no costs yet, they only fall: cells and costs
 //! are kept in lists then, and the tiles made of the costs at the end. The rows may also be dealt out: `costs_of_band` finds
-//! the costs within a band of rows, and `spread_of_bands` those of the map from the bands'.
+//! the costs within a band of rows, and `spread_of_bands` those of the map from the bands', in a list whose tiles can be made one by one.
 #![tactic(auto)]
 
 mod bands;
@@ -14,13 +14,16 @@ mod fills;
 mod first;
 mod flat;
 mod ground;
+mod lists;
 mod looks;
 mod offers;
 mod raises;
+mod reaches;
 mod repair;
 mod settle;
 mod shows;
 
 pub use bands::{CostBand, costs_of_band, spread_of_bands};
 pub use first::Repair;
+pub use lists::CostList;
 pub use repair::spread_repair;

@@ -3,7 +3,8 @@ ghost use Rattle.std.specs.Prelude.{◌≡◌, ◌<◌, ◌≤◌, ℕ, suc, len
 ghost use Rattle.map_nums.specs.Exact.{IsExact};
 ghost use Rattle.map_nums.specs.Grids.{cells_in};
 ghost use Rattle.map_defs.specs.Rounds.{cost_cell};
-ghost use Rattle.layer_tiles.specs.Tiles.{tiles_in, tile_block};
+ghost use Rattle.layer_tiles.specs.Answers.{IsTileAnswer};
+ghost use Rattle.layer_tiles.specs.Tiles.{tiles_in};
 ghost use Rattle.tile_work.specs.Working.{IsPatchTo};
 ghost use Rattle.least_costs.specs.Ranks.{changed};
 ghost use Rattle.friction_spread.specs.Costs.{values};
@@ -28,24 +29,27 @@ pub fn cost_patch(
 {
     let mut patch = Patch::new(alloc, extent);
     for tile in 0..extent.tiles() {
-        let made = cost_tile(alloc, extent, tile, limit, costs)?;
-        patch.push(tile, made)?;
+        match cost_tile(alloc, extent, tile, limit, costs) {
+            Ok(made) => patch.push(tile, made)?,
+            Err(KernelRefusal::Overflow(_)) => unreachable!(),
+            Err(KernelRefusal::NoMemory) => return Err(NoMemory),
+        }
     }
     Ok(patch)
 }
 
 /// One tile.
-fn cost_tile(
+pub fn cost_tile(
     alloc: Global,
     extent: Extent,
     tile: u32,
     limit: u32,
     costs: &[u32],
-) -> Result<Tile, NoMemory>
+) -> Result<Tile, KernelRefusal>
     requires within { tile < tiles_in extent }
     requires limit { limit ≤ 2000000000 }
     requires count { length costs.now ≡ cells_in extent }
-    ensures { IfOk result (λ made. made ≡ tile_block extent (shown_cells extent limit costs.now) tile) }
+    ensures { IsTileAnswer extent (shown_cells extent limit costs.now) tile result }
 {
     let _rows = extent.rows();
     let maker = CostTile {
@@ -54,11 +58,7 @@ fn cost_tile(
         limit,
         costs,
     };
-    match make_tile(alloc, &maker, extent, tile) {
-        Ok(made) => Ok(made),
-        Err(KernelRefusal::Overflow(_)) => unreachable!(),
-        Err(KernelRefusal::NoMemory) => Err(NoMemory),
-    }
+    make_tile(alloc, &maker, extent, tile)
 }
 
 /// The costs, place by place, and the tile that is made of them.

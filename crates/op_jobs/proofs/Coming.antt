@@ -1,10 +1,10 @@
 -- What the jobs of a statement come to.
-use Rattle.std.proofs.Common.{◌≡◌, ℕ, ◌+◌, ◌*◌, ◌^◌, ◌<◌, ◌≤◌, Bool, true, false, List, [], ◌∷◌, length, get_or, Option, Some, None, Result, Ok, Err, refl, sym, ◌∙◌, ap, subst, arith, IsTrue, IsFalse, slice_get}
+use Rattle.std.proofs.Common.{◌≡◌, ℕ, ◌+◌, ◌*◌, ◌^◌, ◌<◌, ◌≤◌, Bool, true, false, List, length, get_or, Option, Some, None, Result, Ok, Err, refl, sym, ◌∙◌, ap, subst, arith, IsTrue, IsFalse, slice_get}
 use Rattle.std.specs.Prelude.{IsOk, option_map, nat_lt}
 use Rattle.std.specs.List.{filter, range_with_len, position}
 use Rattle.std.proofs.lemmas.List.FromFn.{length-range_with_len}
 use Rattle.std.proofs.lemmas.List.Sums.{sum_by-le}
-use Rattle.std.proofs.lemmas.Option.{slice_get-get_or, none-some}
+use Rattle.std.proofs.lemmas.Option.{slice_get-get_or}
 use Rattle.map_nums.specs.Answers.{is_wide}
 use Rattle.map_nums.specs.Grids.{Size, IsSize, Cells, cells_in, cell_at}
 use Rattle.map_nums.specs.Tiles.{tiles_in, tile_of}
@@ -19,7 +19,7 @@ use Rattle.statement_parser.specs.Views.{op_view}
 use Rattle.map_waves.specs.Statements.{work_by, fault_in, wide_at, viewers_in}
 use Rattle.map_waves.specs.Answers.{AreJobs, AreAnswers, AllOk, IsLeastOverflow, total_of}
 use Rattle.map_waves.specs.Jobs.{was_in}
-use Rattle.op_jobs.specs.Owning.{IsOwn, AreTileJobs, IsMadeFresh, count_of}
+use Rattle.op_jobs.specs.Owning.{IsOwn, AreTileJobs, count_of}
 use Rattle.op_jobs.specs.Pieces.{IsTilePiece, IsWholePiece}
 use Rattle.op_jobs.specs.Sound.{StatementJobs, IsSound, IsPiece, IsPieceOf, now_in, damage_in, first, looks, picks, first_by, looks_by, picks_by}
 use Rattle.op_jobs.specs.Tiling.{IsLeastUpTo}
@@ -57,7 +57,7 @@ total_same m n =
 
 -- ---- of a statement without viewers
 
-viewers_none : (op : Op) (cells : List Cells) → IsTrue (has_work op) → nat_lt most_viewers (viewers_in op cells) ≡ false
+pub viewers_none : (op : Op) (cells : List Cells) → IsTrue (has_work op) → nat_lt most_viewers (viewers_in op cells) ≡ false
 viewers_none (flow_op t u) cells e = refl
 viewers_none (spread_op limit t u) cells e = refl
 viewers_none (region_op t) cells e = refl
@@ -161,41 +161,27 @@ module _ (j : StatementJobs) (is : IsSound j) where
       fault_is j.size op (cells_after j.operands) (viewers_none op (cells_after j.operands) class)
       ∙ ap (option_map (λ at. wide_at at)) (whole_piece set own least.place (Err (Overflow at)) (answers.each least.place (Err (Overflow at)) least.is))
 
-  -- ---- no job
-
-  fresh_none : (patch : _) (work : ℕ) → IsMadeFresh j.size op j.operands (was_in j) patch work → fault_in j.size op (cells_after j.operands) ≡ None
-  fresh_none patch work are = fault_is j.size op (cells_after j.operands) (viewers_none op (cells_after j.operands) are.class) ∙ ap (option_map (λ at. wide_at at)) are.made.narrow
-
   -- ---- all of it
 
   few_by : (o : Own) → o ≡ j.own → IsOwn j.size op j.operands (was_in j) o → j.count < 2 ^ 31
   few_by (an_own.Tiles jobs) e are = omega (arith, count_here jobs e are, ap length are.tiles, damage_most j.size op (was_in j) j.operands, tiles_few j.size is.size)
   few_by (an_own.Whole set) e are = omega (arith, is.count_is, ap count_of e)
-  few_by (an_own.Made patch work) e are = omega (arith, is.count_is, ap count_of e)
 
   looks_fit_by : (o : Own) → o ≡ j.own → IsOwn j.size op j.operands (was_in j) o → first_by o (damage_in j) + total_of (λ k. looks_by o (damage_in j)) j.count ≤ 60 * damage_in j
   looks_fit_by (an_own.Tiles jobs) e are = omega (arith, total_same 26 j.count, count_here jobs e are, ap length are.tiles)
   looks_fit_by (an_own.Whole set) e are = omega (arith, total_same (32 * damage_in j) j.count, ap (λ n. n * (32 * damage_in j)) (is.count_is ∙ ap count_of (sym e)))
-  looks_fit_by (an_own.Made patch work) e are = omega (arith, total_same 0 j.count)
 
   picks_fit_by : (o : Own) → o ≡ j.own → total_of (λ k. picks_by o (work_by j.size op (was_in j) j.operands)) j.count ≤ 1000 * work_by j.size op (was_in j) j.operands
   picks_fit_by (an_own.Tiles jobs) e = omega (arith, total_same 0 j.count)
   picks_fit_by (an_own.Whole set) e = let w = work_by j.size op (was_in j) j.operands in omega (arith, total_same (1000 * w) j.count, ap (λ n. n * (1000 * w)) (is.count_is ∙ ap count_of (sym e)))
-  picks_fit_by (an_own.Made patch work) e = omega (arith, total_same 0 j.count)
 
   none_by : (o : Own) → o ≡ j.own → IsOwn j.size op j.operands (was_in j) o → (rs : List (Result Piece KernelRefusal)) → AreAnswers IsPiece j rs → AllOk rs → fault_in j.size op (cells_after j.operands) ≡ None
   none_by (an_own.Tiles jobs) e are = tile_none jobs e are
   none_by (an_own.Whole set) e are = whole_none set e are.class
-  none_by (an_own.Made patch work) e are = λ rs answers ok. fresh_none patch work are
 
   least_by : (o : Own) → o ≡ j.own → IsOwn j.size op j.operands (was_in j) o → (rs : List (Result Piece KernelRefusal)) (at : ℕ) → AreAnswers IsPiece j rs → IsLeastOverflow rs at → fault_in j.size op (cells_after j.operands) ≡ Some (wide_at at)
   least_by (an_own.Tiles jobs) e are = tile_least jobs e are
   least_by (an_own.Whole set) e are = whole_least set e are.class
-  least_by (an_own.Made patch work) e are = λ rs at answers least. absurd (no_answer rs (omega (arith, answers.count, is.count_is, ap count_of e)) least.place (Err (Overflow at)) least.is)
-    where
-      no_answer : (rs : List (Result Piece KernelRefusal)) → length rs ≡ 0 → (k : ℕ) (r : Result Piece KernelRefusal) → slice_get rs k ≡ Some r → ⊥
-      no_answer [] e k r at = none-some r at
-      no_answer (x ∷ rs) e k r at = absurd (omega (arith, e))
 
   pub are_jobs : AreJobs op_view IsSound first looks picks IsPiece j
   are_jobs = record {

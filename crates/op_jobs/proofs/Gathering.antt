@@ -34,8 +34,9 @@ use Rattle.op_jobs.specs.declared.own.Own.{Own}
 use Rattle.op_jobs.specs.declared.own.Own.TheVariants as an_own
 use Rattle.op_jobs.specs.declared.own.TileJobs.{TileJobs}
 use Rattle.op_jobs.proofs.Grids.{made_count}
-use Rattle.op_jobs.proofs.Hits.{is_hit, damage_is, changed_within, was_right, work_none, WasRight}
+use Rattle.op_jobs.proofs.Hits.{is_hit, damage_is, changed_within, was_right, WasRight}
 use Rattle.op_jobs.proofs.Patching.{numbered, numbers_are, changed_are, changed_makes}
+use Rattle.op_jobs.proofs.LayerLists.{work_told}
 use Rattle.op_jobs.proofs.Sharing.{tile_own}
 
 -- the first of what is left of a list
@@ -152,9 +153,10 @@ patch_is j jobs k patch is own l size e =
     }
 
 -- the repaired layer
-pub repaired : (j : StatementJobs) (jobs : TileJobs) (patch : PatchState) (m : Made Beside) → IsSound j → j.own ≡ an_own.Tiles jobs → IsTilePatch j.size (was_in j) (now_in j) patch → m ≡ record { patch = patch; beside = jobs.beside; evaluated = length jobs.tiles.items; worked = 0 } → IsRepaired suits j.size (op_view j.op) j.operands (was_in j) m
+pub repaired : (j : StatementJobs) (jobs : TileJobs) (patch : PatchState) (m : Made Beside) → IsSound j → j.own ≡ an_own.Tiles jobs → IsTilePatch j.size (was_in j) (now_in j) patch → m ≡ record { patch = patch; beside = jobs.beside; evaluated = length jobs.tiles.items; worked = jobs.worked } → IsRepaired suits j.size (op_view j.op) j.operands (was_in j) m
 repaired j jobs patch m is own p e =
     let are = tile_own j jobs is own in
+    let work = work_told j.size (op_view j.op) j.operands (was_in j) jobs.list jobs.worked are.list_is in
     let f = tile_block j.size (now_in j) in
     let numbers : patch.tiles ≡ numbered f (filter (is_changed j.size (was_in j) (now_in j)) (tiles j.size)) = p.tiles ∙ ap (numbered f) (changed_are j.size (was_in j) (now_in j)) in
     rw (e)
@@ -164,11 +166,10 @@ repaired j jobs patch m is own p e =
       exact = ap numbers_of p.tiles ∙ numbers_are f (changed_tiles j.size (was_in j) (now_in j));
       beside = are.beside_is;
       evaluated = ap length are.tiles;
-      worked = sym (work_none j.size (op_view j.op) (was_in j) j.operands are.class);
-      little = omega arith;
+      worked = work.0;
+      little = work.1;
     }
 
 pub made_repaired : (j : StatementJobs) (own : Own) (patch : PatchState) (m : Made Beside) → IsSound j → j.own ≡ own → IsTilePatch j.size (was_in j) (now_in j) patch → IsMadeOf patch own m → IsRepaired suits j.size (op_view j.op) j.operands (was_in j) m
 made_repaired j (an_own.Tiles jobs) patch m is own p e = repaired j jobs patch m is own p e
 made_repaired j (an_own.Whole set) patch m is own p e = absurd e
-made_repaired j (an_own.Made all work) patch m is own p e = absurd e

@@ -6,14 +6,12 @@ use Rattle.std.specs.Option.{option_copied}
 use Rattle.map_nums.specs.declared.Stat.{Stat}
 use Rattle.map_nums.specs.Grids.{Size, Cells}
 use Rattle.map_defs.specs.Ops.{Op, Term, local_op, difference_op, ratio_op, rating_op, focal_op, zonal_op, form_op, direction_op, flow_op, spread_op, sight_op, region_op}
-use Rattle.map_nums.specs.Tiles.{tiles_in}
 use Rattle.map_defs.specs.Damage.{has_work}
 use Rattle.map_defs.specs.Operate.{operand}
 use Rattle.map_defs.specs.Sight.{Sighting}
 use Rattle.layer_tiles.specs.Changes.{ChangeState}
 use Rattle.layer_tiles.specs.Layers.{LayerState}
 use Rattle.layer_tiles.specs.Operands.{cells_after}
-use Rattle.layer_tiles.specs.Patches.{PatchState}
 use Rattle.layer_tiles.specs.Tallies.{TallyState, RisesBy}
 use Rattle.layer_tiles.specs.declared.kernels.KernelRefusal.{KernelRefusal}
 use Rattle.layer_tiles.specs.declared.kernels.KernelRefusal.TheVariants.{Overflow, NoMemory}
@@ -29,9 +27,9 @@ use Rattle.map_waves.specs.Gathered.{IsRepaired}
 use Rattle.map_waves.specs.declared.keeping.Kept.{Kept}
 use Rattle.map_waves.specs.declared.keeping.Made.{Made}
 use Rattle.op_jobs.specs.Beside.{suits, IsBook, AreViewers, book_at, book_in, viewers_at, kept_viewers, layer_in}
-use Rattle.op_jobs.specs.Owning.{IsOwn, IsWholeJob, IsMadeFresh, reached}
+use Rattle.op_jobs.specs.Owning.{IsOwn, IsWholeJob, reached}
 use Rattle.op_jobs.specs.Pieces.{IsWholePiece}
-use Rattle.op_jobs.specs.Sound.{StatementJobs, IsSound, IsPiece, IsPieceOf, FitsSet, IsMadeWhole, IsMadeBefore}
+use Rattle.op_jobs.specs.Sound.{StatementJobs, IsSound, IsPiece, IsPieceOf, FitsSet, IsMadeWhole}
 use Rattle.op_jobs.specs.Whole.{IsRightBefore, IsWholeAnswer}
 use Rattle.op_jobs.specs.Zonal.{IsRightBook}
 use Rattle.op_jobs.specs.declared.beside.Beside.{Beside}
@@ -40,7 +38,6 @@ use Rattle.op_jobs.specs.declared.own.Own.{Own}
 use Rattle.op_jobs.specs.declared.own.Own.TheVariants as an_own
 use Rattle.op_jobs.specs.declared.pieces.Piece.{Piece}
 use Rattle.op_jobs.specs.declared.pieces.Piece.TheVariants.{Tile, Whole}
-use Rattle.op_jobs.proofs.FreshOps.{fresh_damage}
 use Rattle.op_jobs.proofs.WholeDamage.{damage_counted}
 use Rattle.op_jobs.proofs.ZonalStays.{range_from_faultless}
 
@@ -134,7 +131,7 @@ reached_size : (s : Size) (was : Option Cells) (operands : List ChangeState) (se
 reached_size s None operands set e = ap (λ (d : TileSetState). d.size) e
 reached_size s (Some w) operands set e = ap (λ (d : TileSetState). d.size) e
 
-work_beside : (s : Size) (op : Op) (cells : List Cells) → IsTrue (has_work op) → suits s op cells Nothing
+pub work_beside : (s : Size) (op : Op) (cells : List Cells) → IsTrue (has_work op) → suits s op cells Nothing
 work_beside s (flow_op t u) cells e = tt
 work_beside s (spread_op limit t u) cells e = tt
 work_beside s (region_op t) cells e = tt
@@ -167,27 +164,3 @@ whole_repaired j set (Whole patch work) m is own p e =
       worked = made.work_is;
       little = made.little;
     }
-
--- ---- all is made
-
-fresh_own : (j : StatementJobs) (patch : PatchState) (work : ℕ) → IsSound j → j.own ≡ an_own.Made patch work → IsMadeFresh j.size (op_view j.op) j.operands (was_in j) patch work
-fresh_own j patch work is e = let P : Own → Type 0 = λ o. IsOwn j.size (op_view j.op) j.operands (was_in j) o in subst P e is.own_is
-
-fresh_repaired : (j : StatementJobs) (patch : PatchState) (work : ℕ) (m : Made Beside) → IsSound j → j.own ≡ an_own.Made patch work → m ≡ record { patch = patch; beside = Nothing; evaluated = tiles_in j.size; worked = work } → IsRepaired suits j.size (op_view j.op) j.operands (was_in j) m
-fresh_repaired j patch work m is own e =
-    let are = fresh_own j patch work is own in
-    rw (e)
-    record {
-      size = are.made.size;
-      cells = are.made.cells;
-      exact = are.made.exact;
-      beside = work_beside j.size (op_view j.op) (cells_after j.operands) are.class;
-      evaluated = sym (ap (λ (w : Option Cells). length (damage_by j.size (op_view j.op) w j.operands)) are.fresh ∙ fresh_damage j.size (op_view j.op) j.operands);
-      worked = are.made.work_is;
-      little = are.made.little;
-    }
-
-pub before_repaired : (j : StatementJobs) (own : Own) (all : ℕ) (m : Made Beside) → IsSound j → j.own ≡ own → all ≡ tiles_in j.size → IsMadeBefore own all m → IsRepaired suits j.size (op_view j.op) j.operands (was_in j) m
-before_repaired j (an_own.Tiles jobs) all m is own n e = absurd e
-before_repaired j (an_own.Whole set) all m is own n e = absurd e
-before_repaired j (an_own.Made patch work) all m is own n e = fresh_repaired j patch work m is own (e ∙ ap (λ k. record { patch = patch; beside = Nothing; evaluated = k; worked = work }) n)

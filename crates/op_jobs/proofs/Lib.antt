@@ -8,6 +8,7 @@ pub mod Felt
 pub mod Following
 pub mod Grids
 pub mod Listing
+pub mod LayerLists
 pub mod Near
 pub mod Starts
 pub mod SpreadBands

@@ -14,6 +14,8 @@ use Rattle.layer_tiles.specs.Cells.{IsCell}
 use Rattle.layer_tiles.specs.Changes.{ChangeState}
 use Rattle.layer_tiles.specs.Operands.{cells_after}
 use Rattle.local_ops.specs.Operations.{op_of, Takes}
+use Rattle.drainage_flow.specs.FlowBands.{AreEven}
+use Rattle.drainage_flow.specs.declared.flow_band.FlowBand.{FlowBand}
 use Rattle.local_ops.specs.declared.ops.LocalOp.{LocalOp as KernelOp}
 use Rattle.statement_parser.specs.Formed.{Each, IsRate, IsNoProduct, IsRadius}
 use Rattle.statement_parser.specs.Views.{op_view}
@@ -27,10 +29,13 @@ use Rattle.op_jobs.specs.Fresh.{AreBothCells, IsCounted, IsGrounded}
 use Rattle.op_jobs.specs.declared.ground.BothCells.{BothCells}
 use Rattle.op_jobs.specs.declared.ground.Ground.{Ground}
 use Rattle.op_jobs.specs.declared.ground.Ground.TheVariants as a_ground
+use Rattle.op_jobs.specs.Lists.{IsList, IsListOf}
 use Rattle.op_jobs.specs.Ranges.{IsInRange, HasRanges}
 use Rattle.op_jobs.specs.Sound.{StatementJobs, IsSound}
 use Rattle.op_jobs.specs.declared.beside.Beside.{Beside}
 use Rattle.op_jobs.specs.declared.beside.Beside.TheVariants.{Nothing, Book, Viewers}
+use Rattle.op_jobs.specs.declared.lists.LayerList.{LayerList}
+use Rattle.op_jobs.specs.declared.lists.LayerList.TheVariants.{Costs, Flow}
 use Rattle.op_jobs.specs.declared.own.Own.{Own}
 use Rattle.op_jobs.specs.declared.own.Own.TheVariants as an_own
 
@@ -128,13 +133,25 @@ local_once : (op : Op) (l : Option KernelOp) → IsProp (IsLocalOf op l)
 local_once op None = hlevel props
 local_once op (Some l) = ×_prop (hlevel props) (takes_once (op_of l) _)
 
+even_once : (bands : List FlowBand) → IsProp (AreEven bands)
+even_once [] = Unit-prop
+even_once (b ∷ bands) = let rest : IsProp (AreEven bands) = even_once bands in hlevel (rest, props)
+
+list_once : (s : Size) (list : LayerList) → IsProp (IsList s list)
+list_once s (Costs list) = hlevel props
+list_once s (Flow list) = let even : IsProp (AreEven list.bands.items) = even_once list.bands.items in hlevel (even, props)
+
+listed_once : (s : Size) (op : Op) (operands : List ChangeState) (was : Option Cells) (list : Option LayerList) (work : ℕ) → IsProp (IsListOf s op operands was list work)
+listed_once s op operands was None work = hlevel props
+listed_once s op operands was (Some list) work = let is : IsProp (IsList s list) = list_once s list in hlevel (is, props)
+
 own_once : (s : Size) (op : Op) (operands : List ChangeState) (was : Option Cells) (own : Own) → IsProp (IsOwn s op operands was own)
 own_once s op operands was (an_own.Tiles jobs) =
     let local : IsProp (IsLocalOf op jobs.local) = local_once op jobs.local in
     let beside : IsProp (suits s op (cells_after operands) jobs.beside) = suits_once s op (cells_after operands) jobs.beside in
-    hlevel (local, beside, props)
+    let listed : IsProp (IsListOf s op operands was jobs.list jobs.worked) = listed_once s op operands was jobs.list jobs.worked in
+    hlevel (local, beside, listed, props)
 own_once s op operands was (an_own.Whole set) = hlevel props
-own_once s op operands was (an_own.Made patch work) = hlevel props
 
 -- ---- what parts are found from
 

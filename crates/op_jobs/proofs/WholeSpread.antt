@@ -1,5 +1,5 @@
 -- Repaired least costs, in the words of operations.
-use Rattle.std.proofs.Common.{◌≡◌, ℕ, ◌*◌, ◌^◌, ◌<◌, ◌≤◌, List, [], ◌∷◌, length, Option, Some, None, refl, sym, ◌∙◌, ap, subst, arith, w32}
+use Rattle.std.proofs.Common.{◌≡◌, ℕ, ◌*◌, ◌^◌, ◌<◌, ◌≤◌, List, [], ◌∷◌, length, Option, Some, None, sym, ◌∙◌, ap, subst, arith, w32}
 use Rattle.std.specs.Prelude.{nat_abs}
 use Rattle.std.specs.Int.{cast_signed}
 use Rattle.std.proofs.lemmas.Int.{to_z_pos}
@@ -10,11 +10,11 @@ use Rattle.map_defs.specs.Operate.{operate}
 use Rattle.map_defs.specs.Ops.{Term, spread_op}
 use Rattle.map_defs.specs.Rounds.{spread_grid}
 use Rattle.map_defs.specs.Spread.{IsSpread}
-use Rattle.map_defs.specs.Work.{op_work, first_work}
+use Rattle.map_defs.specs.Work.{op_work}
 use Rattle.map_defs.proofs.SpreadCells.{spread_is, spread_only}
 use Rattle.layer_tiles.specs.Changes.{ChangeState, cells_before}
 use Rattle.layer_tiles.specs.Layers.{LayerState}
-use Rattle.layer_tiles.specs.Patches.{PatchState, IsPatch, HoldsAll, patched}
+use Rattle.layer_tiles.specs.Patches.{PatchState, IsPatch, patched}
 use Rattle.layer_tiles.specs.Tiles.{Block}
 use Rattle.layer_tiles.specs.Tallies.{TallyState, RisesBy}
 use Rattle.tile_work.specs.Working.{IsPatchTo, base_of, before_of}
@@ -89,16 +89,3 @@ module _ (sources friction : ChangeState) (limit : ℕ) (t u : Term) where
 -- the limit fits a value
 pub limit_fits : (n : ℕ) → n ≤ greatest_value → nat_abs (cast_signed w32 n) ≡ n
 limit_fits n l = ap nat_abs (to_z_pos w32 n (omega (arith, l)))
-
--- ---- where there was no layer
-
-first_is : (m : ℕ) (t u : Term) (s : Size) (xs ys : List Cells) (now : Cells) → op_work (spread_op m t u) s xs ys None now ≡ first_work s now
-unfolding op_work
-first_is m t u s xs ys _ = refl
-
-pub spread_fresh : (sources friction : ChangeState) (limit : ℕ) (t u : Term) (m : ℕ) → m ≡ limit → (patch : PatchState) (n : ℕ) → IsSize sources.size → limit ≤ greatest_value → IsPatch patch → patch.size ≡ sources.size → IsSpread sources.size sources.cells friction.cells m (patched sources.size [] patch.tiles) → HoldsAll patch
-    → n ≡ first_work sources.size (patched sources.size [] patch.tiles) → IsWholeMade sources.size (spread_op limit t u) None (sources ∷ friction ∷ []) patch n
-spread_fresh sources friction limit t u m q patch n h low p size is all worked =
-    spread_made_at sources friction limit t u h None m q patch n low p size is
-    (subst (λ (z : Size). HoldsAll (record { size = z; tiles = patch.tiles })) size all)
-    (worked ∙ sym (first_is m t u sources.size (cells_before sources ∷ cells_before friction ∷ []) (sources.cells ∷ friction.cells ∷ []) (patched sources.size [] patch.tiles)))

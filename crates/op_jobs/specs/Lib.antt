@@ -3,6 +3,7 @@ pub mod Changed
 pub mod Classes
 pub mod Fresh
 pub mod Kernels
+pub mod Lists
 pub mod Others
 pub mod Owning
 pub mod Parts

@@ -7,7 +7,6 @@ use Rattle.map_defs.specs.Damage.{has_work}
 use Rattle.map_defs.specs.Sight.{most_viewers}
 use Rattle.layer_tiles.specs.Changes.{ChangeState}
 use Rattle.layer_tiles.specs.Operands.{cells_after}
-use Rattle.layer_tiles.specs.Patches.{PatchState}
 use Rattle.damage_sets.specs.Sets.{TileSetState}
 use Rattle.damage_sets.specs.Damage.{damage_of, touched_in}
 use Rattle.local_ops.specs.Operations.{op_of, Takes}
@@ -16,10 +15,10 @@ use Rattle.map_waves.specs.Statements.{damage_by, viewers_in}
 use Rattle.op_jobs.specs.Beside.{suits}
 use Rattle.op_jobs.specs.Classes.{is_local}
 use Rattle.op_jobs.specs.Kernels.{IsKernelOf}
-use Rattle.op_jobs.specs.Pieces.{IsWholeMade}
+use Rattle.op_jobs.specs.Lists.{IsListOf}
 use Rattle.op_jobs.specs.declared.own.TileJobs.{TileJobs}
 use Rattle.op_jobs.specs.declared.own.Own.{Own}
-use Rattle.op_jobs.specs.declared.own.Own.TheVariants.{Tiles, Whole, Made}
+use Rattle.op_jobs.specs.declared.own.Own.TheVariants.{Tiles, Whole}
 
 -- the kernel's form of a Local operation; none of any other
 abbrev pub IsLocalOf : Op → Option LocalOp → Type 0
@@ -28,9 +27,9 @@ IsLocalOf op (Some l) = IsKernelOf op (op_of l) × Takes (op_of l) (length (term
 
 -- a job for each tile of the damage
 pub record AreTileJobs (s : Size) (op : Op) (operands : List ChangeState) (was : Option Cells) (jobs : TileJobs) : Type 0 where
-  pub class : IsFalse (has_work op)
   pub tiles : jobs.tiles.items ≡ damage_by s op was operands
   pub local_is : IsLocalOf op jobs.local
+  pub list_is : IsListOf s op operands was jobs.list jobs.worked
   pub beside_is : suits s op (cells_after operands) jobs.beside
   pub viewers : IsFalse (nat_lt most_viewers (viewers_in op (cells_after operands)))
 
@@ -49,19 +48,11 @@ pub record IsWholeJob (s : Size) (op : Op) (operands : List ChangeState) (was : 
   pub class : IsTrue (has_work op)
   pub set_is : set ≡ reached 0 s was operands
 
--- a layer that was not there is made
-pub record IsMadeFresh (s : Size) (op : Op) (operands : List ChangeState) (was : Option Cells) (patch : PatchState) (work : ℕ) : Type 0 where
-  pub class : IsTrue (has_work op)
-  pub fresh : was ≡ None
-  pub made : IsWholeMade s op was operands patch work
-
 abbrev pub IsOwn : Size → Op → List ChangeState → Option Cells → Own → Type 0
 IsOwn s op operands was (Tiles jobs) = AreTileJobs s op operands was jobs
 IsOwn s op operands was (Whole set) = IsWholeJob s op operands was set
-IsOwn s op operands was (Made patch work) = IsMadeFresh s op operands was patch work
 
 -- how many jobs
 abbrev pub count_of : Own → ℕ
 count_of (Tiles jobs) = length jobs.tiles.items
 count_of (Whole set) = 1
-count_of (Made patch work) = 0

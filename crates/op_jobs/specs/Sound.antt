@@ -50,17 +50,14 @@ damage_in j = length (damage_by j.size (op_view j.op) (was_in j) j.operands)
 abbrev pub first_by : Own → ℕ → ℕ
 first_by (an_own.Tiles jobs) damage = 34 * damage
 first_by (an_own.Whole set) damage = 28 * damage
-first_by (an_own.Made patch work) damage = 28 * damage
 
 abbrev pub looks_by : Own → ℕ → ℕ
 looks_by (an_own.Tiles jobs) damage = 26
 looks_by (an_own.Whole set) damage = 32 * damage
-looks_by (an_own.Made patch work) damage = 0
 
 abbrev pub picks_by : Own → ℕ → ℕ
 picks_by (an_own.Tiles jobs) work = 0
 picks_by (an_own.Whole set) work = 1000 * work
-picks_by (an_own.Made patch worked) work = 0
 
 abbrev pub first : StatementJobs → ℕ
 first j = first_by j.own (damage_in j)
@@ -76,7 +73,6 @@ picks j k = picks_by j.own (work_by j.size (op_view j.op) (was_in j) j.operands)
 abbrev pub IsPieceOf : Own → StatementJobs → ℕ → Result Piece KernelRefusal → Type 0
 IsPieceOf (an_own.Tiles jobs) j k answer = IsTilePiece j.size (was_in j) (now_in j) (slice_index jobs.tiles.items k) answer
 IsPieceOf (an_own.Whole set) j k answer = IsWholePiece j.size (op_view j.op) (was_in j) j.operands answer
-IsPieceOf (an_own.Made patch work) j k answer = ⊥
 
 -- what job k may answer
 unfoldable pub IsPiece : StatementJobs → ℕ → Result Piece KernelRefusal → Type 0
@@ -90,25 +86,16 @@ ArePieces j pieces = (k : ℕ) (p : Piece) → slice_get pieces k ≡ Some p →
 abbrev pub are_tiles : Own → Bool
 are_tiles (an_own.Tiles jobs) = true
 are_tiles (an_own.Whole set) = false
-are_tiles (an_own.Made patch work) = false
 
 -- one job for all
 abbrev pub is_whole : Own → Bool
 is_whole (an_own.Tiles jobs) = false
 is_whole (an_own.Whole set) = true
-is_whole (an_own.Made patch work) = false
 
--- no job
-abbrev pub is_made : Own → Bool
-is_made (an_own.Tiles jobs) = false
-is_made (an_own.Whole set) = false
-is_made (an_own.Made patch work) = true
-
--- the patch, what stands beside the layer, so many tiles of the damage, and no work
+-- the patch, what stands beside the layer, so many tiles of the damage, and the work
 abbrev pub IsMadeOf : PatchState → Own → Made Beside → Type 0
-IsMadeOf patch (an_own.Tiles jobs) m = m ≡ record { patch = patch; beside = jobs.beside; evaluated = length jobs.tiles.items; worked = 0 }
+IsMadeOf patch (an_own.Tiles jobs) m = m ≡ record { patch = patch; beside = jobs.beside; evaluated = length jobs.tiles.items; worked = jobs.worked }
 IsMadeOf patch (an_own.Whole set) m = ⊥
-IsMadeOf patch (an_own.Made all work) m = ⊥
 
 -- the piece of one job for all, over the tiles in which an operand changed
 abbrev pub FitsSet : TileSetState → Piece → Type 0
@@ -118,9 +105,3 @@ FitsSet set (Whole patch work) = set.size ≡ patch.size
 abbrev pub IsMadeWhole : TileSetState → Piece → Made Beside → Type 0
 IsMadeWhole set (Tile tile) m = ⊥
 IsMadeWhole set (Whole patch work) m = m ≡ record { patch = patch; beside = Nothing; evaluated = count_either set patch; worked = work }
-
--- a layer that was not there, with all its tiles evaluated
-abbrev pub IsMadeBefore : Own → ℕ → Made Beside → Type 0
-IsMadeBefore (an_own.Tiles jobs) all m = ⊥
-IsMadeBefore (an_own.Whole set) all m = ⊥
-IsMadeBefore (an_own.Made patch work) all m = m ≡ record { patch = patch; beside = Nothing; evaluated = all; worked = work }

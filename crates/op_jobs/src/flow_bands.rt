@@ -1,20 +1,21 @@
 //! The flow of a map that had none, from that within bands of rows.
-ghost use Rattle.std.specs.Prelude.{◌≡◌, ℕ, suc, ◌-◌, ◌*◌, ◌<◌, ◌≤◌, length, None, Some, slice_get, IfOk, IfSome};
+ghost use Rattle.std.specs.Prelude.{◌≡◌, ℕ, suc, ◌-◌, ◌*◌, ◌<◌, length, Some, slice_get, IfOk};
 ghost use Rattle.map_nums.specs.Grids.{Size, Cells, cells_in};
-ghost use Rattle.layer_tiles.specs.Changes.{ChangeState};
+ghost use Rattle.map_defs.specs.Flow.{flow_grid};
+ghost use Rattle.map_defs.specs.Work.{first_work};
 ghost use Rattle.drainage_flow.specs.FlowBands.{IsFlowBand};
 ghost use Rattle.drainage_flow.specs.declared.flow_band.FlowBand.{FlowBand};
-ghost use Rattle.drainage_flow.specs.Operands.{HasCells};
-ghost use Rattle.drainage_flow.specs.Repairs.{IsFlowRepair};
 ghost use Rattle.op_jobs.specs.Fresh.{IsFlows};
+ghost use Rattle.op_jobs.specs.Lists.{IsList, list_cells};
 ghost use Rattle.op_jobs.specs.Parts.{part_start};
 ghost use Rattle.op_jobs.specs.declared.ground.Part.{Part};
 ghost use Rattle.op_jobs.specs.declared.ground.Part.TheVariants.{Flows};
 
 use crate::ground::{BothCells, Part};
+use crate::lists::{FlowList, LayerList};
 use crate::parts::part_start;
-use drainage_flow::{FlowBand, Repair, flow_of_band, flow_of_bands};
-use layer_tiles::{Extent, KernelRefusal};
+use drainage_flow::{FlowBand, first_flow_work, flow_of_band, pour};
+use layer_tiles::Extent;
 use map_nums::NoMemory;
 use std::alloc::Global;
 
@@ -58,23 +59,27 @@ fn bands_of(alloc: Global, parts: Vec<Part>) -> Result<Vec<FlowBand>, NoMemory>
     Ok(bands)
 }
 
-/// The flow of a map that had none, from that of its bands, where it is in range.
+/// The flow of a map that had none, from that of its bands, and the units of work.
 pub(crate) fn flow_by(
     alloc: Global,
     extent: Extent,
-    ground: &BothCells,
+    ground: BothCells,
     parts: Vec<Part>,
-) -> Result<Option<Repair>, NoMemory>
-    requires first { length ground.now.first.items ≡ cells_in extent }
-    requires second { length ground.now.second.items ≡ cells_in extent }
+) -> Result<(LayerList, u64), NoMemory>
+    requires first { length ground.first.items ≡ cells_in extent }
+    requires second { length ground.second.items ≡ cells_in extent }
     requires some { 0 < length parts.items }
-    requires each { (k : ℕ) (p : Part) → slice_get parts.items k ≡ Some p → IsFlows extent ground.now.first.items ground.now.second.items (length parts.items) k p }
-    ensures repair { (s w : ChangeState) → HasCells extent ground.now.first.items s → HasCells extent ground.now.second.items w → IfOk result (λ found. IfSome found (λ r. IsFlowRepair s w None r.patch r.worked)) }
+    requires each { (k : ℕ) (p : Part) → slice_get parts.items k ≡ Some p → IsFlows extent ground.first.items ground.second.items (length parts.items) k p }
+    ensures list { IfOk result (λ r. IsList extent r.0) }
+    ensures cells { IfOk result (λ r. list_cells extent r.0 ≡ (flow_grid extent ground.first.items ground.second.items).cells) }
+    ensures work { IfOk result (λ r. r.1 ≡ first_work extent (flow_grid extent ground.first.items ground.second.items).cells) }
 {
     let mut bands = bands_of(alloc, parts)?;
-    match flow_of_bands(alloc, extent, &ground.first, &ground.second, &mut bands) {
-        Ok(repair) => Ok(Some(repair)),
-        Err(KernelRefusal::Overflow(_)) => Ok(None),
-        Err(KernelRefusal::NoMemory) => Err(NoMemory),
-    }
+    pour(extent, &ground.first, &ground.second, &mut bands);
+    let worked = first_flow_work(extent, &ground.first);
+    let list = FlowList {
+        surface: ground.first,
+        bands,
+    };
+    Ok((LayerList::Flow(list), worked))
 }

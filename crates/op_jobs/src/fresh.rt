@@ -1,30 +1,25 @@
 //! Layers that were not there, which workers make in bands of rows.
-ghost use Rattle.std.specs.Prelude.{◌≡◌, ℕ, List, ◌*◌, ◌<◌, ◌≤◌, length, None, Some, slice_get, IfOk, IfSome, IsTrue};
+ghost use Rattle.std.specs.Prelude.{◌≡◌, List, ◌*◌, ◌<◌, ◌≤◌, length, IfOk, IfSome, IsTrue};
 ghost use Rattle.std.specs.List.{All};
-ghost use Rattle.map_nums.specs.Grids.{Size, cells_in};
-ghost use Rattle.map_nums.specs.Numbers.{greatest_value};
+ghost use Rattle.map_nums.specs.Grids.{Size};
 ghost use Rattle.map_nums.specs.Tiles.{tiles_in};
-ghost use Rattle.map_defs.specs.Operate.{operand};
-ghost use Rattle.map_defs.specs.Ops.{Op as Meant, Term, terms_of, flow_op, spread_op};
+ghost use Rattle.map_defs.specs.Ops.{Op as Meant, terms_of};
 ghost use Rattle.layer_tiles.specs.Changes.{ChangeState};
-ghost use Rattle.layer_tiles.specs.Operands.{cells_after};
 ghost use Rattle.layer_tiles.specs.Tallies.{RisesBy};
 ghost use Rattle.statement_parser.specs.Views.{op_view};
 ghost use Rattle.map_waves.specs.Found.{AreFound};
 ghost use Rattle.map_waves.specs.Operands.{IsOperand};
-ghost use Rattle.op_jobs.specs.Fresh.{is_banded, AreBothCells, IsGrounded, IsCosts, IsFlows, IsPart};
-ghost use Rattle.op_jobs.specs.Owning.{IsMadeFresh};
-ghost use Rattle.op_jobs.specs.Pieces.{IsWholeMade};
+ghost use Rattle.op_jobs.specs.Fresh.{is_banded, AreBothCells, IsGrounded, IsPart};
+ghost use Rattle.op_jobs.specs.Lists.{IsListMade};
 ghost use Rattle.op_jobs.specs.Ranges.{HasRanges};
-ghost use Rattle.op_jobs.specs.declared.ground.Part.{Part};
-ghost use Rattle.friction_spread.specs.Bands.{ground_of};
 
 use crate::flow_bands::{find_flows, flow_by};
 use crate::ground::{BothCells, Ground, Part};
+use crate::lists::LayerList;
 use crate::spread_bands::{find_costs, spread_by};
 use crate::whole::both_of;
 use flat_cells::cells_of;
-use layer_tiles::{Extent, Operands, Patch, Tally};
+use layer_tiles::{Extent, Operands, Tally};
 use map_nums::NoMemory;
 use statement_parser::Op;
 use std::alloc::Global;
@@ -108,80 +103,27 @@ pub(crate) fn find_band(
     }
 }
 
-/// The least costs of a map that had none.
-fn fresh_spread(
-    alloc: Global,
-    operands: &Operands<'_>,
-    extent: Extent,
-    limit: u32,
-    ground: &BothCells,
-    parts: Vec<Part>,
-) -> Result<(Patch, u64), NoMemory>
-    requires limit { limit ≤ greatest_value }
-    requires two { length operands.now ≡ 2 }
-    requires operands_are { All (IsOperand extent) operands.now }
-    requires first { ground.now.first.items ≡ operand (cells_after operands.now) 0 }
-    requires second { ground.now.second.items ≡ operand (cells_after operands.now) 1 }
-    requires first_count { length ground.now.first.items ≡ cells_in extent }
-    requires second_count { length ground.now.second.items ≡ cells_in extent }
-    requires some { 0 < length parts.items }
-    requires each { (k : ℕ) (p : Part) → slice_get parts.items k ≡ Some p → IsCosts (ground_of extent ground.now.first.items ground.now.second.items limit) (length parts.items) k p }
-    ensures { IfOk result (λ r. (t u : Term) → IsWholeMade extent (spread_op limit t u) None operands.now r.0 r.1) }
-{
-    let _extent = extent.tiles();
-    let repair = spread_by(alloc, extent, ground, limit, parts)?;
-    let _patch = repair.patch.extent();
-    Ok((repair.patch, repair.worked))
-}
-
-/// The flow of a map that had none, where it is in range.
-fn fresh_flow(
-    alloc: Global,
-    operands: &Operands<'_>,
-    extent: Extent,
-    ground: &BothCells,
-    parts: Vec<Part>,
-) -> Result<Option<(Patch, u64)>, NoMemory>
-    requires two { length operands.now ≡ 2 }
-    requires operands_are { All (IsOperand extent) operands.now }
-    requires first { ground.now.first.items ≡ operand (cells_after operands.now) 0 }
-    requires second { ground.now.second.items ≡ operand (cells_after operands.now) 1 }
-    requires first_count { length ground.now.first.items ≡ cells_in extent }
-    requires second_count { length ground.now.second.items ≡ cells_in extent }
-    requires some { 0 < length parts.items }
-    requires each { (k : ℕ) (p : Part) → slice_get parts.items k ≡ Some p → IsFlows extent ground.now.first.items ground.now.second.items (length parts.items) k p }
-    ensures { IfOk result (λ found. IfSome found (λ r. (t u : Term) → IsWholeMade extent (flow_op t u) None operands.now r.0 r.1)) }
-{
-    let _extent = extent.tiles();
-    let found = flow_by(alloc, extent, ground, parts)?;
-    let Some(repair) = found else {
-        return Ok(None);
-    };
-    let _patch = repair.patch.extent();
-    Ok(Some((repair.patch, repair.worked)))
-}
-
-/// All tiles of a layer that was not there, and the units of work, from what was found of its bands; none where a cell is out of range.
+/// A layer that was not there, place by place, from what was found of its bands; and the units of work.
 pub(crate) fn make_fresh(
     alloc: Global,
     op: &Op,
-    operands: &Operands<'_>,
+    _operands: &Operands<'_>,
     extent: Extent,
-    ground: &BothCells,
+    ground: BothCells,
     parts: Vec<Part>,
-) -> Result<Option<(Patch, u64)>, NoMemory>
-    requires operands_are { All (IsOperand extent) operands.now }
-    requires terms { length operands.now ≡ length (terms_of (op_view op.now)) }
-    requires found { AreFound AreBothCells IsPart extent (op_view op.now) operands.now ground.now parts.items }
-    ensures { IfOk result (λ found. IfSome found (λ r. IsMadeFresh extent (op_view op.now) operands.now None r.0 r.1)) }
+) -> Result<(LayerList, u64), NoMemory>
+    requires found { AreFound AreBothCells IsPart extent (op_view op.now) _operands.now ground parts.items }
+    ensures { IfOk result (λ r. IsListMade extent (op_view op.now) _operands.now r.0 r.1) }
 {
+    let _tiles = extent.tiles();
     match op {
         Op::Spread { limit, .. } => {
             let limit = limit.unsigned_abs();
-            let made = fresh_spread(alloc, operands, extent, limit, ground, parts)?;
-            Ok(Some(made))
+            let costs = spread_by(alloc, extent, &ground, limit, parts)?;
+            let worked = costs.worked;
+            Ok((LayerList::Costs(costs), worked))
         }
-        Op::Flow { .. } => fresh_flow(alloc, operands, extent, ground, parts),
+        Op::Flow { .. } => flow_by(alloc, extent, ground, parts),
         _ => unreachable!(),
     }
 }

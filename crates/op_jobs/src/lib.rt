@@ -9,6 +9,7 @@ mod flow_bands;
 mod fresh;
 mod ground;
 mod kernels;
+mod lists;
 mod own;
 mod parts;
 mod pieces;

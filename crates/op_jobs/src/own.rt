@@ -1,8 +1,8 @@
 //! What the jobs of one statement share.
 
 use crate::beside::Beside;
+use crate::lists::LayerList;
 use damage_sets::TileSet;
-use layer_tiles::Patch;
 use local_ops::LocalOp;
 
 /// What the jobs of one statement share.
@@ -12,8 +12,6 @@ pub enum Own {
     Tiles(TileJobs),
     /// One job for all; and the tiles in which an operand changed, all of them where no layer is kept.
     Whole(TileSet),
-    /// No job: all tiles of a layer that was not there are made, and the units of work.
-    Made(Patch, u64),
 }
 
 /// What the jobs of a statement share that makes its tiles one by one.
@@ -25,4 +23,8 @@ pub struct TileJobs {
     pub local: Option<LocalOp>,
     /// What is to stand beside the layer.
     pub beside: Beside,
+    /// The layer place by place, where it was not there and is made of parts that workers found.
+    pub list: Option<LayerList>,
+    /// The units of work.
+    pub worked: u64,
 }

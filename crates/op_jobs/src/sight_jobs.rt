@@ -67,6 +67,8 @@ pub(crate) fn sight_jobs<M: Tally>(
         tiles,
         local: None,
         beside: Beside::Viewers(viewers),
+        list: None,
+        worked: 0,
     })
 }
 

@@ -1,12 +1,10 @@
 //! The least costs of a map that had none, in bands of rows.
-ghost use Rattle.std.specs.Prelude.{◌≡◌, ℕ, suc, ◌<◌, ◌≤◌, length, Some, slice_get, [], IfOk};
+ghost use Rattle.std.specs.Prelude.{◌≡◌, ℕ, suc, ◌<◌, ◌≤◌, length, Some, slice_get, IfOk};
 ghost use Rattle.map_nums.specs.Grids.{cells_in};
 ghost use Rattle.map_nums.specs.Numbers.{greatest_value};
-ghost use Rattle.map_defs.specs.Spread.{IsSpread};
-ghost use Rattle.map_defs.specs.Work.{first_work};
-ghost use Rattle.layer_tiles.specs.Patches.{patched, HoldsAll};
 ghost use Rattle.friction_spread.specs.Costs.{GroundState};
 ghost use Rattle.friction_spread.specs.Bands.{ground_of, IsCostBand};
+ghost use Rattle.friction_spread.specs.Lists.{IsCostList};
 ghost use Rattle.friction_spread.specs.declared.bands.CostBand.{CostBand};
 ghost use Rattle.op_jobs.specs.Fresh.{IsCosts};
 ghost use Rattle.op_jobs.specs.Parts.{part_start};
@@ -15,7 +13,7 @@ ghost use Rattle.op_jobs.specs.declared.ground.Part.TheVariants.{Costs};
 
 use crate::ground::{BothCells, Part};
 use crate::parts::part_start;
-use friction_spread::{CostBand, Repair, costs_of_band, spread_of_bands};
+use friction_spread::{CostBand, CostList, costs_of_band, spread_of_bands};
 use layer_tiles::{Extent, Value};
 use map_nums::NoMemory;
 use std::alloc::Global;
@@ -79,16 +77,13 @@ pub(crate) fn spread_by(
     ground: &BothCells,
     limit: u32,
     parts: Vec<Part>,
-) -> Result<Repair, NoMemory>
+) -> Result<CostList, NoMemory>
     requires limit { limit ≤ greatest_value }
     requires first { length ground.now.first.items ≡ cells_in extent }
     requires second { length ground.now.second.items ≡ cells_in extent }
     requires some { 0 < length parts.items }
     requires each { (k : ℕ) (p : Part) → slice_get parts.items k ≡ Some p → IsCosts (ground_of extent ground.now.first.items ground.now.second.items limit) (length parts.items) k p }
-    ensures size { IfOk result (λ r. r.patch.size ≡ extent) }
-    ensures spread { IfOk result (λ r. IsSpread extent ground.now.first.items ground.now.second.items limit (patched extent [] r.patch.tiles)) }
-    ensures all { IfOk result (λ r. HoldsAll r.patch) }
-    ensures worked { IfOk result (λ r. r.worked ≡ first_work extent (patched extent [] r.patch.tiles)) }
+    ensures { IfOk result (IsCostList (ground_of extent ground.now.first.items ground.now.second.items limit)) }
 {
     let most = limit as Value;
     let bands = bands_of(alloc, parts)?;

@@ -17,22 +17,21 @@ ghost use Rattle.op_jobs.specs.Fresh.{AreBothCells, IsGrounded, IsPart};
 ghost use Rattle.op_jobs.specs.Classes.{is_plain, is_sight, is_zonal};
 ghost use Rattle.op_jobs.specs.Owning.{IsOwn, count_of};
 ghost use Rattle.op_jobs.specs.Ranges.{HasRanges};
-ghost use Rattle.op_jobs.specs.Sound.{is_made, is_whole};
+ghost use Rattle.op_jobs.specs.Sound.{is_whole};
 
 use crate::beside::Beside;
-use crate::damage::reached_tiles;
+use crate::damage::{all_tiles, reached_tiles};
 use crate::fresh::{bands_found, find_band, is_banded, lay, make_fresh};
 use crate::ground::{BothCells, Ground, Part};
-use crate::own::Own;
+use crate::own::{Own, TileJobs};
 use crate::parts::parts_of;
 use crate::pieces::Piece;
 use crate::sight_jobs::sight_jobs;
 use crate::tiles::{do_tile, gather_tiles, tile_jobs};
 use crate::weights::weight_of;
-use crate::whole_jobs::{do_whole, gather_made, gather_whole};
+use crate::whole_jobs::{do_whole, gather_whole};
 use crate::zonal_jobs::zonal_jobs;
 use crate::zonal_parts::count_part;
-use damage_sets::TileSet;
 use layer_tiles::{Extent, KernelRefusal, Operands, Tally};
 use map_nums::NoMemory;
 use map_waves::{Halt, Jobs, Kept, Made, Maker};
@@ -113,28 +112,30 @@ fn sight_own<M: Tally>(
     }
 }
 
-/// A layer that was not there, from what was found of its bands; what its one job rests on where a cell is out of range.
+/// A job for each tile of a layer that was not there, from what was found of its bands.
 fn fresh_own(
     alloc: Global,
     op: &Op,
     operands: &Operands<'_>,
     extent: Extent,
-    ground: &BothCells,
+    ground: BothCells,
     parts: Vec<Part>,
 ) -> Result<Own, NoMemory>
-    requires class { IsTrue (has_work (op_view op.now)) }
-    requires operands_are { All (IsOperand extent) operands.now }
-    requires terms { length operands.now ≡ length (terms_of (op_view op.now)) }
-    requires found { AreFound AreBothCells IsPart extent (op_view op.now) operands.now ground.now parts.items }
+    requires found { AreFound AreBothCells IsPart extent (op_view op.now) operands.now ground parts.items }
     ensures { IfOk result (IsOwn extent (op_view op.now) operands.now None) }
 {
-    match make_fresh(alloc, op, operands, extent, ground, parts)? {
-        Some((patch, work)) => Ok(Own::Made(patch, work)),
-        None => Ok(Own::Whole(TileSet::all(alloc, extent)?)),
-    }
+    let (list, worked) = make_fresh(alloc, op, operands, extent, ground, parts)?;
+    let tiles = all_tiles(alloc, extent)?;
+    Ok(Own::Tiles(TileJobs {
+        tiles,
+        local: None,
+        beside: Beside::Nothing,
+        list: Some(list),
+        worked,
+    }))
 }
 
-/// What the one job of an operation that is repaired whole rests on; or its layer, where it was not there and its bands were found.
+/// What the jobs of an operation share that takes work: a job for each tile where there was no layer and its bands were found, else one.
 fn whole_own<M: Tally>(
     alloc: Global,
     op: &Op,
@@ -156,7 +157,7 @@ fn whole_own<M: Tally>(
 {
     if kept.is_none() {
         if let Some((cells, parts)) = bands_found(found) {
-            return match fresh_own(alloc, op, operands, extent, &cells, parts) {
+            return match fresh_own(alloc, op, operands, extent, cells, parts) {
                 Ok(own) => Ok(own),
                 Err(NoMemory) => Err(Halt::NoMemory),
             };
@@ -204,7 +205,6 @@ fn count_of(own: &Own) -> u64
     match own {
         Own::Tiles(jobs) => jobs.tiles.len() as u64,
         Own::Whole(_) => 1,
-        Own::Made(_, _) => 0,
     }
 }
 
@@ -218,18 +218,8 @@ fn is_whole(own: &Own) -> bool
     }
 }
 
-/// Whether all is made.
-fn is_made(own: &Own) -> bool
-    ensures { result ≡ is_made own.now }
-{
-    match own {
-        Own::Made(_, _) => true,
-        _ => false,
-    }
-}
-
-/// The jobs of statements: a job for each tile of the damage where its tiles are made one by one, one job where a layer is repaired
-/// whole, none where it was not there and is made of the bands that workers found.
+/// The jobs of statements: a job for each tile of the damage where its tiles are made one by one, also of the bands that workers found
+/// of a layer that was not there; one job where a layer is repaired whole.
 pub struct Statements;
 
 impl Maker for Statements {
@@ -374,7 +364,6 @@ impl Maker for Statements {
         match &jobs.own {
             Own::Tiles(own) => do_tile(alloc, jobs, own, job, tally),
             Own::Whole(_) => do_whole(alloc, jobs, tally),
-            Own::Made(_, _) => unreachable!(),
         }
     }
 
@@ -388,9 +377,6 @@ impl Maker for Statements {
         requires each { ArePieces jobs pieces_made.items }
         ensures { IfOk result (IsRepaired what_suits jobs.entry.size (op_view jobs.entry.op) jobs.entry.operands (was_in jobs.entry)) }
     {
-        if is_made(&jobs.own) {
-            return Ok(gather_made(jobs));
-        }
         if is_whole(&jobs.own) {
             return Ok(gather_whole(&jobs, pieces_made));
         }

@@ -2,6 +2,7 @@
 ghost use Rattle.std.specs.Prelude.{◌≡◌, ◌^◌, ◌<◌, ◌++◌, length, slice_index, IfOk, IfSome, IsTrue, OnOk};
 ghost use Rattle.std.specs.List.{All};
 ghost use Rattle.map_defs.specs.Ops.{terms_of};
+ghost use Rattle.layer_tiles.specs.Answers.{IsTileAnswer};
 ghost use Rattle.layer_tiles.specs.Patches.{IsAboveLast};
 ghost use Rattle.layer_tiles.specs.Tallies.{RisesBy};
 ghost use Rattle.layer_tiles.specs.Tiles.{tiles_in};
@@ -22,6 +23,7 @@ ghost use Rattle.op_jobs.specs.declared.own.Own.TheVariants.{Tiles};
 use crate::beside::Beside;
 use crate::damage::{reached_tiles, tiles_of};
 use crate::kernels::{felt_within, local_of, make_tile};
+use crate::lists::list_tile;
 use crate::own::{Own, TileJobs};
 use crate::pieces::Piece;
 use layer_tiles::{Extent, KernelRefusal, Operands, Patch, Tally, Tile};
@@ -54,6 +56,8 @@ pub(crate) fn tile_jobs<M: Tally>(
         tiles,
         local,
         beside: Beside::Nothing,
+        list: None,
+        worked: 0,
     })
 }
 
@@ -77,6 +81,35 @@ fn unless_same<M: Tally>(
     Some(made)
 }
 
+/// The tile, of the list that there is of its layer, else of the operands.
+fn tile_by<M: Tally>(
+    alloc: Global,
+    jobs: &Jobs<'_, '_, Op, Beside, Own>,
+    own: &TileJobs,
+    tile: u32,
+    tally: &mut M,
+) -> Result<Tile, KernelRefusal>
+    requires sound { IsSound jobs.now }
+    requires own { jobs.now.own ≡ Tiles own.now }
+    requires within { tile < tiles_in jobs.now.size }
+    ensures answer { IsTileAnswer jobs.now.size (now_in jobs.now) tile result }
+    ensures tally { RisesBy 25 0 (M.counts tally.old) (M.counts tally.new) }
+{
+    if let Some(list) = &own.list {
+        return list_tile(alloc, jobs.extent, tile, list);
+    }
+    make_tile(
+        alloc,
+        jobs.op,
+        &own.local,
+        &own.beside,
+        jobs.operands,
+        jobs.extent,
+        tile,
+        tally,
+    )
+}
+
 /// Makes the tile of a job, at most 25 looks, and looks at the kept one.
 pub(crate) fn do_tile<M: Tally>(
     alloc: Global,
@@ -92,16 +125,7 @@ pub(crate) fn do_tile<M: Tally>(
     ensures tally { RisesBy 26 0 (M.counts tally.old) (M.counts tally.new) }
 {
     let tile = own.tiles[job as usize];
-    let made = make_tile(
-        alloc,
-        jobs.op,
-        &own.local,
-        &own.beside,
-        jobs.operands,
-        jobs.extent,
-        tile,
-        tally,
-    )?;
+    let made = tile_by(alloc, jobs, own, tile, tally)?;
     Ok(Piece::Tile(unless_same(made, jobs.kept, tile, tally)))
 }
 
@@ -154,7 +178,7 @@ fn made_of(patch: Patch, own: Own) -> Made<Beside>
         Own::Tiles(jobs) => Made {
             patch,
             evaluated: jobs.tiles.len() as u32,
-            worked: 0,
+            worked: jobs.worked,
             beside: jobs.beside,
         },
         _ => unreachable!(),

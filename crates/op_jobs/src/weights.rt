@@ -12,7 +12,6 @@ pub(crate) fn weight_of(op: &Op, own: &Own) -> u64 {
     match own {
         Own::Tiles(jobs) => tile_weight(op).saturating_mul(jobs.tiles.len() as u64),
         Own::Whole(set) => REPAIR * u64::from(set.count()),
-        Own::Made(_, _) => 0,
     }
 }
 
@@ -22,6 +21,8 @@ fn tile_weight(op: &Op) -> u64 {
         Op::Focal { stat, reach, .. } => focal_weight(*stat, *reach),
         Op::Incremental { .. } | Op::Direction { .. } => 20,
         Op::Sight { .. } => 256,
+        Op::Spread { .. } => 16,
+        Op::Flow { .. } => 24,
         _ => 4,
     }
 }

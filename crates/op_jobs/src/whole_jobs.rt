@@ -10,7 +10,7 @@ ghost use Rattle.map_waves.specs.Keeping.{kept_now};
 ghost use Rattle.map_waves.specs.Statements.{work_by};
 ghost use Rattle.op_jobs.specs.Beside.{suits, layer_in};
 ghost use Rattle.op_jobs.specs.Pieces.{IsWholePiece};
-ghost use Rattle.op_jobs.specs.Sound.{IsSound, damage_in, ArePieces, is_whole, is_made, FitsSet, IsMadeWhole, IsMadeBefore};
+ghost use Rattle.op_jobs.specs.Sound.{IsSound, damage_in, ArePieces, is_whole, FitsSet, IsMadeWhole};
 
 use crate::beside::Beside;
 use crate::own::Own;
@@ -92,30 +92,4 @@ pub(crate) fn gather_whole(jobs: &Jobs<'_, '_, Op, Beside, Own>, pieces: Vec<Pie
     };
     let piece = first_piece(pieces);
     made_whole(set, piece)
-}
-
-/// What is made of a layer that was made before any job.
-fn made_before(own: Own, evaluated: u32) -> Made<Beside>
-    requires { IsTrue (is_made own) }
-    ensures { IsMadeBefore own evaluated result }
-{
-    match own {
-        Own::Made(patch, worked) => Made {
-            patch,
-            beside: Beside::Nothing,
-            evaluated,
-            worked,
-        },
-        _ => unreachable!(),
-    }
-}
-
-/// The layer that was made before any job.
-pub(crate) fn gather_made<'o, 'a>(jobs: Jobs<'o, 'a, Op, Beside, Own>) -> Made<Beside>
-    requires sound { IsSound jobs }
-    requires made { IsTrue (is_made jobs.own) }
-    ensures { IsRepaired suits jobs.entry.size (op_view jobs.entry.op) jobs.entry.operands (was_in jobs.entry) result }
-{
-    let evaluated = jobs.extent.tiles();
-    made_before(jobs.own, evaluated)
 }

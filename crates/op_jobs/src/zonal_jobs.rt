@@ -70,6 +70,8 @@ pub(crate) fn zonal_jobs<M: Tally>(
         tiles,
         local: None,
         beside: Beside::Book(book),
+        list: None,
+        worked: 0,
     })
 }
 

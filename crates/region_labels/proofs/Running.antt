@@ -7,11 +7,11 @@ use Rattle.std.proofs.lemmas.Nat.{div-mul-add, mod-mul-add, div-add-mod', mod_be
 use Rattle.map_nums.specs.Grids.{Size, IsSize, Cells, cell_at, cells_in, row_of, column_of, gap, is_neighbour}
 use Rattle.region_labels.specs.Flood.{is_marked, Holds, FloodState, reached, IsRoundTo, IsGrown}
 use Rattle.region_labels.specs.Lists.{ListState, labelled, flood_of, MayGet}
-use Rattle.region_labels.specs.Runs.{IsRunTo, IsRunIn, IsClose, IsRunGrown, IsRunRow, IsRunRowTo, IsRunRound}
+use Rattle.region_labels.specs.Runs.{IsRunTo, IsBareFrom, IsRunIn, IsClose, IsRunGrown, IsRunRow, IsRunRowTo, IsRunRound}
 use Rattle.region_labels.proofs.Walks.{near_is}
 use Rattle.region_labels.proofs.Flooding.{grown_then, grown_reached, reached_marked, holds_kept, holds_last}
 use Rattle.region_labels.proofs.Rows.{IsPlace, place_of}
-use Rattle.region_labels.proofs.Listing.{flood_reached, may_stay, may_then, may_added}
+use Rattle.region_labels.proofs.Listing.{labelled_at, flood_reached, may_stay, may_then, may_added}
 
 -- ---- places along a row
 
@@ -179,3 +179,16 @@ run_next s cells z value head count at f new size e is run fits g near round k l
       let off : at + i - at ≡ i = omega arith in
       near j has.0 (omega (arith, d.rows, w.0)) (omega (arith, d.columns, w.1, off)) (omega (arith, d.columns, w.1, off, i_lt)) (has.1 ∙ sym e))
 ]
+
+-- ---- places that have labels are passed over
+
+module _ (s : Size) (cells : Cells) (value : Option ℤ) (at count row : ℕ) where
+  -- none of a row's places comes before the one on the left of the first
+  pub row_begun : (n : ℕ) (marks : List Bool) → n ≡ row * s.columns + (column_of s at - 1) → IsRunRowTo s cells value at count row n marks
+  row_begun n marks e j l r a b v m = absurd (omega (arith, in_row s j row r, a, m, e))
+
+  pub row_passed : (n m end stop : ℕ) (labels : Cells) → IsRunRowTo s cells value at count row n (labelled labels) → m ≤ n → IsBareFrom labels m end stop → IsRunRowTo s cells value at count row stop (labelled labels)
+  row_passed n m end stop labels near le bare j l r a b v k = elim (cases_lt j n) as (λ _. is_marked (labelled labels) j ≡ true) [
+    | inl x ↦ near j l r a b v x
+    | inr x ↦ labelled_at labels j ∙ bare.labelled j (omega (arith, x, le)) k
+  ]

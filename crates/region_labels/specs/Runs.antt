@@ -1,5 +1,5 @@
 -- Regions that are reached by runs: places that follow one another along a row.
-use Rattle.std.specs.Prelude.{◌≡◌, ℕ, ◌+◌, ◌<◌, ◌≤◌, ℤ, Bool, true, List, length, Option, Some, slice_index_or}
+use Rattle.std.specs.Prelude.{◌≡◌, ℕ, ◌+◌, ◌<◌, ◌≤◌, ℤ, Bool, true, false, List, length, Option, Some, is_some, slice_index_or}
 use Rattle.map_nums.specs.Grids.{Size, Cells, cell_at, cells_in, row_of, column_of, gap}
 use Rattle.region_labels.specs.Flood.{is_marked, Holds, FloodState, IsFlooding}
 
@@ -9,6 +9,13 @@ pub record IsRunTo (cells : Cells) (value : Option ℤ) (at end stop : ℕ) (mar
   pub most : stop ≤ end
   pub marked : (j : ℕ) → at ≤ j → j < stop → is_marked marks j ≡ true
   pub stopped : stop < end → cell_at cells stop ≡ value → is_marked marks stop ≡ true
+
+-- the places from `at` to before `stop` have labels, and place `stop` has none where it lies before `end`
+pub record IsBareFrom (labels : Cells) (at end stop : ℕ) : Type 0 where
+  pub least : at ≤ stop
+  pub most : stop ≤ end
+  pub labelled : (j : ℕ) → at ≤ j → j < stop → is_some (cell_at labels j) ≡ true
+  pub bare : stop < end → is_some (cell_at labels stop) ≡ false
 
 -- so many places of a list, from its place `head` on, follow one another
 pub record IsRunIn (found : List ℕ) (head count : ℕ) : Type 0 where

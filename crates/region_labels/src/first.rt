@@ -74,9 +74,10 @@ fn reach_row(
     let start = row * columns;
     let end = start + columns;
     let high = start + (column + count + 1).min(columns);
-    let mut next = start + column.saturating_sub(1);
+    let mut next = list.bare_from(start + column.saturating_sub(1), high);
     while next < high {
-        next = reach_run(cells, value, label, next, end, list)? + 1;
+        let past = reach_run(cells, value, label, next, end, list)? + 1;
+        next = list.bare_from(past.min(high), high);
     }
     Ok(())
 }
@@ -171,9 +172,12 @@ fn label_all(cells: &[Cell], list: &mut LabelList) -> Result<u64, NoMemory>
     ensures regions { IfOk result (λ n. AreRegions list.old.size cells.now list.new.labels) }
     ensures count { IfOk result (λ n. n ≡ marks_in (labelled list.new.labels)) }
 {
+    let all = list.extent().cells();
     let mut count = 0;
-    for at in 0..list.extent().cells() {
+    let mut at = list.bare_from(0, all);
+    while at < all {
         count += label_region(cells, at, list)?;
+        at = list.bare_from(at + 1, all);
     }
     Ok(count)
 }

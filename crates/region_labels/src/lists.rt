@@ -1,7 +1,7 @@
 //! Labels of a map that had none, all in one list.
 ghost use Rattle.std.specs.Prelude.{◌≡◌, ◌<◌, ◌≤◌, ◌++◌, ◌∷◌, [], length, replicate, slice_set, is_some, IfOk, OnOk, OnErr, None};
 ghost use Rattle.map_nums.specs.Grids.{IsSize, cells_in, cell_at};
-ghost use Rattle.region_labels.specs.Runs.{IsRunIn};
+ghost use Rattle.region_labels.specs.Runs.{IsBareFrom, IsRunIn};
 
 use layer_tiles::{Cell, Extent, NoMemory};
 use std::alloc::Global;
@@ -57,6 +57,20 @@ impl LabelList {
         ensures { result ≡ is_some (cell_at self.now.labels at) }
     {
         self.labels[at as usize].get().is_some()
+    }
+
+    /// The first place from `at` on that has no label, before `end`; `end` where each has one.
+    pub fn bare_from(&self, at: u32, end: u32) -> u32
+        requires some { at ≤ end }
+        requires within { end ≤ length self.now.labels }
+        ensures { IsBareFrom self.now.labels at end result }
+    {
+        for j in at..end {
+            if !self.has(j) {
+                return j;
+            }
+        }
+        end
     }
 
     /// One more place of the region in hand, with its label.

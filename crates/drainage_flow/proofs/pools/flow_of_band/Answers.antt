@@ -1,4 +1,4 @@
-use Rattle.std.proofs.Common.{◌≡◌, ◌-◌, ◌*◌, ℕ, None, length, refl, sym, ◌∙◌, ap, subst, arith}
+use Rattle.std.proofs.Common.{◌≡◌, ◌-◌, ◌*◌, None, length, refl, sym, ◌∙◌, ap, subst, arith}
 use Rattle.drainage_flow.specs.Pouring.{ArePools}
 use Rattle.drainage_flow.proofs.FlowBands.{rows_made, pools_fresh, band_is}
 use Rattle.drainage_flow.proofs.Seats.{if_ok}

@@ -1,4 +1,4 @@
-use Rattle.std.proofs.Common.{◌≡◌, ◌∷◌, [], ◌++◌, List, length, None, sym, ◌∙◌, ap, subst, arith}
+use Rattle.std.proofs.Common.{◌≡◌, ◌∷◌, [], ◌++◌, List, length, None, sym, ◌∙◌, ap, subst}
 use Rattle.std.proofs.lemmas.List.{take_at}
 use Rattle.drainage_flow.specs.Pouring.{ArePools}
 use Rattle.drainage_flow.specs.FlowBands.{counts_of}

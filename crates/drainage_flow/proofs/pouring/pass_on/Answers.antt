@@ -1,12 +1,11 @@
-use Rattle.std.proofs.Common.{◌≡◌, ◌<◌, ℕ, ℤ, length, get_or, set, Option, Some, None, rules, sym, ◌∙◌, ap, arith, w64}
+use Rattle.std.proofs.Common.{◌≡◌, length, get_or, set, Some, None, rules, sym, ◌∙◌, ap, arith, w64}
 use mir.Val.{SFits, to_z, of_z}
-use Rattle.std.specs.Prelude.{IfSome}
 use Rattle.std.proofs.lemmas.Int.{ints, to_z-of_z}
 use Rattle.std.proofs.lemmas.List.{get_or_default, length-set}
 use Rattle.drainage_flow.specs.Pouring.{down_in, flow_in, place_in}
 use Rattle.drainage_flow.specs.FlowBands.{all_downs, all_flows, counts_of, AreEven, IsSeat}
 use Rattle.drainage_flow.specs.declared.flow_band.FlowBand.{FlowBand}
-use Rattle.drainage_flow.proofs.Seats.{seat_within, even_at, counts_set, even_set, down_here, flow_here, passes_none, passes_stop, left_even, left_counts, next_seat, flow_there, taken_even, taken_counts, passes_ready, passes_waits, told}
+use Rattle.drainage_flow.proofs.Seats.{seat_within, even_at, counts_set, even_set, down_here, flow_here, passes_none, passes_stop, left_even, next_seat, flow_there, taken_even, taken_counts, passes_ready, passes_waits, told}
 use Rattle.drainage_flow.proofs.pouring.pass_on.Goals as goal
 use Rattle.drainage_flow.proofs.pouring.pass_on.Goals.{After-index-bands-m}
 

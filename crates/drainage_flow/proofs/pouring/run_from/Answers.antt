@@ -1,4 +1,4 @@
-use Rattle.std.proofs.Common.{◌≡◌, ◌+◌, length, sym, ◌∙◌, ap, arith}
+use Rattle.std.proofs.Common.{◌+◌, sym, ◌∙◌, arith}
 use Rattle.drainage_flow.proofs.Seats.{seat_within, even_at, same_count, start_counts, start_even, started, passed, starts_yes, starts_no, starts_count}
 use Rattle.drainage_flow.proofs.pouring.run_from.Goals as goal
 

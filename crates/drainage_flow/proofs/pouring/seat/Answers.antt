@@ -1,4 +1,4 @@
-use Rattle.std.proofs.Common.{◌+◌, ◌≡◌, ℕ, subst, arith}
+use Rattle.std.proofs.Common.{◌+◌, ◌≡◌, subst, arith}
 use Rattle.drainage_flow.specs.FlowBands.{counts_of, IsSeat}
 use Rattle.drainage_flow.proofs.Seats.{seat_next, seat_found, seat_there}
 use Rattle.drainage_flow.proofs.pouring.seat.Goals as goal

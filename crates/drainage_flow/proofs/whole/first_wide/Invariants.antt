@@ -1,8 +1,8 @@
-use Rattle.std.proofs.Common.{ℕ, ◌<◌}
-use Rattle.std.specs.Prelude.{IsTrue}
-use Rattle.map_nums.specs.Numbers.{is_value}
-use Rattle.drainage_flow.specs.Pouring.{flow_in}
+use Rattle.std.proofs.Common.{◌≡◌, ◌++◌, List, ℤ, length, drop}
+use Rattle.drainage_flow.specs.FlowBands.{all_flows}
+use Rattle.drainage_flow.specs.Whole.{AreInRange}
 use Rattle.drainage_flow.proofs.whole.first_wide.Given as goal
 
-abbrev pub invariant-loop-at : goal.invariant-loop-at
-invariant-loop-at l = (c : ℕ) → c < l.at → IsTrue (is_value (flow_in l.flows c))
+-- the bands before this one have some flows, all in range
+abbrev pub invariant-loop-band : goal.invariant-loop-band
+invariant-loop-band l = (xs : List ℤ) × (l.first ≡ length xs) × AreInRange xs × (xs ++ all_flows (drop l.band-index l.bands) ≡ all_flows l.bands)

@@ -1,14 +1,18 @@
-use Rattle.std.proofs.Common.{◌≡◌, ℕ, None, Some, ap, sym, subst, ◌∙◌, arith}
+use Rattle.std.proofs.Common.{◌≡◌, ℕ, None, Some, Result, Err, ap, sym, subst, ◌∙◌, arith}
 use Rattle.std.proofs.lemmas.List.FromFn.{length-map-range_with_len}
-use Rattle.map_nums.specs.Grids.{Size, cells_in, grid_by}
+use Rattle.map_nums.specs.Grids.{Size, cells_in}
+use Rattle.layer_tiles.specs.Answers.{IsTileAnswer}
 use Rattle.layer_tiles.specs.Tiles.{Block, tiles_in, IsBlockOf}
 use Rattle.layer_tiles.specs.Patches.{PatchState}
+use Rattle.layer_tiles.specs.declared.kernels.KernelRefusal.{KernelRefusal}
 use Rattle.layer_tiles.proofs.Whole.{tile_block_is}
 use Rattle.tile_work.specs.Working.{IsPatchOf}
 use Rattle.tile_work.proofs.Pushing.{patch_none, patch_pushed, above_pushed, patch_all}
+use Rattle.drainage_flow.specs.FlowBands.{all_flows}
 use Rattle.drainage_flow.specs.Pouring.{flow_in}
 use Rattle.drainage_flow.specs.Showing.{shown_at}
-use Rattle.drainage_flow.proofs.Wholes.{pushed_tile}
+use Rattle.drainage_flow.specs.Whole.{flow_cells}
+use Rattle.drainage_flow.proofs.Wholes.{pushed_tile, never_wide}
 use Rattle.drainage_flow.proofs.whole.whole_patch.Goals as goal
 
 pub loop-tile-init : goal.loop-tile-init
@@ -17,31 +21,39 @@ loop-tile-init c =
     record {
       size = ap (λ (p : PatchState). p.size) e;
       above = rw (e) (λ l. absurd (omega (arith, l)));
-      patch = rw (e) (patch_none c.args.extent None (grid_by c.args.extent (shown_at c.args.surface.now (flow_in c.args.flows.now))).cells);
+      patch = rw (e) (patch_none c.args.extent None (flow_cells c.args.extent c.args.surface.now c.args.bands.now));
     }
 
 pub push-requires-clause-size : goal.push-requires-clause-size
 push-requires-clause-size c =
-    let cells = (grid_by c.args.extent (shown_at c.args.surface.now (flow_in c.args.flows.now))).cells in
-    subst (λ (z : Size). IsBlockOf z c.loop-tile.tile c.in_ok-made.made) (sym c.loop-tile.invariant.size) (subst (λ (b : Block). IsBlockOf c.args.extent c.loop-tile.tile b) (sym c.in_ok-made.ensures) (tile_block_is c.args.extent cells c.loop-tile.tile))
+    let cells = flow_cells c.args.extent c.args.surface.now c.args.bands.now in
+    subst (λ (z : Size). IsBlockOf z c.loop-tile.tile c.in-Ok.made) (sym c.loop-tile.invariant.size) (subst (λ (b : Block). IsBlockOf c.args.extent c.loop-tile.tile b) (sym c.in-Ok.ensures.0) (tile_block_is c.args.extent cells c.loop-tile.tile))
+
+pub unreachable-requires : goal.unreachable-requires
+unreachable-requires c =
+    let s = c.args.extent in
+    let cells = flow_cells s c.args.surface.now c.args.bands.now in
+    never_wide s c.args.surface.now (all_flows c.args.bands.now) c.loop-tile.tile c.in-Err-Overflow.field-0-0 c.requires.flows c.requires.in_range
+    (subst (λ (k : KernelRefusal). let r : Result Block KernelRefusal = Err k in IsTileAnswer s cells c.loop-tile.tile r) c.in-Err-Overflow.field-0-is c.in-Err-Overflow.ensures)
 
 pub loop-tile-preserved : goal.loop-tile-preserved
 loop-tile-preserved c =
     let s = c.args.extent in
     let t = c.loop-tile.tile in
-    let cells = (grid_by s (shown_at c.args.surface.now (flow_in c.args.flows.now))).cells in
-    let more = ap (λ (p : PatchState). p.tiles) c.in_ok-push.ensures.ok in
-    let pushed = pushed_tile s t c.in_ok-made.made c.loop-tile.patch.tiles c.push.new.self.tiles more in
+    let cells = flow_cells s c.args.surface.now c.args.bands.now in
+    let more = ap (λ (p : PatchState). p.tiles) c.in_ok-push-in-Ok.ensures.ok in
+    let pushed = pushed_tile s t c.in-Ok.made c.loop-tile.patch.tiles c.push.new.self.tiles more in
     record {
-      size = ap (λ (p : PatchState). p.size) c.in_ok-push.ensures.ok ∙ c.loop-tile.invariant.size;
-      above = above_pushed s None t (Some c.in_ok-made.made) c.loop-tile.patch.tiles c.push.new.self.tiles c.loop-tile.invariant.above pushed;
-      patch = patch_pushed s None cells t (Some c.in_ok-made.made) c.loop-tile.patch.tiles c.push.new.self.tiles c.loop-tile.invariant.patch c.in_ok-made.ensures pushed;
+      size = ap (λ (p : PatchState). p.size) c.in_ok-push-in-Ok.ensures.ok ∙ c.loop-tile.invariant.size;
+      above = above_pushed s None t (Some c.in-Ok.made) c.loop-tile.patch.tiles c.push.new.self.tiles c.loop-tile.invariant.above pushed;
+      patch = patch_pushed s None cells t (Some c.in-Ok.made) c.loop-tile.patch.tiles c.push.new.self.tiles c.loop-tile.invariant.patch c.in-Ok.ensures.0 pushed;
     }
 
 pub returns-clause-patch : goal.returns-clause-patch
 returns-clause-patch c =
     let s = c.args.extent in
-    let f = shown_at c.args.surface.now (flow_in c.args.flows.now) in
+    let f = shown_at c.args.surface.now (flow_in (all_flows c.args.bands.now)) in
+    let cells = flow_cells s c.args.surface.now c.args.bands.now in
     let e : c.loop-tile.tile ≡ tiles_in s = omega (arith, c.loop-tile-test.false, c.tiles-tile-end.ensures.tiles, c.loop-tile.auto.tile-end) in
-    patch_all s None (grid_by s f).cells c.loop-tile.patch.tiles c.tiles-tile-end.ensures.size (length-map-range_with_len f 0 (cells_in s))
-    (subst (λ (n : ℕ). IsPatchOf s None (grid_by s f).cells n c.loop-tile.patch.tiles) e c.loop-tile.invariant.patch)
+    patch_all s None cells c.loop-tile.patch.tiles c.tiles-tile-end.ensures.size (length-map-range_with_len f 0 (cells_in s))
+    (subst (λ (n : ℕ). IsPatchOf s None cells n c.loop-tile.patch.tiles) e c.loop-tile.invariant.patch)

@@ -1,12 +1,14 @@
-use Rattle.std.proofs.Common.{◌≡◌, ℕ, None, Some, ap, sym, subst, ◌∙◌, arith}
+use Rattle.std.proofs.Common.{◌≡◌, ℕ, None, Some, ap, sym, subst, ◌∙◌, arith, Result, Err}
 use Rattle.map_nums.specs.Grids.{Size}
+use Rattle.layer_tiles.specs.Answers.{IsTileAnswer}
 use Rattle.layer_tiles.specs.Tiles.{Block, tiles_in, IsBlockOf}
 use Rattle.layer_tiles.specs.Patches.{PatchState}
+use Rattle.layer_tiles.specs.declared.kernels.KernelRefusal.{KernelRefusal}
 use Rattle.layer_tiles.proofs.Whole.{tile_block_is}
 use Rattle.tile_work.specs.Working.{IsPatchOf}
 use Rattle.tile_work.proofs.Pushing.{patch_none, patch_pushed, above_pushed, patch_all}
 use Rattle.friction_spread.specs.Shown.{shown_cells}
-use Rattle.friction_spread.proofs.Showing.{pushed_tile, shown_count}
+use Rattle.friction_spread.proofs.Showing.{pushed_tile, shown_count, never_wide}
 use Rattle.friction_spread.proofs.shows.cost_patch.Goals as goal
 
 pub loop-tile-init : goal.loop-tile-init
@@ -20,20 +22,27 @@ loop-tile-init c =
 
 pub push-requires-clause-size : goal.push-requires-clause-size
 push-requires-clause-size c =
-    subst (λ (z : Size). IsBlockOf z c.loop-tile.tile c.in_ok-made.made) (sym c.loop-tile.invariant.size) (subst (λ (b : Block). IsBlockOf c.args.extent c.loop-tile.tile b) (sym c.in_ok-made.ensures) (tile_block_is c.args.extent (shown_cells c.args.extent c.args.limit c.args.costs.now) c.loop-tile.tile))
+    subst (λ (z : Size). IsBlockOf z c.loop-tile.tile c.in-Ok.made) (sym c.loop-tile.invariant.size) (subst (λ (b : Block). IsBlockOf c.args.extent c.loop-tile.tile b) (sym c.in-Ok.ensures.0) (tile_block_is c.args.extent (shown_cells c.args.extent c.args.limit c.args.costs.now) c.loop-tile.tile))
 
 pub loop-tile-preserved : goal.loop-tile-preserved
 loop-tile-preserved c =
     let s = c.args.extent in
     let t = c.loop-tile.tile in
     let cells = shown_cells s c.args.limit c.args.costs.now in
-    let more = ap (λ (p : PatchState). p.tiles) c.in_ok-push.ensures.ok in
-    let pushed = pushed_tile s t c.in_ok-made.made c.loop-tile.patch.tiles c.push.new.self.tiles more in
+    let more = ap (λ (p : PatchState). p.tiles) c.in_ok-push-in-Ok.ensures.ok in
+    let pushed = pushed_tile s t c.in-Ok.made c.loop-tile.patch.tiles c.push.new.self.tiles more in
     record {
-      size = ap (λ (p : PatchState). p.size) c.in_ok-push.ensures.ok ∙ c.loop-tile.invariant.size;
-      above = above_pushed s None t (Some c.in_ok-made.made) c.loop-tile.patch.tiles c.push.new.self.tiles c.loop-tile.invariant.above pushed;
-      patch = patch_pushed s None cells t (Some c.in_ok-made.made) c.loop-tile.patch.tiles c.push.new.self.tiles c.loop-tile.invariant.patch c.in_ok-made.ensures pushed;
+      size = ap (λ (p : PatchState). p.size) c.in_ok-push-in-Ok.ensures.ok ∙ c.loop-tile.invariant.size;
+      above = above_pushed s None t (Some c.in-Ok.made) c.loop-tile.patch.tiles c.push.new.self.tiles c.loop-tile.invariant.above pushed;
+      patch = patch_pushed s None cells t (Some c.in-Ok.made) c.loop-tile.patch.tiles c.push.new.self.tiles c.loop-tile.invariant.patch c.in-Ok.ensures.0 pushed;
     }
+
+pub unreachable-requires : goal.unreachable-requires
+unreachable-requires c =
+    let s = c.args.extent in
+    let t = c.loop-tile.tile in
+    let cells = shown_cells s c.args.limit c.args.costs.now in
+    never_wide s c.args.limit c.args.costs.now t c.in-Err-Overflow.field-0-0 c.requires.limit (subst (λ (r : Result Block KernelRefusal). IsTileAnswer s cells t r) (c.in-Err-Overflow.is ∙ ap (λ (k : KernelRefusal). let r : Result Block KernelRefusal = Err k in r) c.in-Err-Overflow.field-0-is) c.cost_tile.ensures)
 
 pub returns-clause-patch : goal.returns-clause-patch
 returns-clause-patch c =

@@ -12,10 +12,8 @@ use Rattle.op_jobs.proofs.Sharing.{kept_size, size_kept}
 use Rattle.op_jobs.proofs.Telling.{job_tile, piece_told}
 use Rattle.op_jobs.proofs.tiles.do_tile.Goals as goal
 
-pub make_tile-requires-clause-within : goal.make_tile-requires-clause-within
-make_tile-requires-clause-within g c =
-    subst (λ (j : StatementJobs). c.index-tile.result.now < tiles_in j.size) (sym c.jobs.view_is)
-    (job_tile c.args.jobs.now c.args.own.now c.args.job c.index-tile.result.now c.requires.sound c.requires.own c.requires.below c.index-tile.ensures)
+pub tile_by-requires-clause-within : goal.tile_by-requires-clause-within
+tile_by-requires-clause-within g c = job_tile c.args.jobs.now c.args.own.now c.args.job c.index-tile.result.now c.requires.sound c.requires.own c.requires.below c.index-tile.ensures
 
 pub unless_same-requires : goal.unless_same-requires
 unless_same-requires g c =
@@ -28,7 +26,7 @@ pub returns-clause-piece : goal.returns-clause-piece
 returns-clause-piece g c =
     let j = c.args.jobs.now in
     let t = c.index-tile.result.now in
-    let answer = subst (λ (x : StatementJobs). IsTileAnswer x.size (now_in x) t (Ok c.in_ok-made.made)) c.jobs.view_is c.in_ok-made.ensures.answer in
+    let answer : IsTileAnswer j.size (now_in j) t (Ok c.in_ok-made.made) = c.in_ok-made.ensures.answer in
     let other = subst (λ (x : StatementJobs). IsOther x.kept t c.in_ok-made.made c.unless_same.result) c.jobs.view_is c.unless_same.ensures.other in
     let at = c.index-tile.ensures ∙ get_or_default c.args.own.now.tiles.items c.args.job t 0 c.requires.below in
     subst (λ u. IsTileMade j.size (was_in j) (now_in j) u c.unless_same.result) at

@@ -1,3 +1,4 @@
+use Rattle.std.proofs.Common.{refl}
 use Rattle.layer_tiles.specs.Operands.{cells_after}
 use Rattle.statement_parser.specs.Views.{op_view}
 use Rattle.map_waves.specs.Keeping.{kept_now, was_of}
@@ -11,9 +12,9 @@ returns-clause-jobs g c =
     let operands = c.args.operands.now in
     let t = plain_is s op (cells_after operands) c.requires.plain in
     record {
-      class = t.class;
       tiles = listed_is s op (was_of (kept_now c.args.kept)) operands c.felt_within.result c.in_ok-set.set c.in_ok-tiles.tiles.items t.by c.felt_within.ensures.reach c.in_ok-set.ensures.set c.in_ok-tiles.ensures;
       local_is = c.in_ok-local.ensures;
+      list_is = (t.class, refl);
       beside_is = t.beside_is;
       viewers = t.viewers;
     }

@@ -22,9 +22,3 @@ returns-in-Tiles-clause-piece g c = piece_of c.args.jobs.now c.in-Tiles.own c.ar
 
 pub returns-in-Whole-clause-piece : goal.returns-in-Whole-clause-piece
 returns-in-Whole-clause-piece g c = piece_whole c.args.jobs.now c.in-Whole.field-0 c.args.job c.do_whole.result (ap (λ (j : StatementJobs). j.own) (sym c.jobs.view_is) ∙ c.in-Whole.is) c.do_whole.ensures.piece
-
-pub unreachable-requires : goal.unreachable-requires
-unreachable-requires g c =
-    let own = ap (λ (j : StatementJobs). j.own) (sym c.jobs.view_is) ∙ c.in-Made.is in
-    let none = (sound_of c.args.jobs.now c.requires.jobs.is_sound).count_is ∙ ap count_of own in
-    omega (arith, c.requires.below, none)

@@ -6,6 +6,3 @@ gather_whole-requires-clause-sound c = sound_of c.args.jobs c.requires.jobs.is_s
 
 pub gather_tiles-requires-clause-sound : goal.gather_tiles-requires-clause-sound
 gather_tiles-requires-clause-sound c = sound_of c.args.jobs c.requires.jobs.is_sound
-
-pub gather_made-requires-clause-sound : goal.gather_made-requires-clause-sound
-gather_made-requires-clause-sound c = sound_of c.args.jobs c.requires.jobs.is_sound

@@ -1,12 +1,11 @@
-use Rattle.std.proofs.Common.{◌≡◌, ◌<◌, None, length, sym, ◌∙◌, ap, subst, arith}
+use Rattle.std.proofs.Common.{None, arith, subst}
 use Rattle.map_nums.specs.Grids.{cells_in}
 use Rattle.drainage_flow.specs.FlowNets.{net_of}
-use Rattle.drainage_flow.specs.Pouring.{ArePools}
-use Rattle.drainage_flow.specs.First.{AreFlows}
+use Rattle.drainage_flow.specs.Pouring.{flow_in, ArePools}
 use Rattle.drainage_flow.specs.FlowBands.{all_downs, all_waits, all_flows}
+use Rattle.drainage_flow.proofs.Ends.{grid_shown}
 use Rattle.drainage_flow.proofs.FlowBands.{fresh_places, bands_even, bands_end, bands_pools, flows_of}
-use Rattle.drainage_flow.proofs.Seats.{if_ok}
-use Rattle.drainage_flow.proofs.pools.flows_of_bands.Goals as goal
+use Rattle.drainage_flow.proofs.pools.pour.Goals as goal
 
 pub run_all-requires-clause-even : goal.run_all-requires-clause-even
 run_all-requires-clause-even c = bands_even c.args.extent c.args._surface.now c.args._weights.now c.args.bands.now 0 (cells_in c.args.extent) c.requires.bands
@@ -31,4 +30,4 @@ returns c =
     let bs = c.run_all.new.bands in
     let q : ArePools net (fresh_places net) 0 (cells_in s) (cells_in s) None (all_downs bs) (all_waits bs) (all_flows bs) = subst (λ k. ArePools net (fresh_places net) 0 (cells_in s) k None (all_downs bs) (all_waits bs) (all_flows bs)) c.cells.ensures.cells q in
     let f = flows_of s c.args._surface.now c.args._weights.now (all_downs bs) (all_waits bs) (all_flows bs) q in
-    if_ok c.joined.result (λ flows e. subst (AreFlows s c.args._surface.now c.args._weights.now) (sym e) f) c.joined.ensures
+    record { even = c.run_all.ensures.even; counts = c.run_all.ensures.counts; flows = f; cells = grid_shown s c.args._surface.now c.args._weights.now (flow_in (all_flows bs)) f.each }

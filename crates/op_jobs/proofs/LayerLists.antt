@@ -1,0 +1,100 @@
+-- Layers that were not there, place by place, in the words of operations.
+use Rattle.std.proofs.Common.{◌≡◌, ℕ, ◌^◌, ◌<◌, List, Option, Some, None, Result, refl, sym, ◌∙◌, ap, subst, arith, IsTrue, IsFalse, Ok, Err, IfOk}
+use Rattle.map_nums.specs.Grids.{Size, IsSize, Cells}
+use Rattle.map_nums.specs.Tiles.{tiles}
+use Rattle.map_defs.specs.Damage.{op_damage, has_work}
+use Rattle.map_defs.specs.Flow.{flow_grid}
+use Rattle.map_defs.specs.Operate.{operate, operand}
+use Rattle.map_defs.specs.Ops.{Op, Term, local_op, difference_op, ratio_op, rating_op, focal_op, zonal_op, form_op, direction_op, flow_op, spread_op, sight_op, region_op}
+use Rattle.map_defs.specs.Rounds.{spread_grid}
+use Rattle.map_defs.specs.Spread.{IsSpread}
+use Rattle.map_defs.specs.Work.{op_work, first_work}
+use Rattle.map_defs.proofs.SpreadCells.{spread_is, spread_only}
+use Rattle.layer_tiles.specs.Answers.{IsTileAnswer}
+use Rattle.layer_tiles.specs.Changes.{ChangeState}
+use Rattle.layer_tiles.specs.Operands.{cells_after}
+use Rattle.layer_tiles.specs.Tiles.{Block}
+use Rattle.layer_tiles.specs.declared.kernels.KernelRefusal.{KernelRefusal}
+use Rattle.friction_spread.specs.Bands.{ground_of}
+use Rattle.friction_spread.specs.Lists.{IsCostList}
+use Rattle.friction_spread.specs.declared.lists.CostList.{CostList}
+use Rattle.map_waves.specs.Statements.{made, damage_by, work_by, cells_were}
+use Rattle.op_jobs.specs.Classes.{is_local}
+use Rattle.op_jobs.specs.Lists.{IsList, list_cells, IsListMade, IsListOf}
+use Rattle.op_jobs.specs.declared.lists.LayerList.{LayerList}
+use Rattle.op_jobs.specs.declared.lists.LayerList.TheVariants.{Costs}
+use Rattle.op_jobs.proofs.Hits.{work_none}
+use Rattle.op_jobs.proofs.WholeRanges.{work_little}
+
+pub ok_all : {A E : Type 0} {P Q R S : A → Type 0} (r : Result A E) → IfOk r P → IfOk r Q → IfOk r R → ((a : A) → P a → Q a → R a → S a) → IfOk r S
+ok_all (Ok a) p q s h = h a p q s
+ok_all (Err e) p q s h = tt
+
+-- ---- what a list tells of the jobs that share it
+
+pub work_told : (s : Size) (op : Op) (operands : List ChangeState) (was : Option Cells) (list : Option LayerList) (work : ℕ) → IsListOf s op operands was list work → (work ≡ work_by s op was operands) × (work < 2 ^ 32)
+work_told s op operands was None work is = (is.1 ∙ sym (work_none s op was operands is.0), omega (arith, is.1))
+work_told s op operands was (Some list) work is = (is.1.work_is ∙ ap (λ (w : Option Cells). work_by s op w operands) (sym is.0), is.1.little)
+
+module _ (s : Size) (op : Op) (operands : List ChangeState) (was : Option Cells) (work : ℕ) where
+  pub class_told : (list : Option LayerList) → ((l : LayerList) → list ≡ Some l → ⊥) → IsListOf s op operands was list work → IsFalse (has_work op)
+  class_told None none is = is.0
+  class_told (Some l) none is = absurd (none l refl)
+
+  pub made_told : (list : Option LayerList) (l : LayerList) → list ≡ Some l → IsListOf s op operands was list work → IsListMade s op operands l work
+  made_told list l e is = let P : Option LayerList → Type 0 = λ o. IsListOf s op operands was o work in (subst P e is).1
+
+pub answer_told : (s : Size) (op : Op) (operands : List ChangeState) (list : LayerList) (work t : ℕ) (r : Result Block KernelRefusal) → IsListMade s op operands list work → IsTileAnswer s (list_cells s list) t r → IsTileAnswer s (made s op (cells_after operands)) t r
+answer_told s op operands list work t r is = subst (λ (cells : Cells). IsTileAnswer s cells t r) is.cells
+
+-- ---- operations that take work where there was no layer
+
+pub all_damaged : (s : Size) (op : Op) (operands : List ChangeState) → tiles s ≡ damage_by s op None operands
+unfolding op_damage
+all_damaged s op operands = refl
+
+pub work_not_local : (op : Op) → IsTrue (has_work op) → IsFalse (is_local op)
+work_not_local (flow_op t u) e = refl
+work_not_local (spread_op limit t u) e = refl
+work_not_local (region_op t) e = refl
+work_not_local (local_op stat ts) e = absurd cc
+work_not_local (difference_op t u) e = absurd cc
+work_not_local (ratio_op t u) e = absurd cc
+work_not_local (rating_op t rates) e = absurd cc
+work_not_local (focal_op stat r t) e = absurd cc
+work_not_local (zonal_op stat t u) e = absurd cc
+work_not_local (form_op form t) e = absurd cc
+work_not_local (direction_op t) e = absurd cc
+work_not_local (sight_op sight t u) e = absurd cc
+
+work_fresh : (s : Size) (op : Op) (operands : List ChangeState) → IsTrue (has_work op) → work_by s op None operands ≡ first_work s (made s op (cells_after operands))
+unfolding op_work
+work_fresh s op operands e = rw (e) refl
+
+listed : (s : Size) (op : Op) (operands : List ChangeState) (list : LayerList) (n : ℕ) → IsSize s → IsTrue (has_work op) → IsList s list → list_cells s list ≡ made s op (cells_after operands) → n ≡ first_work s (list_cells s list) → IsListMade s op operands list n
+listed s op operands list n h works is cells work =
+    let w : n ≡ work_by s op None operands = work ∙ ap (first_work s) cells ∙ sym (work_fresh s op operands works) in
+    record {
+      class = works;
+      list_is = is;
+      cells = cells;
+      work_is = w;
+      little = subst (λ k. k < 2 ^ 32) (sym w) (work_little s (cells_were operands) (cells_after operands) op None (made s op (cells_after operands)) h);
+    }
+
+module _ (s : Size) (h : IsSize s) (operands : List ChangeState) (one other : Cells) (e : one ≡ operand (cells_after operands) 0) (f : other ≡ operand (cells_after operands) 1) (t u : Term) where
+  pub flow_listed : (op : Op) (list : LayerList) (n : ℕ) → op ≡ flow_op t u → IsList s list → list_cells s list ≡ (flow_grid s one other).cells → n ≡ first_work s (flow_grid s one other).cells → IsListMade s op operands list n
+  unfolding operate
+  flow_listed op list n o is cells work =
+      let here : (flow_grid s one other).cells ≡ made s (flow_op t u) (cells_after operands) = ap (λ (xs : Cells). (flow_grid s xs other).cells) e ∙ ap (λ (xs : Cells). (flow_grid s (operand (cells_after operands) 0) xs).cells) f in
+      subst (λ (x : Op). IsListMade s x operands list n) (sym o) (listed s (flow_op t u) operands list n h refl is (cells ∙ here) (work ∙ ap (first_work s) (sym cells)))
+
+  pub spread_listed : (op : Op) (limit : ℕ) (list : CostList) → op ≡ spread_op limit t u → IsCostList (ground_of s one other limit) list → IsListMade s op operands (Costs list) list.worked
+  unfolding operate
+  spread_listed op limit list o is =
+      let a = operand (cells_after operands) 0 in
+      let b = operand (cells_after operands) 1 in
+      let P : Cells → Cells → Type 0 = λ xs ys. IsSpread s xs ys limit (list_cells s (Costs list)) in
+      let here : IsSpread s a b limit (list_cells s (Costs list)) = subst (λ (xs : Cells). P xs b) e (subst (P one) f is.spread) in
+      let cells : list_cells s (Costs list) ≡ (spread_grid limit s a b).cells = spread_only s a b limit _ _ here (spread_is s a b limit) in
+      subst (λ (x : Op). IsListMade s x operands (Costs list) list.worked) (sym o) (listed s (spread_op limit t u) operands (Costs list) list.worked h refl (is.limit, is.count) cells is.worked)
