@@ -1,12 +1,12 @@
 -- Layers that were not there, in the words of operations.
-use Rattle.std.proofs.Common.{◌≡◌, ℕ, ◌+◌, ◌*◌, ◌<◌, ◌≤◌, List, [], ◌∷◌, length, Option, Some, None, sym, ap, subst, ◌∙◌, arith, IsTrue}
+use Rattle.std.proofs.Common.{◌≡◌, ℕ, ◌+◌, ◌*◌, ◌<◌, ◌≤◌, false, true, List, [], ◌∷◌, length, Option, Some, None, sym, ap, subst, ◌∙◌, arith, IsTrue}
 use Rattle.std.specs.List.{All}
 use Rattle.std.proofs.lemmas.List.FromFn.{length-range_with_len}
 use Rattle.map_nums.specs.Grids.{Size, Cells, cells_in}
 use Rattle.map_nums.specs.Tiles.{tiles_in}
 use Rattle.map_defs.specs.Damage.{op_damage}
 use Rattle.map_defs.specs.Operate.{operand}
-use Rattle.map_defs.specs.Ops.{Op, Term, flow_op, spread_op}
+use Rattle.map_defs.specs.Ops.{Op, Term, local_op, difference_op, ratio_op, rating_op, focal_op, zonal_op, form_op, direction_op, flow_op, spread_op, sight_op, region_op}
 use Rattle.layer_tiles.specs.Changes.{ChangeState}
 use Rattle.layer_tiles.specs.Operands.{cells_after}
 use Rattle.layer_tiles.specs.Tallies.{TallyState, RisesBy}
@@ -14,13 +14,33 @@ use Rattle.layer_tiles.proofs.Rising.{rises_then, rises_within}
 use Rattle.friction_spread.specs.Bands.{ground_of}
 use Rattle.map_waves.specs.Operands.{IsOperand}
 use Rattle.map_waves.specs.Statements.{damage_by}
-use Rattle.op_jobs.specs.Fresh.{is_banded, AreBothCells, IsCosts, IsFlows, IsBand, IsPart, grounding}
+use Rattle.op_jobs.specs.Classes.{is_region}
+use Rattle.op_jobs.specs.Fresh.{is_banded, AreBothCells, IsCosts, IsFlows, IsLabels, IsBand, IsPart, grounding}
 use Rattle.op_jobs.specs.Ranges.{HasRanges}
 use Rattle.op_jobs.specs.Sound.{first_by}
 use Rattle.op_jobs.specs.declared.ground.BothCells.{BothCells}
 use Rattle.op_jobs.specs.declared.ground.Part.{Part}
 use Rattle.op_jobs.specs.declared.own.Own.{Own}
 use Rattle.op_jobs.specs.declared.own.Own.TheVariants as an_own
+
+-- ---- what holds of each operation that labels regions holds of this one
+
+no : false ≡ true → ⊥
+no e = cc
+
+pub region_is : (op : Op) → IsTrue (is_region op) → (P : Op → Type 0) → ((t : Term) → P (region_op t)) → P op
+region_is (local_op stat ts) r P h = absurd (no r)
+region_is (difference_op t u) r P h = absurd (no r)
+region_is (ratio_op t u) r P h = absurd (no r)
+region_is (rating_op t rates) r P h = absurd (no r)
+region_is (focal_op stat n t) r P h = absurd (no r)
+region_is (zonal_op stat t u) r P h = absurd (no r)
+region_is (form_op f t) r P h = absurd (no r)
+region_is (direction_op t) r P h = absurd (no r)
+region_is (flow_op t u) r P h = absurd (no r)
+region_is (spread_op limit t u) r P h = absurd (no r)
+region_is (sight_op sight t u) r P h = absurd (no r)
+region_is (region_op t) r P h = h t
 
 -- ---- reads
 
@@ -83,3 +103,7 @@ module _ (s : Size) (op : Op) (operands : List ChangeState) (one other : Cells) 
   flows_part is h =
       let there = subst (λ (o : Op). IsBand o s (operand (cells_after operands) 0) (operand (cells_after operands) 1) n k p) is h in
       subst (λ (xs : Cells). IsFlows s xs other n k p) (sym e) (subst (λ (xs : Cells). IsFlows s (operand (cells_after operands) 0) xs n k p) (sym f) there)
+
+pub labels_part : (s : Size) (op : Op) (operands : List ChangeState) (cells : Cells) → IsTrue (is_region op) → cells ≡ operand (cells_after operands) 0 → (n k : ℕ) (p : Part) → IsPart s op operands n k p → IsLabels s cells n k p
+labels_part s op operands cells r e n k p =
+    region_is op r (λ o. IsPart s o operands n k p → IsLabels s cells n k p) (λ t h. subst (λ (xs : Cells). IsLabels s xs n k p) (sym e) h)

@@ -6,9 +6,11 @@ use Rattle.map_defs.specs.Damage.{op_damage, has_work}
 use Rattle.map_defs.specs.Flow.{flow_grid}
 use Rattle.map_defs.specs.Operate.{operate, operand}
 use Rattle.map_defs.specs.Ops.{Op, Term, local_op, difference_op, ratio_op, rating_op, focal_op, zonal_op, form_op, direction_op, flow_op, spread_op, sight_op, region_op}
-use Rattle.map_defs.specs.Rounds.{spread_grid}
+use Rattle.map_defs.specs.Regions.{AreRegions}
+use Rattle.map_defs.specs.Rounds.{spread_grid, region_grid}
 use Rattle.map_defs.specs.Spread.{IsSpread}
 use Rattle.map_defs.specs.Work.{op_work, first_work}
+use Rattle.map_defs.proofs.RegionCells.{regions_are, regions_only}
 use Rattle.map_defs.proofs.SpreadCells.{spread_is, spread_only}
 use Rattle.layer_tiles.specs.Answers.{IsTileAnswer}
 use Rattle.layer_tiles.specs.Changes.{ChangeState}
@@ -18,11 +20,14 @@ use Rattle.layer_tiles.specs.declared.kernels.KernelRefusal.{KernelRefusal}
 use Rattle.friction_spread.specs.Bands.{ground_of}
 use Rattle.friction_spread.specs.Lists.{IsCostList}
 use Rattle.friction_spread.specs.declared.lists.CostList.{CostList}
+use Rattle.region_labels.specs.Provisional.{IsLabelList}
+use Rattle.region_labels.specs.declared.shows.ProvisionalLabels.{ProvisionalLabels}
 use Rattle.map_waves.specs.Statements.{made, damage_by, work_by, cells_were}
-use Rattle.op_jobs.specs.Classes.{is_local}
+use Rattle.op_jobs.specs.Classes.{is_local, is_region}
 use Rattle.op_jobs.specs.Lists.{IsList, list_cells, IsListMade, IsListOf}
 use Rattle.op_jobs.specs.declared.lists.LayerList.{LayerList}
-use Rattle.op_jobs.specs.declared.lists.LayerList.TheVariants.{Costs}
+use Rattle.op_jobs.specs.declared.lists.LayerList.TheVariants.{Costs, Labels}
+use Rattle.op_jobs.proofs.FreshOps.{region_is}
 use Rattle.op_jobs.proofs.Hits.{work_none}
 use Rattle.op_jobs.proofs.WholeRanges.{work_little}
 
@@ -98,3 +103,15 @@ module _ (s : Size) (h : IsSize s) (operands : List ChangeState) (one other : Ce
       let here : IsSpread s a b limit (list_cells s (Costs list)) = subst (λ (xs : Cells). P xs b) e (subst (P one) f is.spread) in
       let cells : list_cells s (Costs list) ≡ (spread_grid limit s a b).cells = spread_only s a b limit _ _ here (spread_is s a b limit) in
       subst (λ (x : Op). IsListMade s x operands (Costs list) list.worked) (sym o) (listed s (spread_op limit t u) operands (Costs list) list.worked h refl (is.limit, is.count) cells is.worked)
+
+module _ (s : Size) (h : IsSize s) (operands : List ChangeState) (one : Cells) (e : one ≡ operand (cells_after operands) 0) (list : ProvisionalLabels) (is : IsLabelList s one list) where
+  labels_made : (t : Term) → IsListMade s (region_op t) operands (Labels list) list.worked
+  unfolding operate
+  labels_made t =
+      let of = operand (cells_after operands) 0 in
+      let here : AreRegions s of (list_cells s (Labels list)) = subst (λ (xs : Cells). AreRegions s xs (list_cells s (Labels list))) e is.regions in
+      let cells : list_cells s (Labels list) ≡ (region_grid s of).cells = regions_only s of _ _ here (regions_are s of) in
+      listed s (region_op t) operands (Labels list) list.worked h refl (is.back, is.count) cells is.worked
+
+  pub labels_listed : (op : Op) → IsTrue (is_region op) → IsListMade s op operands (Labels list) list.worked
+  labels_listed op r = region_is op r (λ o. IsListMade s o operands (Labels list) list.worked) labels_made

@@ -13,6 +13,7 @@ pub mod Near
 pub mod Starts
 pub mod SpreadBands
 pub mod FlowBands
+pub mod LabelBands
 pub mod FreshOps
 pub mod ZonalParts
 pub mod Patching

@@ -1,12 +1,14 @@
 -- What jobs rest on holds in one way at most.
-use Rattle.std.proofs.Common.{◌≡◌, ℕ, List, [], ◌∷◌, Option, Some, None, subst}
+use Rattle.std.proofs.Common.{◌≡◌, ℕ, zero, suc, ℤ, pos, negsuc, List, [], ◌∷◌, Option, Some, None, subst}
 use Rattle.std.proofs.Math.Logic.{∥∥₁_elim}
 use Rattle.std.proofs.Props.{props}
-use Rattle.std.specs.Coded.{×_prop, Unit-prop}
+use Rattle.std.specs.Coded.{×_prop, Π_prop, Unit-prop}
+use Rattle.std.specs.Prelude.{Vec}
+use Rattle.std.specs.declared.alloc.Global.{Global}
 use Rattle.map_nums.specs.declared.Stat.{Stat}
 use Rattle.map_nums.specs.declared.Stat.TheVariants.{Product}
 use Rattle.map_nums.specs.declared.Rate.{Rate}
-use Rattle.map_nums.specs.Grids.{Size, Cells}
+use Rattle.map_nums.specs.Grids.{Size, Cells, cell_at}
 use Rattle.map_defs.specs.Local.{LocalOp, of_stat, difference, ratio, rating}
 use Rattle.map_defs.specs.Ops.{Term, layer_term, number_term, Op, local_op, difference_op, ratio_op, rating_op, focal_op, zonal_op, form_op, direction_op, flow_op, spread_op, sight_op, region_op}
 use Rattle.map_defs.specs.Operate.{operand}
@@ -16,6 +18,7 @@ use Rattle.layer_tiles.specs.Operands.{cells_after}
 use Rattle.local_ops.specs.Operations.{op_of, Takes}
 use Rattle.drainage_flow.specs.FlowBands.{AreEven}
 use Rattle.drainage_flow.specs.declared.flow_band.FlowBand.{FlowBand}
+use Rattle.region_labels.specs.Roots.{IsBack, AreBack}
 use Rattle.local_ops.specs.declared.ops.LocalOp.{LocalOp as KernelOp}
 use Rattle.statement_parser.specs.Formed.{Each, IsRate, IsNoProduct, IsRadius}
 use Rattle.statement_parser.specs.Views.{op_view}
@@ -25,7 +28,7 @@ use Rattle.map_waves.specs.Keeping.{IsRightKept}
 use Rattle.map_waves.specs.declared.keeping.Kept.{Kept}
 use Rattle.op_jobs.specs.Beside.{IsNothing, IsBook, AreViewers, suits}
 use Rattle.op_jobs.specs.Owning.{IsLocalOf, IsOwn}
-use Rattle.op_jobs.specs.Fresh.{AreBothCells, IsCounted, IsGrounded}
+use Rattle.op_jobs.specs.Fresh.{AreBothCells, AreOnlyCells, IsCounted, IsGrounded}
 use Rattle.op_jobs.specs.declared.ground.BothCells.{BothCells}
 use Rattle.op_jobs.specs.declared.ground.Ground.{Ground}
 use Rattle.op_jobs.specs.declared.ground.Ground.TheVariants as a_ground
@@ -35,7 +38,7 @@ use Rattle.op_jobs.specs.Sound.{StatementJobs, IsSound}
 use Rattle.op_jobs.specs.declared.beside.Beside.{Beside}
 use Rattle.op_jobs.specs.declared.beside.Beside.TheVariants.{Nothing, Book, Viewers}
 use Rattle.op_jobs.specs.declared.lists.LayerList.{LayerList}
-use Rattle.op_jobs.specs.declared.lists.LayerList.TheVariants.{Costs, Flow}
+use Rattle.op_jobs.specs.declared.lists.LayerList.TheVariants.{Costs, Flow, Labels}
 use Rattle.op_jobs.specs.declared.own.Own.{Own}
 use Rattle.op_jobs.specs.declared.own.Own.TheVariants as an_own
 
@@ -137,9 +140,19 @@ even_once : (bands : List FlowBand) → IsProp (AreEven bands)
 even_once [] = Unit-prop
 even_once (b ∷ bands) = let rest : IsProp (AreEven bands) = even_once bands in hlevel (rest, props)
 
+back_once : (i : ℕ) (label : Option ℤ) → IsProp (IsBack i label)
+back_once i None = Unit-prop
+back_once i (Some (pos zero)) = hlevel
+back_once i (Some (pos (suc place))) = hlevel props
+back_once i (Some (negsuc n)) = hlevel
+
+all_back_once : (labels : Cells) → IsProp (AreBack labels)
+all_back_once labels = Π_prop λ i. Π_prop λ h. back_once i (cell_at labels i)
+
 list_once : (s : Size) (list : LayerList) → IsProp (IsList s list)
 list_once s (Costs list) = hlevel props
 list_once s (Flow list) = let even : IsProp (AreEven list.bands.items) = even_once list.bands.items in hlevel (even, props)
+list_once s (Labels list) = let back : IsProp (AreBack list.labels.items) = all_back_once list.labels.items in hlevel (back, props)
 
 listed_once : (s : Size) (op : Op) (operands : List ChangeState) (was : Option Cells) (list : Option LayerList) (work : ℕ) → IsProp (IsListOf s op operands was list work)
 listed_once s op operands was None work = hlevel props
@@ -160,6 +173,7 @@ cells_once s op operands n cells = let formed : IsProp (HasRanges op) = op_once 
 
 grounded_once : (s : Size) (op : Op) (operands : List ChangeState) (n : ℕ) (ground : Ground) → IsProp (IsGrounded s op operands n ground)
 grounded_once s op operands n (a_ground.Cells cells) = cells_once s op operands n cells
+grounded_once s op operands n (a_ground.Only cells) = hlevel props
 grounded_once s op operands n a_ground.Tiles = hlevel props
 
 pub grounded_of : (s : Size) (op : Op) (operands : List ChangeState) (n : ℕ) (ground : Ground) → ∥ IsGrounded s op operands n ground ∥₁ → IsGrounded s op operands n ground
@@ -167,6 +181,9 @@ grounded_of s op operands n ground is = ∥∥₁_elim is (grounded_once s op op
 
 pub cells_of_ground : (s : Size) (op : Op) (operands : List ChangeState) (n : ℕ) (ground : Ground) (cells : BothCells) → ground ≡ a_ground.Cells cells → ∥ IsGrounded s op operands n ground ∥₁ → AreBothCells s op operands n cells
 cells_of_ground s op operands n ground cells e is = subst (IsGrounded s op operands n) e (grounded_of s op operands n ground is)
+
+pub only_of_ground : (s : Size) (op : Op) (operands : List ChangeState) (n : ℕ) (ground : Ground) (cells : Vec (Option ℤ) Global) → ground ≡ a_ground.Only cells → ∥ IsGrounded s op operands n ground ∥₁ → AreOnlyCells s op operands n cells.items
+only_of_ground s op operands n ground cells e is = subst (IsGrounded s op operands n) e (grounded_of s op operands n ground is)
 
 pub counted_of : (s : Size) (op : Op) (operands : List ChangeState) (n : ℕ) (ground : Ground) → ground ≡ a_ground.Tiles → ∥ IsGrounded s op operands n ground ∥₁ → IsCounted s op operands n
 counted_of s op operands n ground e is = subst (IsGrounded s op operands n) e (grounded_of s op operands n ground is)

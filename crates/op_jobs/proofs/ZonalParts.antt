@@ -1,5 +1,5 @@
 -- What parts of a map's tiles count, and the looks that it takes.
-use Rattle.std.proofs.Common.{◌≡◌, ℕ, zero, suc, ◌+◌, ◌-◌, ◌*◌, ◌<◌, Bool, true, false, List, [], ◌∷◌, length, Option, Some, None, slice_get, refl, sym, ap, subst, ◌∙◌, arith, IsTrue, cond, Result, IfOk}
+use Rattle.std.proofs.Common.{◌≡◌, ℕ, zero, suc, ℤ, ◌+◌, ◌-◌, ◌*◌, ◌<◌, Bool, true, false, List, [], ◌∷◌, length, Option, Some, None, slice_get, refl, sym, ap, subst, ◌∙◌, arith, IsTrue, cond, Result, IfOk}
 use Rattle.std.specs.Prelude.{IfSome, Vec, is_some}
 use Rattle.std.specs.Borrow.{Bor}
 use Rattle.std.specs.List.{All, sum_by, range_with_len}
@@ -8,6 +8,7 @@ use Rattle.std.proofs.lemmas.List.Sums.{sum_by-cons}
 use Rattle.map_nums.specs.declared.Stat.{Stat}
 use Rattle.map_nums.specs.Grids.{Size, Cells}
 use Rattle.map_nums.specs.Tiles.{tiles_in}
+use Rattle.map_defs.specs.Damage.{has_work}
 use Rattle.map_defs.specs.Operate.{operand}
 use Rattle.map_defs.specs.Ops.{Op, Term, local_op, difference_op, ratio_op, rating_op, focal_op, zonal_op, form_op, direction_op, flow_op, spread_op, sight_op, region_op}
 use Rattle.layer_tiles.specs.Changes.{ChangeState}
@@ -18,20 +19,22 @@ use Rattle.zonal_totals.specs.Ranges.{CountsState, AreTileCounts, AreRanges}
 use Rattle.friction_spread.specs.Costs.{GroundState}
 use Rattle.friction_spread.specs.declared.bands.CostBand.{CostBand}
 use Rattle.drainage_flow.specs.declared.flow_band.FlowBand.{FlowBand}
+use Rattle.region_labels.specs.declared.bands.LabelBand.{LabelBand}
 use Rattle.map_waves.specs.Found.{AreFound}
 use Rattle.map_waves.specs.Operands.{IsOperand}
 use Rattle.map_waves.specs.Keeping.{kept_now, was_of}
 use Rattle.map_waves.specs.declared.keeping.Kept.{Kept}
 use Rattle.map_waves.proofs.Totals.{sum_next}
-use Rattle.op_jobs.specs.Classes.{is_zonal}
-use Rattle.op_jobs.specs.Fresh.{is_banded, AreBothCells, IsCosts, IsFlows, IsCounts, AreAllCounts, IsGrounded, IsBand, IsPart, grounding, finding}
+use Rattle.op_jobs.specs.Classes.{is_zonal, is_region}
+use Rattle.op_jobs.specs.Fresh.{is_banded, AreBothCells, AreOnlyCells, IsCounted, IsCosts, IsFlows, IsLabels, IsCounts, AreAllCounts, IsGrounded, IsBand, IsPart, grounding, finding}
 use Rattle.op_jobs.specs.Parts.{part_start}
 use Rattle.op_jobs.specs.declared.beside.Beside.{Beside}
 use Rattle.op_jobs.specs.declared.ground.BothCells.{BothCells}
 use Rattle.op_jobs.specs.declared.ground.Ground.{Ground}
 use Rattle.op_jobs.specs.declared.ground.Ground.TheVariants as a_ground
 use Rattle.op_jobs.specs.declared.ground.Part.{Part}
-use Rattle.op_jobs.specs.declared.ground.Part.TheVariants.{Costs, Flows, Counts}
+use Rattle.op_jobs.specs.declared.ground.Part.TheVariants.{Costs, Flows, Labels, Counts}
+use Rattle.op_jobs.proofs.FreshOps.{region_is}
 use Rattle.op_jobs.proofs.Starts.{part_first, part_last, part_rises}
 use Rattle.op_jobs.proofs.ZonalBook.{values_are, zones_are, second_in}
 
@@ -73,10 +76,27 @@ quiet [] = refl
 quiet (x ∷ xs) = omega (arith, quiet xs, sum_by-cons (λ (k : ℕ). 0) x xs)
 
 -- bands
-pub bands_quiet : (s : Size) (op : Op) (operands : List ChangeState) (n : ℕ) → IsTrue (is_banded op) → sum_by (finding s op operands n) (range_with_len 0 n) ≡ 0
-bands_quiet s op operands n banded =
-    let P : Bool → Type 0 = λ b. sum_by (λ (k : ℕ). let v : ℕ = cond b 0 (2 * (part_start (tiles_in s) n (suc k) - part_start (tiles_in s) n k)) in v) (range_with_len 0 n) ≡ 0 in
-    subst P (sym banded) (quiet (range_with_len 0 n))
+bands_quiet : (s : Size) (op : Op) (operands : List ChangeState) (n : ℕ) → is_zonal op ≡ false → sum_by (finding s op operands n) (range_with_len 0 n) ≡ 0
+bands_quiet s op operands n other =
+    let P : Bool → Type 0 = λ b. sum_by (λ (k : ℕ). let v : ℕ = cond b (2 * (part_start (tiles_in s) n (suc k) - part_start (tiles_in s) n k)) 0 in v) (range_with_len 0 n) ≡ 0 in
+    subst P (sym other) (quiet (range_with_len 0 n))
+
+pub banded_other : (op : Op) → IsTrue (is_banded op) → is_zonal op ≡ false
+banded_other (local_op stat ts) b = refl
+banded_other (difference_op t u) b = refl
+banded_other (ratio_op t u) b = refl
+banded_other (rating_op t rates) b = refl
+banded_other (focal_op stat r t) b = refl
+banded_other (zonal_op stat t u) b = absurd (no b)
+banded_other (form_op f t) b = refl
+banded_other (direction_op t) b = refl
+banded_other (flow_op t u) b = refl
+banded_other (spread_op limit t u) b = refl
+banded_other (sight_op sight t u) b = refl
+banded_other (region_op t) b = refl
+
+pub region_other : (op : Op) → IsTrue (is_region op) → is_zonal op ≡ false
+region_other op r = region_is op r (λ o. is_zonal o ≡ false) (λ t. refl)
 
 pub none_was : (kept : Option (Bor (Kept Beside))) → false ≡ is_some kept → was_of (kept_now kept) ≡ None
 none_was None e = refl
@@ -88,11 +108,11 @@ all_found s op was operands n a b none z some r =
     rises_within (sum_by (finding s op operands n) (range_with_len 0 n)) 0 (grounding s op was operands) 0 a b (omega (arith, looks, tiles_counted s op operands n z some)) (omega arith) r
 
 -- the ground of bands takes all looks
-pub bands_found : (s : Size) (op : Op) (was : Option Cells) (operands : List ChangeState) (n : ℕ) (a b c : TallyState) → was ≡ None → IsTrue (is_banded op) → RisesBy (2 * tiles_in s) 0 a b → RisesBy (sum_by (finding s op operands n) (range_with_len 0 n)) 0 b c → RisesBy (grounding s op was operands) 0 a c
-bands_found s op was operands n a b c none banded r q =
+pub bands_found : (s : Size) (op : Op) (was : Option Cells) (operands : List ChangeState) (n : ℕ) (a b c : TallyState) → was ≡ None → is_zonal op ≡ false → RisesBy (2 * tiles_in s) 0 a b → RisesBy (sum_by (finding s op operands n) (range_with_len 0 n)) 0 b c → RisesBy (grounding s op was operands) 0 a c
+bands_found s op was operands n a b c none other r q =
     let looks : grounding s op was operands ≡ 2 * tiles_in s = ap (λ w. grounding s op w operands) none in
     let y = sum_by (finding s op operands n) (range_with_len 0 n) in
-    rises_within (2 * tiles_in s + y) (0 + 0) (grounding s op was operands) 0 a c (omega (arith, looks, bands_quiet s op operands n banded)) (omega arith) (rises_then (2 * tiles_in s) 0 y 0 a b c r q)
+    rises_within (2 * tiles_in s + y) (0 + 0) (grounding s op was operands) 0 a c (omega (arith, looks, bands_quiet s op operands n other)) (omega arith) (rises_then (2 * tiles_in s) 0 y 0 a b c r q)
 
 -- ---- what is found
 
@@ -117,6 +137,7 @@ counts_are s xs v z n m k all first end c both are ea en ef ee h =
 
 some_parts : (s : Size) (op : Op) (operands : List ChangeState) (n : ℕ) (ground : Ground) → IsGrounded s op operands n ground → 0 < n
 some_parts s op operands n (a_ground.Cells cells) is = is.some
+some_parts s op operands n (a_ground.Only cells) is = is.some
 some_parts s op operands n a_ground.Tiles is = is.some
 
 pub all_counts : (s : Size) (op : Op) (operands : List ChangeState) (ground : Ground) (parts : List Part) (stat : Stat) (t u : Term) → op ≡ zonal_op stat t u → AreFound IsGrounded IsPart s op operands ground parts → AreAllCounts s (operand (cells_after operands) 0) (operand (cells_after operands) 1) parts
@@ -136,21 +157,39 @@ found_cells s op operands ground cells parts is found = record {
   each = found.each;
 }
 
+pub found_only : (s : Size) (op : Op) (operands : List ChangeState) (ground : Ground) (cells : Vec (Option ℤ) Global) (parts : List Part) → ground ≡ a_ground.Only cells → AreFound IsGrounded IsPart s op operands ground parts → AreOnlyCells s op operands (length parts) cells.items
+found_only s op operands ground cells parts is found = subst (λ (g : Ground). IsGrounded s op operands (length parts) g) is found.from
+
+-- nothing that takes work is counted
+pub tiles_worked : (s : Size) (op : Op) (operands : List ChangeState) (ground : Ground) (parts : List Part) → ground ≡ a_ground.Tiles → IsTrue (has_work op) → AreFound IsGrounded IsPart s op operands ground parts → ⊥
+tiles_worked s op operands ground parts is works found =
+    let from : IsCounted s op operands (length parts) = subst (λ (g : Ground). IsGrounded s op operands (length parts) g) is found.from in
+    zonal_is op from.zonal (λ o. IsTrue (has_work o) → ⊥) (λ stat t u w. no w) works
+
 -- ---- parts of one kind are no others
 
 pub only_costs : (g : GroundState) (n k : ℕ) (p : Part) → ((b : CostBand) → p ≡ Costs b → ⊥) → IsCosts g n k p → ⊥
 only_costs g n k (Costs b) other is = other b refl
 only_costs g n k (Flows b) other is = is
+only_costs g n k (Labels b) other is = is
 only_costs g n k (Counts c) other is = is
 
 pub only_flows : (s : Size) (surface weights : Cells) (n k : ℕ) (p : Part) → ((b : FlowBand) → p ≡ Flows b → ⊥) → IsFlows s surface weights n k p → ⊥
 only_flows s surface weights n k (Costs b) other is = is
 only_flows s surface weights n k (Flows b) other is = other b refl
+only_flows s surface weights n k (Labels b) other is = is
 only_flows s surface weights n k (Counts c) other is = is
+
+pub only_labels : (s : Size) (cells : Cells) (n k : ℕ) (p : Part) → ((b : LabelBand) → p ≡ Labels b → ⊥) → IsLabels s cells n k p → ⊥
+only_labels s cells n k (Costs b) other is = is
+only_labels s cells n k (Flows b) other is = is
+only_labels s cells n k (Labels b) other is = other b refl
+only_labels s cells n k (Counts c) other is = is
 
 pub only_counts : (s : Size) (values zones : Cells) (n k : ℕ) (p : Part) → ((c : CountsState) → p ≡ Counts c → ⊥) → IsCounts s values zones n k p → ⊥
 only_counts s values zones n k (Costs b) other is = is
 only_counts s values zones n k (Flows b) other is = is
+only_counts s values zones n k (Labels b) other is = is
 only_counts s values zones n k (Counts c) other is = other c refl
 
 -- ---- the book of them

@@ -34,3 +34,7 @@ is_zonal op = false
 abbrev pub is_sight : Op → Bool
 is_sight (sight_op sight t u) = true
 is_sight op = false
+
+abbrev pub is_region : Op → Bool
+is_region (region_op t) = true
+is_region op = false

@@ -3,7 +3,7 @@ use Rattle.std.specs.Prelude.{◌≡◌, ℕ, suc, ◌-◌, ◌*◌, ◌<◌, �
 use Rattle.std.specs.List.{All}
 use Rattle.map_nums.specs.Grids.{Size, Cells, cells_in}
 use Rattle.map_nums.specs.Tiles.{tiles_in}
-use Rattle.map_defs.specs.Ops.{Op, zonal_op, flow_op, spread_op}
+use Rattle.map_defs.specs.Ops.{Op, zonal_op, flow_op, spread_op, region_op}
 use Rattle.map_defs.specs.Operate.{operand}
 use Rattle.layer_tiles.specs.Changes.{ChangeState}
 use Rattle.layer_tiles.specs.Operands.{cells_after}
@@ -12,14 +12,15 @@ use Rattle.friction_spread.specs.Bands.{ground_of, IsCostBand}
 use Rattle.drainage_flow.specs.FlowBands.{IsFlowBand}
 use Rattle.zonal_totals.specs.Ranges.{AreTileCounts}
 use Rattle.map_waves.specs.Operands.{IsOperand}
-use Rattle.op_jobs.specs.Classes.{is_zonal}
+use Rattle.region_labels.specs.Provisional.{IsLabelBand}
+use Rattle.op_jobs.specs.Classes.{is_zonal, is_region}
 use Rattle.op_jobs.specs.Parts.{part_start}
 use Rattle.op_jobs.specs.Ranges.{HasRanges}
 use Rattle.op_jobs.specs.declared.ground.BothCells.{BothCells}
 use Rattle.op_jobs.specs.declared.ground.Ground.{Ground}
 use Rattle.op_jobs.specs.declared.ground.Ground.TheVariants as a_ground
 use Rattle.op_jobs.specs.declared.ground.Part.{Part}
-use Rattle.op_jobs.specs.declared.ground.Part.TheVariants.{Costs, Flows, Counts}
+use Rattle.op_jobs.specs.declared.ground.Part.TheVariants.{Costs, Flows, Labels, Counts}
 
 -- workers make its layer in bands where it was not there
 abbrev pub is_banded : Op → Bool
@@ -38,6 +39,14 @@ pub record AreBothCells (s : Size) (op : Op) (operands : List ChangeState) (n : 
   pub first_count : length ground.first.items ≡ cells_in s
   pub second_count : length ground.second.items ≡ cells_in s
 
+-- all cells of the one operand, whose regions are labelled in n bands
+pub record AreOnlyCells (s : Size) (op : Op) (operands : List ChangeState) (n : ℕ) (cells : Cells) : Type 0 where
+  pub regions : IsTrue (is_region op)
+  pub some : 0 < n
+  pub few : n ≤ s.rows
+  pub cells_are : cells ≡ operand (cells_after operands) 0
+  pub count : length cells ≡ cells_in s
+
 -- a zonal statement's operands, for n parts of their tiles
 pub record IsCounted (s : Size) (op : Op) (operands : List ChangeState) (n : ℕ) : Type 0 where
   pub zonal : IsTrue (is_zonal op)
@@ -48,6 +57,7 @@ pub record IsCounted (s : Size) (op : Op) (operands : List ChangeState) (n : ℕ
 
 abbrev pub IsGrounded : Size → Op → List ChangeState → ℕ → Ground → Type 0
 IsGrounded s op operands n (a_ground.Cells ground) = AreBothCells s op operands n ground
+IsGrounded s op operands n (a_ground.Only cells) = AreOnlyCells s op operands n cells.items
 IsGrounded s op operands n a_ground.Tiles = IsCounted s op operands n
 
 -- each tile of both is looked at, where no layer is kept
@@ -57,23 +67,32 @@ grounding s op (Some was) operands = 0
 
 -- by part k of n, of its tiles; a band is found from the lists
 abbrev pub finding : Size → Op → List ChangeState → ℕ → ℕ → ℕ
-finding s op operands n k = if is_banded op then 0 else 2 * (part_start (tiles_in s) n (suc k) - part_start (tiles_in s) n k)
+finding s op operands n k = if is_zonal op then 2 * (part_start (tiles_in s) n (suc k) - part_start (tiles_in s) n k) else 0
 
 -- ---- what is found of part k of n
 
 abbrev pub IsCosts : GroundState → ℕ → ℕ → Part → Type 0
 IsCosts g n k (Costs band) = IsCostBand g (part_start g.size.rows n k) (part_start g.size.rows n (suc k)) band
 IsCosts g n k (Flows band) = ⊥
+IsCosts g n k (Labels band) = ⊥
 IsCosts g n k (Counts counts) = ⊥
 
 abbrev pub IsFlows : Size → Cells → Cells → ℕ → ℕ → Part → Type 0
 IsFlows s surface weights n k (Costs band) = ⊥
+IsFlows s surface weights n k (Labels band) = ⊥
 IsFlows s surface weights n k (Counts counts) = ⊥
 IsFlows s surface weights n k (Flows band) = IsFlowBand s surface weights (part_start s.rows n k * s.columns) ((part_start s.rows n (suc k) - part_start s.rows n k) * s.columns) band
+
+abbrev pub IsLabels : Size → Cells → ℕ → ℕ → Part → Type 0
+IsLabels s cells n k (Costs band) = ⊥
+IsLabels s cells n k (Flows band) = ⊥
+IsLabels s cells n k (Labels band) = IsLabelBand s cells (part_start s.rows n k) (part_start s.rows n (suc k)) band
+IsLabels s cells n k (Counts counts) = ⊥
 
 abbrev pub IsCounts : Size → Cells → Cells → ℕ → ℕ → Part → Type 0
 IsCounts s values zones n k (Costs band) = ⊥
 IsCounts s values zones n k (Flows band) = ⊥
+IsCounts s values zones n k (Labels band) = ⊥
 IsCounts s values zones n k (Counts counts) = AreTileCounts s values zones (part_start (tiles_in s) n k) (part_start (tiles_in s) n (suc k)) counts
 
 -- all parts of a zonal statement's tiles
@@ -84,6 +103,7 @@ pub record AreAllCounts (s : Size) (values zones : Cells) (parts : List Part) : 
 abbrev pub IsBand : Op → Size → Cells → Cells → ℕ → ℕ → Part → Type 0
 IsBand (spread_op limit t u) s sources friction n k part = IsCosts (ground_of s sources friction limit) n k part
 IsBand (flow_op t u) s surface weights n k part = IsFlows s surface weights n k part
+IsBand (region_op t) s first second n k part = IsLabels s first n k part
 IsBand (zonal_op stat t u) s values zones n k part = IsCounts s values zones n k part
 IsBand op s first second n k part = ⊥
 

@@ -8,19 +8,22 @@ use Rattle.layer_tiles.specs.Operands.{cells_after}
 use Rattle.friction_spread.specs.Lists.{list_cells as cost_cells}
 use Rattle.drainage_flow.specs.FlowBands.{all_flows, AreEven}
 use Rattle.drainage_flow.specs.Whole.{flow_cells}
+use Rattle.region_labels.specs.Roots.{AreBack, resolved_cells}
 use Rattle.map_waves.specs.Statements.{made, work_by}
 use Rattle.op_jobs.specs.declared.lists.LayerList.{LayerList}
-use Rattle.op_jobs.specs.declared.lists.LayerList.TheVariants.{Costs, Flow}
+use Rattle.op_jobs.specs.declared.lists.LayerList.TheVariants.{Costs, Flow, Labels}
 
 -- it has all places of a map
 abbrev pub IsList : Size → LayerList → Type 0
 IsList s (Costs list) = (list.limit ≤ 2000000000) × (length list.costs.items ≡ cells_in s)
 IsList s (Flow list) = (length list.surface.items ≡ cells_in s) × AreEven list.bands.items × (length (all_flows list.bands.items) ≡ cells_in s)
+IsList s (Labels list) = AreBack list.labels.items × (length list.labels.items ≡ cells_in s)
 
 -- the cells of the layer
 abbrev pub list_cells : Size → LayerList → Cells
 list_cells s (Costs list) = cost_cells s list
 list_cells s (Flow list) = flow_cells s list.surface.items list.bands.items
+list_cells s (Labels list) = resolved_cells s list.labels.items
 
 -- the layer of an operation that had none, and the work
 pub record IsListMade (s : Size) (op : Op) (operands : List ChangeState) (list : LayerList) (work : ℕ) : Type 0 where

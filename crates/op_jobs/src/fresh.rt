@@ -1,10 +1,9 @@
 //! Layers that were not there, which workers make in bands of rows.
-ghost use Rattle.std.specs.Prelude.{◌≡◌, List, ◌*◌, ◌<◌, ◌≤◌, length, IfOk, IfSome, IsTrue};
+ghost use Rattle.std.specs.Prelude.{◌≡◌, ◌*◌, ◌<◌, ◌≤◌, length, IfOk, IsTrue};
 ghost use Rattle.std.specs.List.{All};
-ghost use Rattle.map_nums.specs.Grids.{Size};
 ghost use Rattle.map_nums.specs.Tiles.{tiles_in};
-ghost use Rattle.map_defs.specs.Ops.{Op as Meant, terms_of};
-ghost use Rattle.layer_tiles.specs.Changes.{ChangeState};
+ghost use Rattle.map_defs.specs.Damage.{has_work};
+ghost use Rattle.map_defs.specs.Ops.{terms_of};
 ghost use Rattle.layer_tiles.specs.Tallies.{RisesBy};
 ghost use Rattle.statement_parser.specs.Views.{op_view};
 ghost use Rattle.map_waves.specs.Found.{AreFound};
@@ -15,6 +14,7 @@ ghost use Rattle.op_jobs.specs.Ranges.{HasRanges};
 
 use crate::flow_bands::{find_flows, flow_by};
 use crate::ground::{BothCells, Ground, Part};
+use crate::label_bands::labels_by;
 use crate::lists::LayerList;
 use crate::spread_bands::{find_costs, spread_by};
 use crate::whole::both_of;
@@ -60,19 +60,6 @@ pub(crate) fn lay<M: Tally>(
     Ok(BothCells { first, second })
 }
 
-/// What was found of bands, with the cells that it was found from.
-pub(crate) fn bands_found(found: Option<(Ground, Vec<Part>)>) -> Option<(BothCells, Vec<Part>)>
-    ensures { (s : Size) (op : Meant) (operands : List ChangeState) → IfSome found (λ q. AreFound IsGrounded IsPart s op operands q.0 q.1.items) → IfSome result (λ q. AreFound AreBothCells IsPart s op operands q.0 q.1.items) }
-{
-    let Some((ground, parts)) = found else {
-        return None;
-    };
-    match ground {
-        Ground::Cells(cells) => Some((cells, parts)),
-        Ground::Tiles => None,
-    }
-}
-
 /// What is found of one of so many bands.
 pub(crate) fn find_band(
     alloc: Global,
@@ -103,8 +90,8 @@ pub(crate) fn find_band(
     }
 }
 
-/// A layer that was not there, place by place, from what was found of its bands; and the units of work.
-pub(crate) fn make_fresh(
+/// Costs or flow that were not there, place by place, from what was found of their bands; and the units of work.
+fn make_of_both(
     alloc: Global,
     op: &Op,
     _operands: &Operands<'_>,
@@ -125,5 +112,30 @@ pub(crate) fn make_fresh(
         }
         Op::Flow { .. } => flow_by(alloc, extent, ground, parts),
         _ => unreachable!(),
+    }
+}
+
+/// A layer that was not there, place by place, from what was found of its bands; and the units of work.
+pub(crate) fn make_fresh(
+    alloc: Global,
+    op: &Op,
+    operands: &Operands<'_>,
+    extent: Extent,
+    ground: Ground,
+    parts: Vec<Part>,
+) -> Result<(LayerList, u64), NoMemory>
+    requires class { IsTrue (has_work (op_view op.now)) }
+    requires found { AreFound IsGrounded IsPart extent (op_view op.now) operands.now ground parts.items }
+    ensures { IfOk result (λ r. IsListMade extent (op_view op.now) operands.now r.0 r.1) }
+{
+    let _tiles = extent.tiles();
+    match ground {
+        Ground::Cells(cells) => make_of_both(alloc, op, operands, extent, cells, parts),
+        Ground::Only(cells) => {
+            let labels = labels_by(alloc, extent, &cells, parts)?;
+            let worked = labels.worked;
+            Ok((LayerList::Labels(labels), worked))
+        }
+        Ground::Tiles => unreachable!(),
     }
 }

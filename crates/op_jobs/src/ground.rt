@@ -3,6 +3,7 @@
 use drainage_flow::FlowBand;
 use friction_spread::CostBand;
 use layer_tiles::Cell;
+use region_labels::LabelBand;
 use zonal_totals::TileCounts;
 
 /// All cells of both operands.
@@ -17,6 +18,8 @@ pub struct BothCells {
 pub enum Ground {
     /// All cells of both operands, for bands of rows.
     Cells(BothCells),
+    /// All cells of the one operand, for bands of rows.
+    Only(Vec<Cell>),
     /// The operands, whose tiles are read part by part.
     Tiles,
 }
@@ -28,6 +31,8 @@ pub enum Part {
     Costs(CostBand),
     /// The flow of a band of rows, as far as it comes from these.
     Flows(FlowBand),
+    /// The labels of the regions within a band of rows.
+    Labels(LabelBand),
     /// How often each value and each tile occurs in each zone, in some tiles.
     Counts(TileCounts),
 }

@@ -9,6 +9,7 @@ mod flow_bands;
 mod fresh;
 mod ground;
 mod kernels;
+mod label_bands;
 mod lists;
 mod own;
 mod parts;

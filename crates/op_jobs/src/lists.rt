@@ -7,6 +7,7 @@ ghost use Rattle.op_jobs.specs.Lists.{IsList, list_cells};
 use drainage_flow::{FlowBand, flow_tile};
 use friction_spread::CostList;
 use layer_tiles::{Cell, Extent, KernelRefusal, Tile};
+use region_labels::ProvisionalLabels;
 use std::alloc::Global;
 
 /// A layer that was not there, place by place.
@@ -14,6 +15,7 @@ use std::alloc::Global;
 pub enum LayerList {
     Costs(CostList),
     Flow(FlowList),
+    Labels(ProvisionalLabels),
 }
 
 /// A surface, and its flow in all bands of rows.
@@ -37,5 +39,6 @@ pub(crate) fn list_tile(
     match list {
         LayerList::Costs(costs) => costs.tile(alloc, extent, tile),
         LayerList::Flow(flow) => flow_tile(alloc, extent, tile, &flow.surface, &flow.bands),
+        LayerList::Labels(labels) => labels.tile(alloc, extent, tile),
     }
 }

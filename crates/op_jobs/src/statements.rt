@@ -13,7 +13,7 @@ ghost use Rattle.map_waves.specs.Keeping.{kept_now, was_of, IsRightKept};
 ghost use Rattle.map_waves.specs.Operands.{IsOperand};
 ghost use Rattle.map_waves.specs.Statements.{damage_by, work_by};
 ghost use Rattle.op_jobs.specs.Beside.{suits};
-ghost use Rattle.op_jobs.specs.Fresh.{AreBothCells, IsGrounded, IsPart};
+ghost use Rattle.op_jobs.specs.Fresh.{IsGrounded, IsPart};
 ghost use Rattle.op_jobs.specs.Classes.{is_plain, is_sight, is_zonal};
 ghost use Rattle.op_jobs.specs.Owning.{IsOwn, count_of};
 ghost use Rattle.op_jobs.specs.Ranges.{HasRanges};
@@ -21,8 +21,9 @@ ghost use Rattle.op_jobs.specs.Sound.{is_whole};
 
 use crate::beside::Beside;
 use crate::damage::{all_tiles, reached_tiles};
-use crate::fresh::{bands_found, find_band, is_banded, lay, make_fresh};
-use crate::ground::{BothCells, Ground, Part};
+use crate::fresh::{find_band, is_banded, lay, make_fresh};
+use crate::ground::{Ground, Part};
+use crate::label_bands::{find_labels, lay_only};
 use crate::own::{Own, TileJobs};
 use crate::parts::parts_of;
 use crate::pieces::Piece;
@@ -118,10 +119,11 @@ fn fresh_own(
     op: &Op,
     operands: &Operands<'_>,
     extent: Extent,
-    ground: BothCells,
+    ground: Ground,
     parts: Vec<Part>,
 ) -> Result<Own, NoMemory>
-    requires found { AreFound AreBothCells IsPart extent (op_view op.now) operands.now ground parts.items }
+    requires class { IsTrue (has_work (op_view op.now)) }
+    requires found { AreFound IsGrounded IsPart extent (op_view op.now) operands.now ground parts.items }
     ensures { IfOk result (IsOwn extent (op_view op.now) operands.now None) }
 {
     let (list, worked) = make_fresh(alloc, op, operands, extent, ground, parts)?;
@@ -156,8 +158,8 @@ fn whole_own<M: Tally>(
     ensures looks { RisesBy (26 * length (damage_by extent (op_view op.entry.now) (was_of (kept_now kept.entry)) operands.entry.now)) 0 (M.counts tally.old) (M.counts tally.new) }
 {
     if kept.is_none() {
-        if let Some((cells, parts)) = bands_found(found) {
-            return match fresh_own(alloc, op, operands, extent, cells, parts) {
+        if let Some((ground, parts)) = found {
+            return match fresh_own(alloc, op, operands, extent, ground, parts) {
                 Ok(own) => Ok(own),
                 Err(NoMemory) => Err(Halt::NoMemory),
             };
@@ -286,12 +288,16 @@ impl Maker for Statements {
         workers: u32,
         tally: &mut M,
     ) -> Result<Option<(Ground, u64)>, NoMemory> {
-        let parts = parts_of(extent, workers);
+        let parts = parts_of(op, extent, workers);
         if kept.is_some() || parts < 2 {
             return Ok(None);
         }
         if let Op::Zonal { .. } = op {
             return Ok(Some((Ground::Tiles, u64::from(parts))));
+        }
+        if let Op::Region { .. } = op {
+            let cells = lay_only(alloc, op, operands, extent, parts, tally)?;
+            return Ok(Some((Ground::Only(cells), u64::from(parts))));
         }
         if !is_banded(op) {
             return Ok(None);
@@ -312,6 +318,7 @@ impl Maker for Statements {
     ) -> Result<Part, NoMemory> {
         match ground {
             Ground::Cells(cells) => find_band(alloc, op, operands, extent, cells, count, k),
+            Ground::Only(cells) => find_labels(alloc, op, operands, extent, cells, count, k),
             Ground::Tiles => count_part(alloc, operands, extent, count, k, tally),
         }
     }

@@ -35,7 +35,7 @@ pub(crate) fn both_of<'o, 'a>(operands: &'o Operands<'a>) -> (&'o Change<'a>, &'
 }
 
 /// The operand of a statement that has one.
-fn only_of<'o, 'a>(operands: &'o Operands<'a>) -> &'o Change<'a>
+pub(crate) fn only_of<'o, 'a>(operands: &'o Operands<'a>) -> &'o Change<'a>
     requires { length operands.now ≡ 1 }
     ensures { operands.now ≡ result.now ∷ [] }
 {

@@ -1,91 +1,117 @@
 -- Steps of two lists put together.
-use Rattle.std.proofs.Common.{◌≡◌, ℕ, ◌+◌, ◌<◌, ◌≤◌, ◌^◌, ◌++◌, List, [], ◌∷◌, length, get_or, take, drop, ◌∙◌, ap, arith, ◌≤ℤ◌, ◌+ℤ◌}
+use Rattle.std.proofs.Common.{◌≡◌, ℕ, ◌+◌, ◌-◌, ◌<◌, ◌≤◌, ◌++◌, List, [], ◌∷◌, length, get_or, take, drop, refl, sym, ◌∙◌, ap, subst, arith, ℤ, ◌<ℤ◌, ◌≤ℤ◌, ◌+ℤ◌}
 use Rattle.std.proofs.lemmas.Int.{ints}
-use Rattle.std.proofs.lemmas.List.{get_or_default, take-append-drop, take_more}
-use Rattle.std.proofs.Math.Seq.{take-length}
+use Rattle.std.proofs.lemmas.List.{append-nil, drop_more, length-drop}
 use Rattle.zonal_totals.specs.declared.pairs.Pair.{Pair}
 use Rattle.zonal_totals.specs.declared.steps.Step.{Step}
-use Rattle.zonal_totals.specs.Pairs.{rank, floor, IsShort}
-use Rattle.zonal_totals.specs.Settled.{put_step}
-use Rattle.zonal_totals.specs.Steps.{net_in, size, weight, top_step, StepsClimb}
-use Rattle.zonal_totals.proofs.Climbing.{short_floor}
-use Rattle.zonal_totals.proofs.Merging.{net_join, short_at}
-use Rattle.zonal_totals.proofs.Settling.{put_climbs, put_net, put_weight, top_before, top_push, weight_at, weight_join}
+use Rattle.zonal_totals.specs.Pairs.{rank, floor}
+use Rattle.zonal_totals.specs.Settled.{kept, put_step}
+use Rattle.zonal_totals.specs.Steps.{net_in, weight, top_step, StepsClimb}
+use Rattle.zonal_totals.proofs.Climbing.{rank_tells}
+use Rattle.zonal_totals.proofs.Merging.{net_join}
+use Rattle.zonal_totals.proofs.Settling.{meet_same, put_climbs, put_net, put_weight, weight_join}
+use Rattle.zonal_totals.proofs.Turning.{steps_rest_is}
 
--- the first i steps of one list and the first j of the other are put together, and none that is left goes before one of these
-pub record IsJoined (xs ys : List Step) (i j : ℕ) (out : List Step) : Type 0 where
-  pub within : i ≤ length xs
-  pub other_within : j ≤ length ys
+-- ---- lists in order
+
+steps_join : (r : ℤ) (ss us : List Step) → StepsClimb r ss → StepsClimb (top_step r ss) us → StepsClimb r (ss ++ us)
+steps_join r [] us c d = d
+steps_join r (s ∷ ss) us c d = (c.0, c.1, c.2, steps_join (rank s.pair) ss us c.3 d)
+
+top_join : (r : ℤ) (ss us : List Step) → top_step r (ss ++ us) ≡ top_step (top_step r ss) us
+top_join r [] us = refl
+top_join r (s ∷ ss) us = top_join (rank s.pair) ss us
+
+steps_from : (r r' : ℤ) (ss : List Step) → r' ≤ℤ r → StepsClimb r ss → StepsClimb r' ss
+steps_from r r' [] h c = tt
+steps_from r r' (s ∷ ss) h c = (omega (arith, ints, h, c.0), c.1, c.2, c.3)
+
+-- ---- two lists
+
+-- xs and ys are put together, except for us and vs, which are left of them and rank higher
+pub record IsJoined (xs ys us vs out : List Step) : Type 0 where
   pub order : StepsClimb floor out
-  pub after : (d : Step) → i < length xs → top_step floor out ≤ℤ rank (get_or xs i d).pair
-  pub other_after : (d : Step) → j < length ys → top_step floor out ≤ℤ rank (get_or ys j d).pair
-  pub net : (p : Pair) → net_in out p ≡ net_in (take i xs) p +ℤ net_in (take j ys) p
-  pub few : weight out ≤ weight (take i xs) + weight (take j ys)
+  pub after : StepsClimb (top_step floor out) us
+  pub other_after : StepsClimb (top_step floor out) vs
+  pub net : (p : Pair) → net_in out p +ℤ (net_in us p +ℤ net_in vs p) ≡ net_in xs p +ℤ net_in ys p
+  pub few : weight out + (weight us + weight vs) ≤ weight xs + weight ys
 
-pub turned : (xs ys : List Step) (i j : ℕ) (out : List Step) → IsJoined xs ys i j out → IsJoined ys xs j i out
-turned xs ys i j out k = record {
-  within = k.other_within;
-  other_within = k.within;
-  order = k.order;
-  after = k.other_after;
-  other_after = k.after;
-  net = λ p. omega (arith, ints, k.net p);
-  few = omega (arith, k.few);
+-- the steps ws are put behind
+joined_by : (xs ys us vs out ws us' vs' : List Step) → IsJoined xs ys us vs out → StepsClimb (top_step floor out) ws → StepsClimb (top_step (top_step floor out) ws) us' → StepsClimb (top_step (top_step floor out) ws) vs'
+    → ((p : Pair) → net_in ws p +ℤ (net_in us' p +ℤ net_in vs' p) ≡ net_in us p +ℤ net_in vs p) → weight ws + (weight us' + weight vs') ≤ weight us + weight vs → IsJoined xs ys us' vs' (out ++ ws)
+joined_by xs ys us vs out ws us' vs' k order after other_after net few = record {
+  order = steps_join floor out ws k.order order;
+  after = subst (λ r. StepsClimb r us') (sym (top_join floor out ws)) after;
+  other_after = subst (λ r. StepsClimb r vs') (sym (top_join floor out ws)) other_after;
+  net = λ p. omega (arith, ints, k.net p, net p, net_join out ws p);
+  few = omega (arith, k.few, few, weight_join out ws);
 }
 
-first_after : (xs : List Step) (d : Step) → StepsClimb floor xs → 0 < length xs → floor ≤ℤ rank (get_or xs 0 d).pair
-first_after xs d c h = omega (arith, ints, top_before floor xs 0 d c h)
+module _ (xs ys us vs out : List Step) (s t : Step) (k : IsJoined xs ys (s ∷ us) (t ∷ vs) out) where
+  first_by : rank s.pair <ℤ rank t.pair → IsJoined xs ys us (t ∷ vs) (out ++ s ∷ [])
+  first_by h =
+      let a = k.after in
+      let b = k.other_after in
+      joined_by xs ys (s ∷ us) (t ∷ vs) out (s ∷ []) us (t ∷ vs) k (a.0, a.1, a.2, tt) a.3 (h, b.1, b.2, b.3) (λ p. omega (arith, ints)) (omega arith)
 
-pub joined_none : (xs ys : List Step) → StepsClimb floor xs → StepsClimb floor ys → IsJoined xs ys 0 0 []
-joined_none xs ys c e = record {
-  within = omega arith;
-  other_within = omega arith;
-  order = tt;
-  after = λ d h. first_after xs d c h;
-  other_after = λ d h. first_after ys d e h;
-  net = λ p. omega (arith, ints);
-  few = omega arith;
-}
+  other_by : rank t.pair <ℤ rank s.pair → IsJoined xs ys (s ∷ us) vs (out ++ t ∷ [])
+  other_by h =
+      let a = k.after in
+      let b = k.other_after in
+      joined_by xs ys (s ∷ us) (t ∷ vs) out (t ∷ []) (s ∷ us) vs k (b.0, b.1, b.2, tt) (h, a.1, a.2, a.3) b.3 (λ p. omega (arith, ints)) (omega arith)
 
-weight_front : (ss : List Step) (n : ℕ) → weight (take n ss) ≤ weight ss
-weight_front ss n = omega (arith, ap weight (take-append-drop n ss), weight_join (take n ss) (drop n ss))
+  both_by : rank s.pair ≡ rank t.pair → IsJoined xs ys us vs (out ++ kept (record { pair = t.pair; by = s.by +ℤ t.by }))
+  both_by e =
+      let a = k.after in
+      let b = k.other_after in
+      let up = put_climbs (top_step floor out) (s ∷ []) t (a.0, a.1, a.2, tt) b.0 (omega (arith, ints, e)) b.2 in
+      subst (λ (ws : List Step). IsJoined xs ys us vs (out ++ ws)) (meet_same s t (rank_tells s.pair t.pair a.2 b.2 e))
+      (joined_by xs ys (s ∷ us) (t ∷ vs) out (put_step (s ∷ []) t) us vs k up.0 (steps_from (rank s.pair) _ us (omega (arith, ints, e, up.1)) a.3) (steps_from (rank t.pair) _ vs up.1 b.3)
+      (λ p. omega (arith, ints, put_net (s ∷ []) t p)) (omega (arith, put_weight (s ∷ []) t)))
 
--- the next step of one list, which goes before what is left of the other, is put behind
-module _ (xs ys : List Step) (i j : ℕ) (out : List Step) (d : Step) (climbs : StepsClimb floor xs) (k : IsJoined xs ys i j out) (more : i < length xs) where
+-- ---- the loop's turn
+
+module _ (xs ys : List Step) (i j : ℕ) (out : List Step) (d : Step) (more : i < length xs) (other_more : j < length ys) (k : IsJoined xs ys (drop i xs) (drop j ys) out) where
   abbrev s : Step
   s = get_or xs i d
 
-  pub next_fits : weight xs + weight ys < 2 ^ 31 → weight out + size s.by < 2 ^ 31
-  next_fits h = omega (arith, h, k.few, weight_at xs i d more, weight_front ys j)
+  abbrev t : Step
+  t = get_or ys j d
 
-  pub joined_more : (j < length ys → rank s.pair ≤ℤ rank (get_or ys j d).pair) → IsJoined xs ys (i + 1) j (put_step out s)
-  joined_more first =
-      let short : IsShort s.pair = short_at floor xs i d climbs more in
-      let up = put_climbs floor out s k.order (short_floor s.pair short) (k.after d more) short in
-      let e : take (i + 1) xs ≡ take i xs ++ s ∷ [] = take_more xs i d more in
-      let top : top_step floor (take (i + 1) xs) ≡ rank s.pair = ap (top_step floor) e ∙ top_push floor (take i xs) s in
-      record {
-        within = omega arith;
-        other_within = k.other_within;
-        order = up.0;
-        after = λ d' h. omega (arith, ints, up.1, top, top_before floor xs (i + 1) d' climbs h);
-        other_after = λ d' h. omega (arith, ints, up.1, first h, ap (λ (x : Step). rank x.pair) (get_or_default ys j d' d h));
-        net = λ p. omega (arith, ints, put_net out s p, k.net p, ap (λ (l : List Step). net_in l p) e, net_join (take i xs) (s ∷ []) p);
-        few = omega (arith, put_weight out s, k.few, ap weight e, weight_join (take i xs) (s ∷ []));
-      }
+  abbrev us : List Step
+  us = drop (i + 1) xs
 
-module _ (xs ys : List Step) (i j : ℕ) (out : List Step) (k : IsJoined xs ys i j out) (all : i + j ≡ length xs + length ys) where
-  one_all : take i xs ≡ xs
-  one_all = let e : i ≡ length xs = omega (arith, k.within, k.other_within, all) in ap (λ n. take n xs) e ∙ take-length xs
+  abbrev vs : List Step
+  vs = drop (j + 1) ys
 
-  other_all : take j ys ≡ ys
-  other_all = let e : j ≡ length ys = omega (arith, k.within, k.other_within, all) in ap (λ n. take n ys) e ∙ take-length ys
+  here : IsJoined xs ys (s ∷ us) (t ∷ vs) out
+  here = subst (λ (l : List Step). IsJoined xs ys l (t ∷ vs) out) (drop_more xs i d more) (subst (λ (l : List Step). IsJoined xs ys (drop i xs) l out) (drop_more ys j d other_more) k)
 
-  pub joined_net : (p : Pair) → net_in out p ≡ net_in xs p +ℤ net_in ys p
-  joined_net p = omega (arith, ints, k.net p, ap (λ (l : List Step). net_in l p) one_all, ap (λ (l : List Step). net_in l p) other_all)
+  pub joined_first : rank s.pair <ℤ rank t.pair → IsJoined xs ys us (drop j ys) (out ++ s ∷ [])
+  joined_first h = subst (λ (l : List Step). IsJoined xs ys us l (out ++ s ∷ [])) (sym (drop_more ys j d other_more)) (first_by xs ys us vs out s t here h)
 
-  pub joined_weight : weight out ≤ weight xs + weight ys
-  joined_weight = omega (arith, k.few, ap weight one_all, ap weight other_all)
+  pub joined_other : rank t.pair <ℤ rank s.pair → IsJoined xs ys (drop i xs) vs (out ++ t ∷ [])
+  joined_other h = subst (λ (l : List Step). IsJoined xs ys l vs (out ++ t ∷ [])) (sym (drop_more xs i d more)) (other_by xs ys us vs out s t here h)
 
-pub joined_at : (xs ys : List Step) (i j i' j' : ℕ) (out out' : List Step) → i' ≡ i → j' ≡ j → out' ≡ out → IsJoined xs ys i j out → IsJoined xs ys i' j' out'
-joined_at xs ys i j i' j' out out' e f g k = rw (e, f, g) k
+  pub joined_both : rank s.pair ≡ rank t.pair → IsJoined xs ys us vs (out ++ kept (record { pair = t.pair; by = s.by +ℤ t.by }))
+  joined_both e = both_by xs ys us vs out s t here e
+
+-- ---- the end
+
+order_by : (xs ys us vs out : List Step) → IsJoined xs ys us vs out → (0 < length us → 0 < length vs → ⊥) → StepsClimb floor ((out ++ us) ++ vs)
+order_by xs ys [] vs out k h = rw (append-nil out) (steps_join floor out vs k.order k.other_after)
+order_by xs ys (s ∷ us) [] out k h = steps_join floor (out ++ s ∷ us) [] (steps_join floor out (s ∷ us) k.order k.after) tt
+order_by xs ys (s ∷ us) (t ∷ vs) out k h = absurd (h (omega arith) (omega arith))
+
+module _ (xs ys : List Step) (i j : ℕ) (out mid end : List Step) (k : IsJoined xs ys (drop i xs) (drop j ys) out) (e : mid ≡ out ++ take (length xs - i) (drop i xs)) (f : end ≡ mid ++ take (length ys - j) (drop j ys)) where
+  is : end ≡ (out ++ drop i xs) ++ drop j ys
+  is = f ∙ ap (λ (l : List Step). mid ++ l) (steps_rest_is j ys) ∙ ap (λ (l : List Step). l ++ drop j ys) (e ∙ ap (λ (l : List Step). out ++ l) (steps_rest_is i xs))
+
+  pub joined_order : (i < length xs → j < length ys → ⊥) → StepsClimb floor end
+  joined_order h = rw (is) (order_by xs ys (drop i xs) (drop j ys) out k (λ a b. h (omega (arith, a, length-drop i xs)) (omega (arith, b, length-drop j ys))))
+
+  pub joined_net : (p : Pair) → net_in end p ≡ net_in xs p +ℤ net_in ys p
+  joined_net p = omega (arith, ints, ap (λ (l : List Step). net_in l p) is, net_join (out ++ drop i xs) (drop j ys) p, net_join out (drop i xs) p, k.net p)
+
+  pub joined_weight : weight end ≤ weight xs + weight ys
+  joined_weight = omega (arith, ap weight is, weight_join (out ++ drop i xs) (drop j ys), weight_join out (drop i xs), k.few)

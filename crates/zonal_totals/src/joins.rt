@@ -1,22 +1,12 @@
 //! Steps of two lists put together.
-ghost use Rattle.std.specs.Prelude.{◌≡◌, ◌+◌, ◌^◌, ◌<◌, ◌≤◌, ◌≤ℤ◌, ◌<ℤ◌, ◌+ℤ◌, length, slice_index_or, IfOk, IsTrue, IsFalse};
+ghost use Rattle.std.specs.Prelude.{◌≡◌, ◌+◌, ◌^◌, ◌<◌, ◌≤◌, ◌+ℤ◌, IfOk};
 ghost use Rattle.zonal_totals.specs.declared.pairs.Pair.{Pair};
-ghost use Rattle.zonal_totals.specs.declared.steps.Step.{Step};
-ghost use Rattle.zonal_totals.specs.Pairs.{rank, floor};
+ghost use Rattle.zonal_totals.specs.Pairs.{floor};
 ghost use Rattle.zonal_totals.specs.Steps.{net_in, weight, StepsClimb};
 
-use crate::steps::{Step, put};
+use crate::steps::{Step, keep, together};
 use map_nums::NoMemory;
 use std::alloc::Global;
-
-/// Whether the step at place `i` of one list goes before that at place `j` of the other: it does past the other's end.
-fn goes_first(one: &[Step], i: usize, other: &[Step], j: usize) -> bool
-    requires { i < length one.now }
-    ensures first { (d : Step) → IsTrue result → j < length other.now → rank (slice_index_or one.now i d).pair ≤ℤ rank (slice_index_or other.now j d).pair }
-    ensures later { (d : Step) → IsFalse result → (j < length other.now) × (rank (slice_index_or other.now j d).pair <ℤ rank (slice_index_or one.now i d).pair) }
-{
-    j >= other.len() || !other[j].pair.is_before(&one[i].pair)
-}
 
 /// The changes of both lists, each in order, put together.
 pub(crate) fn joined(alloc: Global, one: &[Step], other: &[Step]) -> Result<Vec<Step>, NoMemory>
@@ -30,14 +20,20 @@ pub(crate) fn joined(alloc: Global, one: &[Step], other: &[Step]) -> Result<Vec<
     let mut out = Vec::with_capacity(alloc, one.len() + other.len())?;
     let mut i = 0;
     let mut j = 0;
-    for _ in 0..one.len() + other.len() {
-        if i < one.len() && goes_first(one, i, other, j) {
-            put(&mut out, one[i])?;
+    while i < one.len() && j < other.len() {
+        if one[i].pair.is_before(&other[j].pair) {
+            out.push(one[i])?;
             i += 1;
+        } else if other[j].pair.is_before(&one[i].pair) {
+            out.push(other[j])?;
+            j += 1;
         } else {
-            put(&mut out, other[j])?;
+            keep(&mut out, together(&one[i], &other[j]))?;
+            i += 1;
             j += 1;
         }
     }
+    out.extend_from_slice(&one[i..])?;
+    out.extend_from_slice(&other[j..])?;
     Ok(out)
 }

@@ -1,30 +1,32 @@
-use Rattle.std.proofs.Common.{length, ap}
+use Rattle.std.proofs.Common.{length, ap, ◌∙◌}
 use Rattle.statement_parser.specs.Views.{op_view}
-use Rattle.op_jobs.proofs.FreshOps.{costs_part, flows_part}
-use Rattle.op_jobs.proofs.LayerLists.{ok_all, flow_listed, spread_listed}
-use Rattle.op_jobs.proofs.WholeOps.{limit_is}
+use Rattle.op_jobs.proofs.FreshOps.{labels_part}
+use Rattle.op_jobs.proofs.LayerLists.{labels_listed}
+use Rattle.op_jobs.proofs.ZonalParts.{found_cells, found_only, tiles_worked}
 use Rattle.op_jobs.proofs.fresh.make_fresh.Goals as goal
 
-pub spread_by-requires-clause-each : goal.spread_by-requires-clause-each
-spread_by-requires-clause-each c = λ k p e.
-    let from = c.requires.found.from in
-    let is = limit_is (op_view c.args.op.now) _ c.in-Spread.limit _ _ (ap op_view c.in-Spread.is) from.formed c.unsigned_abs-limit.ensures.value in
-    costs_part c.args.extent (op_view c.args.op.now) c.args._operands.now c.args.ground.first.items c.args.ground.second.items _ _ from.first from.second (length c.args.parts.items) k p _ is (c.requires.found.each k p e)
+pub make_of_both-requires : goal.make_of_both-requires
+make_of_both-requires c = record {
+  found = found_cells c.args.extent (op_view c.args.op.now) c.args.operands.now c.args.ground c.in-Cells.cells c.args.parts.items c.in-Cells.is c.requires.found;
+}
 
-pub flow_by-requires-clause-each : goal.flow_by-requires-clause-each
-flow_by-requires-clause-each c = λ k p e.
-    let from = c.requires.found.from in
-    flows_part c.args.extent (op_view c.args.op.now) c.args._operands.now c.args.ground.first.items c.args.ground.second.items _ _ from.first from.second (length c.args.parts.items) k p (ap op_view c.in-Flow.is) (c.requires.found.each k p e)
+pub labels_by-requires-clause-count : goal.labels_by-requires-clause-count
+labels_by-requires-clause-count c =
+    let only = found_only c.args.extent (op_view c.args.op.now) c.args.operands.now c.args.ground c.in-Only.cells c.args.parts.items c.in-Only.is c.requires.found in
+    ap length c.deref.ensures.value ∙ only.count
 
-pub returns-in_ok-costs-in-Spread : goal.returns-in_ok-costs-in-Spread
-returns-in_ok-costs-in-Spread c =
-    let from = c.requires.found.from in
-    let is = limit_is (op_view c.args.op.now) _ c.in-Spread.limit _ _ (ap op_view c.in-Spread.is) from.formed c.unsigned_abs-limit.ensures.value in
-    spread_listed c.args.extent c.tiles-tiles.ensures.size c.args._operands.now c.args.ground.first.items c.args.ground.second.items from.first from.second _ _ (op_view c.args.op.now) _ c.in_ok-costs-in-Spread.costs is c.in_ok-costs-in-Spread.ensures
+pub labels_by-requires-clause-some : goal.labels_by-requires-clause-some
+labels_by-requires-clause-some c = (found_only c.args.extent (op_view c.args.op.now) c.args.operands.now c.args.ground c.in-Only.cells c.args.parts.items c.in-Only.is c.requires.found).some
 
-pub returns-in-Flow : goal.returns-in-Flow
-returns-in-Flow c =
-    let from = c.requires.found.from in
-    let e = c.flow_by.ensures in
-    ok_all c.flow_by.result e.list e.cells e.work
-    (λ r list cells work. flow_listed c.args.extent c.tiles-tiles.ensures.size c.args._operands.now c.args.ground.first.items c.args.ground.second.items from.first from.second _ _ (op_view c.args.op.now) r.0 r.1 (ap op_view c.in-Flow.is) list cells work)
+pub labels_by-requires-clause-each : goal.labels_by-requires-clause-each
+labels_by-requires-clause-each c = λ k p e.
+    let only = found_only c.args.extent (op_view c.args.op.now) c.args.operands.now c.args.ground c.in-Only.cells c.args.parts.items c.in-Only.is c.requires.found in
+    labels_part c.args.extent (op_view c.args.op.now) c.args.operands.now c.deref.result.now only.regions (c.deref.ensures.value ∙ only.cells_are) (length c.args.parts.items) k p (c.requires.found.each k p e)
+
+pub returns-in_ok-labels-in-Only : goal.returns-in_ok-labels-in-Only
+returns-in_ok-labels-in-Only c =
+    let only = found_only c.args.extent (op_view c.args.op.now) c.args.operands.now c.args.ground c.in-Only.cells c.args.parts.items c.in-Only.is c.requires.found in
+    labels_listed c.args.extent c.tiles-tiles.ensures.size c.args.operands.now c.deref.result.now (c.deref.ensures.value ∙ only.cells_are) c.in_ok-labels-in-Only.labels c.in_ok-labels-in-Only.ensures (op_view c.args.op.now) only.regions
+
+pub unreachable-requires : goal.unreachable-requires
+unreachable-requires c = tiles_worked c.args.extent (op_view c.args.op.now) c.args.operands.now c.args.ground c.args.parts.items c.in-Tiles.is c.requires.class c.requires.found

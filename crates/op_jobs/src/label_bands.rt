@@ -1,0 +1,109 @@
+//! The labels of regions on a map that had none, in bands of rows.
+ghost use Rattle.std.specs.Prelude.{◌≡◌, ℕ, ◌*◌, ◌<◌, ◌≤◌, length, Some, slice_get, IfOk, IsTrue};
+ghost use Rattle.std.specs.List.{All};
+ghost use Rattle.map_nums.specs.Grids.{Size, Cells, cells_in};
+ghost use Rattle.map_nums.specs.Tiles.{tiles_in};
+ghost use Rattle.map_defs.specs.Ops.{terms_of};
+ghost use Rattle.layer_tiles.specs.Tallies.{RisesBy};
+ghost use Rattle.region_labels.specs.Provisional.{IsLabelList};
+ghost use Rattle.region_labels.specs.declared.bands.LabelBand.{LabelBand};
+ghost use Rattle.statement_parser.specs.Views.{op_view};
+ghost use Rattle.map_waves.specs.Operands.{IsOperand};
+ghost use Rattle.op_jobs.specs.Classes.{is_region};
+ghost use Rattle.op_jobs.specs.Fresh.{AreOnlyCells, IsLabels, IsPart};
+ghost use Rattle.op_jobs.specs.Parts.{part_start};
+ghost use Rattle.op_jobs.specs.Ranges.{HasRanges};
+ghost use Rattle.op_jobs.specs.declared.ground.Part.{Part};
+ghost use Rattle.op_jobs.specs.declared.ground.Part.TheVariants.{Labels};
+
+use crate::ground::Part;
+use crate::parts::part_start;
+use crate::whole::only_of;
+use flat_cells::cells_of;
+use layer_tiles::{Cell, Extent, Operands, Tally};
+use map_nums::NoMemory;
+use region_labels::{LabelBand, ProvisionalLabels, labels_of_band, labels_of_bands};
+use statement_parser::Op;
+use std::alloc::Global;
+
+/// All cells of the operand. One look at each tile of the map.
+pub(crate) fn lay_only<M: Tally>(
+    alloc: Global,
+    op: &Op,
+    operands: &Operands<'_>,
+    extent: Extent,
+    parts: u32,
+    tally: &mut M,
+) -> Result<Vec<Cell>, NoMemory>
+    requires formed { HasRanges (op_view op.now) }
+    requires regions { IsTrue (is_region (op_view op.now)) }
+    requires operands_are { All (IsOperand extent) operands.now }
+    requires terms { length operands.now ≡ length (terms_of (op_view op.now)) }
+    requires some { 0 < parts }
+    requires few { parts ≤ extent.rows }
+    ensures ground { IfOk result (λ cells. AreOnlyCells extent (op_view op.now) operands.now parts cells.items) }
+    ensures looks { RisesBy (2 * tiles_in extent) 0 (M.counts tally.old) (M.counts tally.new) }
+{
+    let only = only_of(operands);
+    let _only = only.extent();
+    cells_of(alloc, only, tally)
+}
+
+/// The labels of the regions within one of so many bands.
+pub(crate) fn find_labels(
+    alloc: Global,
+    op: &Op,
+    operands: &Operands<'_>,
+    extent: Extent,
+    cells: &[Cell],
+    count: u64,
+    k: u64,
+) -> Result<Part, NoMemory>
+    requires ground { AreOnlyCells extent (op_view op.now) operands.now count cells.now }
+    requires below { k < count }
+    ensures { IfOk result (IsPart extent (op_view op.now) operands.now count k) }
+{
+    let rows = extent.rows();
+    let parts = count as u32;
+    let first = part_start(rows, parts, k);
+    let end = part_start(rows, parts, k + 1);
+    let band = labels_of_band(alloc, extent, cells, first, end)?;
+    Ok(Part::Labels(band))
+}
+
+/// The bands that were found.
+fn bands_of(alloc: Global, parts: Vec<Part>) -> Result<Vec<LabelBand>, NoMemory>
+    requires { (s : Size) × (cells : Cells) × (n : ℕ) × ((k : ℕ) (p : Part) → slice_get parts.items k ≡ Some p → IsLabels s cells n k p) }
+    ensures count { IfOk result (λ bands. length bands.items ≡ length parts.items) }
+    ensures each { IfOk result (λ bands. (k : ℕ) (b : LabelBand) → slice_get bands.items k ≡ Some b → slice_get parts.items k ≡ Some (Labels b)) }
+{
+    let count = parts.len();
+    let mut rest = parts.into_iter();
+    let mut bands = Vec::with_capacity(alloc, count)?;
+    for _place in 0..count {
+        let Some(one) = rest.next() else {
+            unreachable!();
+        };
+        let Part::Labels(band) = one else {
+            unreachable!();
+        };
+        bands.push(band)?;
+    }
+    Ok(bands)
+}
+
+/// The labels of a map that had none, from those of its bands.
+pub(crate) fn labels_by(
+    alloc: Global,
+    extent: Extent,
+    cells: &[Cell],
+    parts: Vec<Part>,
+) -> Result<ProvisionalLabels, NoMemory>
+    requires count { length cells.now ≡ cells_in extent }
+    requires some { 0 < length parts.items }
+    requires each { (k : ℕ) (p : Part) → slice_get parts.items k ≡ Some p → IsLabels extent cells.now (length parts.items) k p }
+    ensures { IfOk result (IsLabelList extent cells.now) }
+{
+    let bands = bands_of(alloc, parts)?;
+    labels_of_bands(alloc, extent, cells, &bands)
+}
