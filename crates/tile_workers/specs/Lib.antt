@@ -5,3 +5,4 @@ pub mod Rule
 pub mod Seats
 pub mod Phases
 pub mod Shifts
+pub mod Forks

@@ -4,6 +4,7 @@ ghost use Rattle.layer_tiles.specs.Tallies.{TallyState};
 ghost use Rattle.tile_workers.specs.Seats.{drawn, share, IsSeatOf};
 ghost use Rattle.tile_workers.specs.Shifts.{IsHired, IsDone, shift_share};
 
+use crate::forks::fork_each;
 use crate::gate::Gate;
 use crate::phase::Phase;
 use crate::seat::{Board, Seat};
@@ -12,7 +13,6 @@ use crate::work::Work;
 use crate::worker::do_jobs;
 use layer_tiles::Tally;
 use std::alloc::Global;
-use std::thread;
 use std::thread::Threads;
 
 // One worker's shift.
@@ -47,11 +47,9 @@ where
     ensures done { All (IsDone M.counts phase.now.board.now.table.shared.table_id phase.now.jobs (W.looks phase.now.work.now) (W.picks phase.now.work.now) (W.answers phase.now.work.now)) shifts.new }
     ensures shares { sum_by shift_share shifts.new ≡ sum_by shift_share shifts.old }
 {
-    let count = shifts.len();
-    thread::for_each_mut(
+    fork_each(
         rt,
         shifts,
-        count,
         &|_, shift: &mut Shift<M, W::Done>|
             requires { (phase.now.jobs ≡ W.jobs phase.now.work.now) × (phase.now.jobs < 2 ^ 32) × IsHired M.counts phase.now.board.now.table.shared.table_id shift.now }
             ensures { IsDone M.counts phase.entry.now.board.now.table.shared.table_id phase.entry.now.jobs (W.looks phase.entry.now.work.now) (W.picks phase.entry.now.work.now) (W.answers phase.entry.now.work.now) shift.exit.now × (shift_share shift.exit.now ≡ shift_share shift.entry.now) }

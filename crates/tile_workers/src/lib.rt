@@ -13,6 +13,7 @@
 
 mod board;
 mod crew;
+mod forks;
 mod gate;
 mod gather;
 mod laid;
