@@ -12,7 +12,7 @@ ghost use Rattle.layer_tiles.specs.Tiles.{tiles_in, IsBlockOf};
 ghost use Rattle.zonal_totals.specs.Books.{IsBookOf};
 
 use layer_tiles::{Cell, Change, Extent, Layer, NoMemory, Patch, Tile};
-use map_nums::Stat;
+use map_nums::{Stat, Value};
 use map_outside::Counts;
 use std::alloc::Global;
 use std::process::ExitCode;
@@ -55,7 +55,7 @@ fn number(kind: Kind, at: u32) -> u32 {
 }
 
 fn cell(number: u32) -> Cell {
-    Cell::of((number % 2_000_000) as i32).unwrap_or(Cell::null())
+    Cell::of((number % 2_000_000) as Value).unwrap_or(Cell::null())
 }
 
 fn layer(alloc: Global, extent: Extent, kind: Kind) -> Result<Layer, NoMemory>
@@ -72,7 +72,7 @@ fn layer(alloc: Global, extent: Extent, kind: Kind) -> Result<Layer, NoMemory>
 }
 
 // What a statistic adds to the total.
-fn worth(book: &Book, zone: i32) -> i64 {
+fn worth(book: &Book, zone: Value) -> i64 {
     match book.stat(Stat::Sum, zone) {
         Ok(Some(sum)) => sum as i64,
         Ok(None) => -1,
@@ -81,7 +81,7 @@ fn worth(book: &Book, zone: i32) -> i64 {
 }
 
 // The same after a patch.
-fn worth_after(book: &Book, patch: &BookPatch, zone: i32) -> i64
+fn worth_after(book: &Book, patch: &BookPatch, zone: Value) -> i64
     requires { patch.now.after.size ≡ book.now.size }
 {
     match book.stat_after(patch, Stat::Sum, zone) {

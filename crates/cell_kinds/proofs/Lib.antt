@@ -1,5 +1,3 @@
-pub mod RowsOfTiles
-pub mod Looks
 pub mod Compared
 pub mod KindLists
 pub mod Counting

@@ -1,5 +1,5 @@
 -- In a list of pairs in order the runs are the pairs that occur; and the order of a list does not matter to these.
-use Rattle.std.proofs.Common.{◌≡◌, ℕ, suc, ◌+◌, ◌<◌, Bool, true, false, List, [], ◌∷◌, length, get_or, map, refl, sym, ◌∙◌, ap, arith, ℤ, ◌≤ℤ◌, Option, Some, None, IsPermutation, All, subst, zero, ◌*ℤ◌, ◌+ℤ◌, pos}
+use Rattle.std.proofs.Common.{◌≡◌, ℕ, suc, ◌+◌, ◌<◌, Bool, true, false, List, [], ◌∷◌, length, get_or, map, refl, sym, ◌∙◌, ap, arith, ℤ, negsuc, ◌≤ℤ◌, Option, Some, None, IsPermutation, All, subst, zero, ◌*ℤ◌, ◌+ℤ◌, pos}
 use Rattle.std.specs.Prelude.{◌&&◌}
 use Rattle.std.specs.List.{flat_map}
 use Rattle.std.specs.List.Sorted.{IsSortedBy}
@@ -99,17 +99,17 @@ PairsInRange (p ∷ ps) = IsCell p.zone × IsCell p.value × PairsInRange ps
 
 -- a number that stands for a cell
 record IsWord (w : ℤ) : Type 0 where
-  pub low : null_word ≤ℤ w
-  pub high : w ≤ℤ pos 2147483647
+  pub low : negsuc 9223372036854775807 ≤ℤ w
+  pub high : w ≤ℤ pos 9223372036854775807
 
 word_there : (c : Option ℤ) → IsCell c → IsWord (word_of c)
 word_there None h = record { low = omega (arith, ints); high = omega (arith, ints) }
 word_there (Some z) h = record { low = grind (arith, ints); high = grind (arith, ints) }
 
-words_in_order : (a b c d : ℤ) → IsWord a → IsWord b → IsWord c → IsWord d → ((a *ℤ pos 4294967296) +ℤ b) ≤ℤ ((c *ℤ pos 4294967296) +ℤ d) → a ≤ℤ c
+words_in_order : (a b c d : ℤ) → IsWord a → IsWord b → IsWord c → IsWord d → ((a *ℤ pos 18446744073709551616) +ℤ b) ≤ℤ ((c *ℤ pos 18446744073709551616) +ℤ d) → a ≤ℤ c
 words_in_order a b c d h k l m e = omega (arith, ints, h.low, h.high, k.low, k.high, l.low, l.high, m.low, m.high)
 
-later_words : (a b d : ℤ) → ((a *ℤ pos 4294967296) +ℤ b) ≤ℤ ((a *ℤ pos 4294967296) +ℤ d) → b ≤ℤ d
+later_words : (a b d : ℤ) → ((a *ℤ pos 18446744073709551616) +ℤ b) ≤ℤ ((a *ℤ pos 18446744073709551616) +ℤ d) → b ≤ℤ d
 later_words a b d e = omega (arith, ints)
 
 pair_up_to : (p q : Pair) → IsCell p.zone → IsCell p.value → IsCell q.zone → IsCell q.value → rank p ≤ℤ rank q → IsPairUpTo p q

@@ -24,7 +24,7 @@ same_pair p q = same_cell p.zone q.zone && same_cell p.value q.value
 
 -- the order of pairs: by zone, then by value
 abbrev pub rank : Pair → ℤ
-rank p = (word_of p.zone *ℤ pos 4294967296) +ℤ word_of p.value
+rank p = (word_of p.zone *ℤ pos 18446744073709551616) +ℤ word_of p.value
 
 abbrev pub combination_from : Pair × ℕ → Combination
 combination_from e = record { zone = e.0.zone; value = e.0.value; count = e.1 }

@@ -1,8 +1,15 @@
 -- How far a number falls to a straight neighbour, and to a diagonal one.
 use Rattle.std.proofs.Common.{◌≡◌, ◌≢◌, ℕ, zero, suc, ◌%◌, ◌<◌, eqb, Bool, true, false, cond, Option, Some, refl, sym, ◌∙◌, ap, arith, ℤ, pos, ◌-ℤ◌, ◌*ℤ◌}
+use Rattle.std.proofs.lemmas.Int.{ints}
 use Rattle.std.proofs.lemmas.Bool.Decides.{nat_tests}
+use Rattle.map_nums.specs.Numbers.{is_value}
 use Rattle.map_defs.specs.Drainage.{is_straight, drop_to}
+use Rattle.drainage_flow.specs.FlowNets.{IsSmall}
 use Rattle.drainage_flow.specs.Steepest.{offset_at}
+
+-- what a cell may hold is small
+pub value_is_small : (z : ℤ) → is_value z ≡ true → IsSmall z
+value_is_small z h = record { high = grind (arith, ints); low = grind (arith, ints) }
 
 straight_even : (k : ℕ) → k < 8 → is_straight (offset_at k) ≡ eqb (k % 2) 0
 straight_even zero h = refl

@@ -11,12 +11,12 @@ use Rattle.map_nums.specs.Grids.{Size, IsSize, Cells, cell_at, cells_in, row_of,
 use Rattle.map_defs.specs.Drainage.{winner_at}
 use Rattle.map_defs.specs.Flow.{downstream_of}
 use Rattle.drainage_flow.specs.Nets.{Net, part, sum_to, is_to, inflow}
-use Rattle.drainage_flow.specs.FlowNets.{number_of, brought, weight_at, net_of}
+use Rattle.drainage_flow.specs.FlowNets.{IsSmall, number_of, brought, weight_at, net_of}
 use Rattle.drainage_flow.specs.Pouring.{down_in, flow_in, wait_in, laid, Places, IsPouring, ArePools, place_in, number_to, waited, AddsWaits}
 use Rattle.drainage_flow.specs.Steepest.{offset_at, IsStep}
 use Rattle.drainage_flow.specs.Bands.{AreDowns}
 use Rattle.drainage_flow.specs.First.{AreBrought, AreFlows}
-use Rattle.drainage_flow.specs.FlowBands.{AreBegun, ArePouring, in_place, IsSmall, IsFlowBand, AreFlowBands, AreEven, all_downs, all_waits, all_flows}
+use Rattle.drainage_flow.specs.FlowBands.{AreBegun, ArePouring, in_place, IsFlowBand, AreFlowBands, AreEven, all_downs, all_waits, all_flows}
 use Rattle.drainage_flow.specs.declared.flow_band.FlowBand.{FlowBand}
 use Rattle.drainage_flow.proofs.Sums.{sum_same, sum_none}
 use Rattle.drainage_flow.proofs.Downs.{row_cell}
@@ -274,7 +274,7 @@ unfolding inflow
 fresh_begun g first end = record { downs = λ c l m. refl; flows = λ c l m. refl; waits = λ c l m. counts (λ d. is_to (g.down d) c) g.size }
 
 small_zero : IsSmall (pos 0)
-small_zero = (omega (arith, ints), omega (arith, ints))
+small_zero = record { high = omega (arith, ints); low = omega (arith, ints) }
 
 -- what was made for some rows
 module _ (s : Size) (surface weights : Cells) (first n : ℕ) (downs : List (Option ℕ)) (waits : List ℕ) (flows : List ℤ) (size : IsSize s) (within : first + n ≤ cells_in s) (a : AreDowns s surface first n downs) (waits_count : length waits ≡ n) (flows_count : length flows ≡ n)
@@ -343,7 +343,7 @@ rows_made s surface weights first end w downs waits flows e rows within count d 
       waits_count = waits_count ∙ d.count;
       flows_count = b.count ∙ taken;
       each_wait = λ k l. each_wait k (omega (arith, l, d.count));
-      small = λ k l. (b.high k (omega (arith, l, taken)), b.low k (omega (arith, l, taken)));
+      small = λ k l. b.small k (omega (arith, l, taken));
       brings = λ k l.
           b.each k (omega (arith, l, taken))
           ∙ ap (λ o. brought o (cell_at (take (end * w - first * w) (drop (first * w) weights)) k)) (row_cell surface (first * w) (end * w - first * w) k (omega (arith, l, start, past, parts)))

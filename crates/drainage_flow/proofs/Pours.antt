@@ -5,6 +5,8 @@ use Rattle.std.proofs.lemmas.Int.{ints}
 use Rattle.std.proofs.lemmas.Bool.{cases_Bool, cases_lt}
 use Rattle.std.proofs.lemmas.Bool.Decides.{nat_tests}
 use Rattle.std.proofs.lemmas.List.{get_or-set_same, get_or-set_other, get_or_default, get_or_past, length-set}
+use Rattle.map_nums.specs.Numbers.{greatest_value, vmax}
+use Rattle.drainage_flow.specs.FlowNets.{IsSmall}
 use Rattle.drainage_flow.specs.Nets.{Net, part, sum_to, is_to, inflow, gathered, IsFalling, Agrees}
 use Rattle.drainage_flow.specs.Pouring.{most_load, undone, passed, also, IsPassedOn, IsPouring, down_in, flow_in, wait_in, laid, Places, place_in, place_of, ArePools, PassesTo, Passes}
 use Rattle.drainage_flow.proofs.Sums.{sum_same, sum_plus, sum_none, sum_changed, sum_picked, part_plus}
@@ -546,22 +548,22 @@ part_zero : (b : Bool) → part b (pos 0) ≡ pos 0
 part_zero true = refl
 part_zero false = refl
 
-sum_even : (n : ℕ) → sum_to (λ c. pos 2000000000) n ≡ pos (2000000000 * n)
-sum_even zero = refl
-sum_even (suc n) = omega (arith, ints, sum_even n)
+sum_even : (v n : ℕ) → sum_to (λ c. pos v) n ≡ pos (v * n)
+sum_even v zero = omega (arith, ints)
+sum_even v (suc n) = omega (arith, ints, sum_even v n)
 
 -- nothing has passed on
-pub pour_first : (g : Net) (down : ℕ → Option ℕ) (f : ℕ → ℤ) (w : ℕ → ℕ) → g.size ≤ 1500000 → ((c : ℕ) → c < g.size → down c ≡ g.down c) → ((c d : ℕ) → c < g.size → g.down c ≡ Some d → d < g.size) → ((c : ℕ) → c < g.size → pos (w c) ≡ inflow g (λ d. pos 1) c) → ((c : ℕ) → c < g.size → f c ≡ g.weight c) → ((c : ℕ) → c < g.size → (g.weight c ≤ℤ pos 2000000000) × (pos 0 ≤ℤ (pos 2000000000 +ℤ g.weight c)))
+pub pour_first : (g : Net) (down : ℕ → Option ℕ) (f : ℕ → ℤ) (w : ℕ → ℕ) → g.size ≤ 1500000 → ((c : ℕ) → c < g.size → down c ≡ g.down c) → ((c d : ℕ) → c < g.size → g.down c ≡ Some d → d < g.size) → ((c : ℕ) → c < g.size → pos (w c) ≡ inflow g (λ d. pos 1) c) → ((c : ℕ) → c < g.size → f c ≡ g.weight c) → ((c : ℕ) → c < g.size → IsSmall (g.weight c))
     → IsPouring g None down f w
 unfolding gathered inflow
 pour_first g down f w few same within waits weights small = record {
   done = λ c. false;
-  load = λ c. pos 2000000000;
+  load = λ c. vmax;
   core = record {
     tied = λ c l. weights c l ∙ omega (arith, ints, sum_same (λ d. part (is_to (g.down d) c) (pos 0)) (λ d. pos 0) g.size (λ d m. part_zero (is_to (g.down d) c)), sum_none g.size);
-    high = λ c l. (let s = small c l in omega (arith, ints, weights c l, s.0));
-    low = λ c l. (let s = small c l in omega (arith, ints, weights c l, s.1));
-    loads = omega (arith, ints, sum_even g.size, few);
+    high = λ c l. (let s = small c l in omega (arith, ints, weights c l, s.high));
+    low = λ c l. (let s = small c l in omega (arith, ints, weights c l, s.low));
+    loads = omega (arith, ints, sum_even greatest_value g.size, few);
     ended = λ c l e. absurd (cc);
   };
   downs = λ c l e. same c l;

@@ -1,5 +1,7 @@
 -- A flow is written into a working layer place by place.
-use Rattle.std.proofs.Common.{◌≡◌, ◌≢◌, ℕ, zero, suc, ◌+◌, ◌-◌, ◌<◌, ◌≤◌, Bool, true, false, cond, List, [], ◌∷◌, ◌++◌, length, get_or, set, take, Option, Some, None, refl, sym, ◌∙◌, ap, subst, arith, inl, inr, ℤ, pos, negsuc, FitsSigned, w64}
+use Rattle.std.proofs.Common.{◌≡◌, ◌≢◌, ℕ, zero, suc, ◌+◌, ◌-◌, ◌<◌, ◌≤◌, Bool, true, false, cond, List, [], ◌∷◌, ◌++◌, length, get_or, set, take, Option, Some, None, refl, sym, ◌∙◌, ap, subst, arith, inl, inr, ℤ, pos, negsuc, FitsSigned}
+use mir.Syntax.{w128}
+use Rattle.map_nums.specs.Widths.{value_width}
 use Rattle.std.specs.Prelude.{◌⊎◌, filter, not}
 use Rattle.std.specs.List.{range_with_len, Contains}
 use Rattle.std.proofs.lemmas.Bool.{cases_lt, cases_Bool}
@@ -185,10 +187,14 @@ pub flows_next : (s : Size) (surface old : Cells) (puts : List (ℕ × ℤ)) (k 
 flows_next s surface old puts k d z cells new is same count within l e =
     flows_more s surface old (take k puts) (take (k + 1) puts) cells new (get_or puts k d) same count within (e ∙ ap (λ (y : ℤ). set cells (get_or puts k d).0 (shown (cell_at surface (get_or puts k d).0) y)) is) (take_more puts k d l)
 
--- a number that a cell may hold fits
-pub value_fits : (z : ℤ) → is_value z ≡ true → FitsSigned w64 z
+-- a number that a cell may hold fits the word of a value, and one of 128 bits
+pub value_fits : (z : ℤ) → is_value z ≡ true → FitsSigned value_width z
 value_fits (pos n) e = record { sfits = omega (arith, magnitude_in_range (pos n) e) }
 value_fits (negsuc n) e = record { sfits = omega (arith, magnitude_in_range (negsuc n) e) }
+
+pub value_wide : (z : ℤ) → is_value z ≡ true → FitsSigned w128 z
+value_wide (pos n) e = record { sfits = omega (arith, magnitude_in_range (pos n) e) }
+value_wide (negsuc n) e = record { sfits = omega (arith, magnitude_in_range (negsuc n) e) }
 
 -- ---- bounds
 

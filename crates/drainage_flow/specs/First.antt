@@ -1,15 +1,14 @@
 -- The tables of a first flow.
-use Rattle.std.specs.Prelude.{◌≡◌, ℕ, ◌<◌, ℤ, pos, ◌+ℤ◌, ◌≤ℤ◌, List, length}
+use Rattle.std.specs.Prelude.{◌≡◌, ℕ, ◌<◌, ℤ, List, length}
 use Rattle.map_nums.specs.Grids.{Size, Cells, cell_at, cells_in}
-use Rattle.drainage_flow.specs.FlowNets.{brought, flow_number}
+use Rattle.drainage_flow.specs.FlowNets.{IsSmall, brought, flow_number}
 use Rattle.drainage_flow.specs.Pouring.{flow_in}
 
 -- what each of the first n places brings
 pub record AreBrought (surface weights : Cells) (n : ℕ) (amounts : List ℤ) : Type 0 where
   pub count : length amounts ≡ n
   pub each : (c : ℕ) → c < n → flow_in amounts c ≡ brought (cell_at surface c) (cell_at weights c)
-  pub high : (c : ℕ) → c < n → flow_in amounts c ≤ℤ pos 2000000000
-  pub low : (c : ℕ) → c < n → pos 0 ≤ℤ (pos 2000000000 +ℤ flow_in amounts c)
+  pub small : (c : ℕ) → c < n → IsSmall (flow_in amounts c)
 
 -- the flow at each place
 pub record AreFlows (s : Size) (surface weights : Cells) (flows : List ℤ) : Type 0 where

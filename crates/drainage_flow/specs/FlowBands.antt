@@ -1,9 +1,9 @@
 -- The flow within bands of rows, which later pass on to one another.
-use Rattle.std.specs.Prelude.{◌≡◌, ℕ, zero, suc, ◌+◌, ◌-◌, ◌<◌, ◌≤◌, ℤ, pos, ◌+ℤ◌, ◌≤ℤ◌, List, [], ◌∷◌, length, map, Option, None}
+use Rattle.std.specs.Prelude.{◌≡◌, ℕ, zero, suc, ◌+◌, ◌-◌, ◌<◌, ◌≤◌, ℤ, pos, List, [], ◌∷◌, length, map, Option, None}
 use Rattle.std.specs.List.{flat_map}
 use Rattle.map_nums.specs.Grids.{Size, Cells}
 use Rattle.drainage_flow.specs.Nets.{Net, inflow}
-use Rattle.drainage_flow.specs.FlowNets.{net_of, weight_at}
+use Rattle.drainage_flow.specs.FlowNets.{IsSmall, net_of, weight_at}
 use Rattle.drainage_flow.specs.Pouring.{Places, IsPouring, laid}
 use Rattle.drainage_flow.specs.declared.flow_band.FlowBand.{FlowBand}
 
@@ -20,10 +20,6 @@ ArePouring g r = IsPouring g None r.down r.flow r.wait
 -- what a band holds in place of what stands from `first` on
 abbrev pub in_place : ℕ → FlowBand → Places → Places
 in_place first b r = record { down = laid first b.downs.items r.down; flow = laid first b.flows.items r.flow; wait = laid first b.waits.items r.wait }
-
--- no more than a cell may hold
-abbrev pub IsSmall : ℤ → Type 0
-IsSmall z = (z ≤ℤ pos 2000000000) × (pos 0 ≤ℤ (pos 2000000000 +ℤ z))
 
 -- a band for n places from `first` on: put in place of them where they have not begun, it leaves a pouring a pouring
 pub record IsFlowBand (s : Size) (surface weights : Cells) (first n : ℕ) (b : FlowBand) : Type 0 where

@@ -4,7 +4,7 @@ use Rattle.drainage_flow.specs.Nets.{Net, part, sum_to, is_to, inflow, gathered}
 
 -- the most that all places have to pass on
 abbrev pub most_load : ℤ
-most_load = pos 4000000000000000
+most_load = pos 4000000000000000000000
 
 -- one for each place that has not passed on
 abbrev pub undone : (ℕ → Bool) → ℕ → ℤ

@@ -3,7 +3,7 @@ ghost use Rattle.std.specs.Prelude.{◌≡◌, ◌<◌};
 ghost use Rattle.map_nums.specs.Grids.{cells_in, cell_at, near};
 ghost use Rattle.map_defs.specs.Flow.{downstream_of};
 ghost use Rattle.layer_tiles.specs.Tallies.{picked, RisesBy};
-ghost use Rattle.drainage_flow.specs.FlowNets.{number_of};
+ghost use Rattle.drainage_flow.specs.FlowNets.{IsSmall, number_of};
 ghost use Rattle.drainage_flow.specs.Sides.{cells_on, HasSide};
 ghost use Rattle.drainage_flow.specs.Steepest.{offset_at, AreAround};
 
@@ -21,7 +21,8 @@ pub(crate) enum Side {
 
 /// A cell as a number, a null one as 0.
 pub(crate) fn number(cell: Cell) -> Value
-    ensures { result ≡ number_of cell }
+    ensures number { result ≡ number_of cell }
+    ensures small { IsSmall result }
 {
     match cell.get() {
         Some(z) => z,

@@ -1,6 +1,6 @@
 //! What the cells of a map that had no flow bring.
-ghost use Rattle.std.specs.Prelude.{◌≡◌, ◌<◌, pos, ◌+ℤ◌, ◌≤ℤ◌, length, IfOk};
-ghost use Rattle.drainage_flow.specs.FlowNets.{brought};
+ghost use Rattle.std.specs.Prelude.{◌≡◌, ◌<◌, length, IfOk};
+ghost use Rattle.drainage_flow.specs.FlowNets.{IsSmall, brought};
 ghost use Rattle.drainage_flow.specs.First.{AreBrought};
 
 use crate::courses::number;
@@ -9,13 +9,12 @@ use map_nums::NoMemory;
 use std::alloc::Global;
 
 /// What a cell brings.
-fn brought(height: Cell, weight: Cell) -> i64
+fn brought(height: Cell, weight: Cell) -> i128
     ensures brought { result ≡ brought height weight }
-    ensures high { result ≤ℤ pos 2000000000 }
-    ensures low { pos 0 ≤ℤ (pos 2000000000 +ℤ result) }
+    ensures small { IsSmall result }
 {
     match height.get() {
-        Some(_) => number(weight) as i64,
+        Some(_) => number(weight) as i128,
         None => 0,
     }
 }
@@ -25,7 +24,7 @@ pub(crate) fn brought_by(
     alloc: Global,
     surface: &[Cell],
     weights: &[Cell],
-) -> Result<Vec<i64>, NoMemory>
+) -> Result<Vec<i128>, NoMemory>
     requires { length weights.now ≡ length surface.now }
     ensures { IfOk result (λ amounts. AreBrought surface.now weights.now (length surface.now) amounts.items) }
 {

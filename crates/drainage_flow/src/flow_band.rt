@@ -8,7 +8,7 @@ ghost use Rattle.drainage_flow.specs.Pouring.{down_in, flow_in, wait_in, most_lo
 pub struct FlowBand {
     pub(crate) downs: Vec<Option<u32>>,
     pub(crate) waits: Vec<u32>,
-    pub(crate) flows: Vec<i64>,
+    pub(crate) flows: Vec<i128>,
 }
 
 impl FlowBand {
@@ -28,7 +28,7 @@ impl FlowBand {
     }
 
     /// What a place has.
-    pub(crate) fn flow(&self, at: usize) -> i64
+    pub(crate) fn flow(&self, at: usize) -> i128
         requires { at < length self.now.flows.items }
         ensures { result ≡ flow_in self.now.flows.items at }
     {
@@ -36,7 +36,7 @@ impl FlowBand {
     }
 
     /// A place passes on what it has.
-    pub(crate) fn leave(&mut self, at: usize) -> i64
+    pub(crate) fn leave(&mut self, at: usize) -> i128
         requires down { at < length self.old.downs.items }
         requires flow { at < length self.old.flows.items }
         ensures downs { self.new.downs.items ≡ slice_set self.old.downs.items at None }
@@ -49,7 +49,7 @@ impl FlowBand {
     }
 
     /// An amount comes to a place. Whether it waits for nothing more.
-    pub(crate) fn take_in(&mut self, at: usize, amount: i64) -> bool
+    pub(crate) fn take_in(&mut self, at: usize, amount: i128) -> bool
         requires wait { at < length self.old.waits.items }
         requires flow { at < length self.old.flows.items }
         requires low { pos 0 ≤ℤ (flow_in self.old.flows.items at +ℤ amount +ℤ most_load) }

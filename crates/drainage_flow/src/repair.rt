@@ -52,7 +52,7 @@ pub fn mend<M: Tally>(
     weights: &Change<'_>,
     changed: &[u32],
     tally: &mut M,
-) -> Result<Vec<(u32, i64)>, NoMemory>
+) -> Result<Vec<(u32, i128)>, NoMemory>
     requires surface { IsSome surface.now.before }
     requires weights { IsSome weights.now.before }
     requires old_size { old.now.size ≡ surface.now.size }

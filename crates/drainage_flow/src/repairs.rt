@@ -166,7 +166,7 @@ fn write_flow<M: Tally>(
     base: &Layer,
     surface: &Change<'_>,
     changed: &[u32],
-    puts: &[(u32, i64)],
+    puts: &[(u32, i128)],
     tally: &mut M,
 ) -> Result<Repair, NoMemory>
     requires base_size { base.now.size ≡ surface.now.size }

@@ -3,11 +3,12 @@ ghost use Rattle.std.specs.Prelude.{◌≡◌, ◌<◌, ◌≤◌, ◌*◌, ℕ,
 ghost use Rattle.map_nums.specs.Grids.{cells_in, moved};
 ghost use Rattle.layer_tiles.specs.Tallies.{RisesBy};
 ghost use Rattle.layer_tiles.specs.Changes.{cells_before};
-ghost use Rattle.drainage_flow.specs.FlowNets.{weight_at};
+ghost use Rattle.drainage_flow.specs.FlowNets.{IsSmall, weight_at};
 ghost use Rattle.drainage_flow.specs.Mending.{IsSent};
+ghost use Rattle.drainage_flow.specs.Queues.{IsAmount};
 ghost use Rattle.drainage_flow.specs.Steepest.{offset_at};
 ghost use Rattle.drainage_flow.specs.Sides.{cells_on, HasSide};
-ghost use Rattle.drainage_flow.specs.Settling.{number_at, IsFew};
+ghost use Rattle.drainage_flow.specs.Settling.{number_at};
 ghost use Rattle.drainage_flow.specs.Seeding.{net_before, net_after, AreAdded, rerouted, renewed, IsSeededOf, is_marked, MarkedAround, StaysMarked};
 
 use crate::courses::{Side, cell_on, downstream, number};
@@ -25,19 +26,19 @@ pub(crate) fn weight_on<M: Tally>(
     side: Side,
     at: u32,
     tally: &mut M,
-) -> i64
+) -> i128
     requires surface { HasSide surface.now side }
     requires weights { HasSide weights.now side }
     requires size { weights.now.size ≡ surface.now.size }
     requires within { at < cells_in surface.now.size }
     ensures weight { result ≡ weight_at (cells_on surface.now side) (cells_on weights.now side) at }
-    ensures small { IsFew result }
+    ensures small { IsSmall result }
     ensures picks { RisesBy 0 2 (M.counts tally.old) (M.counts tally.new) }
 {
     let ground = cell_on(surface, side, at, tally);
     let weight = cell_on(weights, side, at, tally);
     match ground.get() {
-        Some(_) => number(weight) as i64,
+        Some(_) => number(weight) as i128,
         None => 0,
     }
 }
@@ -46,11 +47,12 @@ pub(crate) fn weight_on<M: Tally>(
 pub(crate) fn send_to<M: Tally>(
     surface: &Change<'_>,
     to: Option<u32>,
-    amount: i64,
+    amount: i128,
     queue: &mut Queue,
     tally: &mut M,
 ) -> Result<(), NoMemory>
-    requires { IfSome to (λ j. j < cells_in surface.now.size) }
+    requires within { IfSome to (λ j. j < cells_in surface.now.size) }
+    requires amount { IsAmount amount }
     ensures sent { OnOk result (IsSent (number_at surface.now.cells) to amount queue.old queue.new) }
     ensures picks { RisesBy 0 1 (M.counts tally.old) (M.counts tally.new) }
 {
@@ -74,13 +76,13 @@ fn reroute<M: Tally>(
     surface: &Change<'_>,
     from: Option<u32>,
     to: Option<u32>,
-    flow: i64,
+    flow: i128,
     queue: &mut Queue,
     tally: &mut M,
 ) -> Result<(), NoMemory>
     requires from { IfSome from (λ j. j < cells_in surface.now.size) }
     requires to { IfSome to (λ j. j < cells_in surface.now.size) }
-    requires few { IsFew flow }
+    requires small { IsSmall flow }
     ensures rerouted { OnOk result (AreAdded (cells_in surface.now.size) (number_at surface.now.cells) (rerouted from to flow) queue.old queue.new) }
     ensures picks { RisesBy 0 2 (M.counts tally.old) (M.counts tally.new) }
 {
@@ -112,7 +114,7 @@ fn renew<M: Tally>(
     let before = weight_on(surface, weights, Side::Before, at, tally);
     let after = weight_on(surface, weights, Side::After, at, tally);
     send_to(surface, Some(at), after - before, queue, tally)?;
-    let flow = number(old.cell(at, tally)) as i64;
+    let flow = number(old.cell(at, tally)) as i128;
     let from = downstream(surface, Side::Before, at, tally);
     let to = downstream(surface, Side::After, at, tally);
     reroute(surface, from, to, flow, queue, tally)?;

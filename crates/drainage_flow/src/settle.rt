@@ -4,6 +4,7 @@ ghost use Rattle.map_nums.specs.Grids.{cells_in};
 ghost use Rattle.map_defs.specs.Flow.{downstream_of};
 ghost use Rattle.layer_tiles.specs.Tallies.{RisesBy};
 ghost use Rattle.drainage_flow.specs.Mending.{IsSent};
+ghost use Rattle.drainage_flow.specs.Queues.{IsAmount};
 ghost use Rattle.drainage_flow.specs.Settling.{number_at, AreCells, IsFlowing, flow_changes, IsModest, IsReceived, AreNewFlows};
 
 use crate::courses::{Side, downstream, number};
@@ -16,11 +17,12 @@ use std::alloc::Global;
 pub(crate) fn send<M: Tally>(
     surface: &Change<'_>,
     place: u32,
-    amount: i64,
+    amount: i128,
     queue: &mut Queue,
     tally: &mut M,
 ) -> Result<(), NoMemory>
-    requires { place < cells_in surface.now.size }
+    requires within { place < cells_in surface.now.size }
+    requires amount { IsAmount amount }
     ensures sent { OnOk result (IsSent (number_at surface.now.cells) (downstream_of surface.now.size surface.now.cells place) amount queue.old queue.new) }
     ensures picks { RisesBy 0 10 (M.counts tally.old) (M.counts tally.new) }
 {
@@ -42,7 +44,7 @@ fn receive<M: Tally>(
     surface: &Change<'_>,
     arrival: Arrival,
     queue: &mut Queue,
-    puts: &mut Vec<(u32, i64)>,
+    puts: &mut Vec<(u32, i128)>,
     tally: &mut M,
 ) -> Result<(), NoMemory>
     requires size { old.now.size ≡ surface.now.size }
@@ -57,8 +59,8 @@ fn receive<M: Tally>(
         return Ok(());
     }
     let before = number(old.cell(arrival.place, tally)) as i128;
-    puts.push((arrival.place, (before + arrival.amount) as i64))?;
-    send(surface, arrival.place, arrival.amount as i64, queue, tally)?;
+    puts.push((arrival.place, before + arrival.amount))?;
+    send(surface, arrival.place, arrival.amount, queue, tally)?;
     Ok(())
 }
 
@@ -70,7 +72,7 @@ pub(crate) fn settle<M: Tally>(
     weights: &Change<'_>,
     queue: Queue,
     tally: &mut M,
-) -> Result<Vec<(u32, i64)>, NoMemory>
+) -> Result<Vec<(u32, i128)>, NoMemory>
     requires old_size { old.now.size ≡ surface.now.size }
     requires weights_size { weights.now.size ≡ surface.now.size }
     requires cells { AreCells weights.now.cells }

@@ -15,7 +15,7 @@ use map_nums::NoMemory;
 use tile_work::Working;
 
 /// The cell of a flow: null where the surface is null.
-fn shown(height: Cell, amount: i64) -> Cell
+fn shown(height: Cell, amount: i128) -> Cell
     requires { IsTrue (is_value amount) }
     ensures { result ≡ shown height amount }
 {
@@ -39,7 +39,7 @@ fn one_more(worked: u64, now: &Cell, was: &Cell) -> u64
 fn show<M: Tally>(
     surface: &Change<'_>,
     at: u32,
-    amount: i64,
+    amount: i128,
     flows: &mut Working<'_>,
     worked: u64,
     tally: &mut M,
@@ -94,7 +94,7 @@ pub fn show_grounds<M: Tally>(
     let _tiles = surface.extent();
     let mut worked = 0;
     for at in changed {
-        let amount = number(old.cell(*at, tally)) as i64;
+        let amount = number(old.cell(*at, tally)) as i128;
         worked = show(surface, *at, amount, flows, worked, tally)?;
     }
     Ok(worked)
@@ -104,7 +104,7 @@ pub fn show_grounds<M: Tally>(
 pub fn show_flows<M: Tally>(
     old: &Layer,
     surface: &Change<'_>,
-    puts: &[(u32, i64)],
+    puts: &[(u32, i128)],
     flows: &mut Working<'_>,
     worked: u64,
     tally: &mut M,

@@ -1,7 +1,6 @@
 //! The tiles of a flow that bands have, one after another.
 ghost use Rattle.std.specs.Prelude.{◌≡◌, ℕ, ◌<◌, ◌+◌, length, filter, is_some, if◌then◌else◌, None, Some, IfOk, IfSome, IfNone};
 ghost use Rattle.std.specs.List.{range_with_len};
-ghost use Rattle.map_nums.specs.Exact.{IsExact};
 ghost use Rattle.map_nums.specs.Grids.{cells_in, cell_at};
 ghost use Rattle.layer_tiles.specs.Answers.{IsTileAnswer};
 ghost use Rattle.layer_tiles.specs.Tiles.{tiles_in};
@@ -14,18 +13,18 @@ ghost use Rattle.drainage_flow.specs.Whole.{AreInRange, IsFirstWide, flow_cells}
 use crate::flow_band::FlowBand;
 use crate::pouring::seat;
 use layer_tiles::{Cell, Extent, KernelRefusal, Patch, Tile, Value};
-use map_nums::{NoMemory, Wide, in_range};
+use map_nums::{NoMemory, Wide, exact, in_range};
 use std::alloc::Global;
 use tile_frame::{RowMaker, TileMaker, make_row, make_tile};
 
 /// The first place of a list whose flow is out of range, where there is one.
-fn first_wide_in(flows: &[i64]) -> Option<u32>
+fn first_wide_in(flows: &[i128]) -> Option<u32>
     requires { length flows.now < 4294967296 }
     ensures some { IfSome result (IsFirstWide flows.now) }
     ensures none { IfNone result (AreInRange flows.now) }
 {
     for at in 0..flows.len() {
-        if in_range(flows[at] as i128).is_none() {
+        if in_range(flows[at]).is_none() {
             return Some(at as u32);
         }
     }
@@ -160,14 +159,14 @@ impl<'a> RowMaker for FlowRow<'a> {
     fn value_at(&self, c: u32) -> Result<Option<Value>, Wide> {
         let at = self.start + c;
         match self.surface[at as usize].get() {
-            Some(_) => kept(flow_after(self.bands, self.band, self.first, at, c)),
+            Some(_) => exact(flow_after(self.bands, self.band, self.first, at, c)),
             None => Ok(None),
         }
     }
 }
 
 /// The flow of place `at`, `c` places after one of which the band and where in it are known.
-fn flow_after(bands: &[FlowBand], band: usize, first: usize, at: u32, c: u32) -> i64
+fn flow_after(bands: &[FlowBand], band: usize, first: usize, at: u32, c: u32) -> i128
     requires even { AreEven bands.now }
     requires seat { (start : ℕ) × (start + c ≡ at) × IsSeat (counts_of bands.now) start band first }
     requires within { at < length (all_flows bands.now) }
@@ -179,16 +178,6 @@ fn flow_after(bands: &[FlowBand], band: usize, first: usize, at: u32, c: u32) ->
     }
     let (k, i) = seat(bands, at);
     bands[k].flow(i)
-}
-
-/// The number, or that no cell may hold it.
-fn kept(amount: i64) -> Result<Option<Value>, Wide>
-    ensures { IsExact (Some amount) result }
-{
-    match in_range(amount as i128) {
-        Some(value) => Ok(Some(value)),
-        None => Err(Wide),
-    }
 }
 
 /// How many cells are not null.

@@ -1,5 +1,6 @@
 //! The steepest way down from a cell.
-ghost use Rattle.std.specs.Prelude.{◌≡◌, ◌+◌, ◌<◌, ◌≤◌, ℕ, ℤ, pos, ◌+ℤ◌, ◌<ℤ◌, ◌≤ℤ◌, length, int_lt, if◌then◌else◌, IfSome, Some, None};
+ghost use Rattle.std.specs.Prelude.{◌≡◌, ◌+◌, ◌<◌, ◌≤◌, ℕ, ℤ, pos, ◌+ℤ◌, ◌<ℤ◌, ◌≤ℤ◌, length, int_lt, if◌then◌else◌, IfSome, IsTrue, Some, None};
+ghost use Rattle.map_nums.specs.Numbers.{is_value};
 ghost use Rattle.map_nums.specs.Grids.{Size, Cells, cell_at};
 ghost use Rattle.map_defs.specs.Drainage.{drop_to, winner_at, direction_of};
 ghost use Rattle.drainage_flow.specs.Steepest.{offset_at, AreAround};
@@ -11,10 +12,11 @@ use map_nums::Value;
 
 /// How far a number falls to a neighbour: 7 for each step of a straight one, 5 for each of a diagonal one.
 fn fall(here: Value, k: u8, there: Cell) -> i64
-    requires { k < 8 }
+    requires in_range { IsTrue (is_value here) }
+    requires few { k < 8 }
     ensures fall { result ≡ drop_to here (offset_at k) there }
-    ensures high { result ≤ℤ pos 34359738368 }
-    ensures low { pos 0 ≤ℤ (pos 34359738368 +ℤ result) }
+    ensures high { result ≤ℤ pos 20000000000000000 }
+    ensures low { pos 0 ≤ℤ (pos 20000000000000000 +ℤ result) }
 {
     match there.get() {
         Some(lower) => {
@@ -27,7 +29,8 @@ fn fall(here: Value, k: u8, there: Cell) -> i64
 
 /// The mark of the way to a neighbour: the greater the steeper, and of two as steep the first.
 fn mark(here: Value, k: u8, there: Cell) -> i64
-    requires { k < 8 }
+    requires in_range { IsTrue (is_value here) }
+    requires few { k < 8 }
     ensures { result ≡ marked (drop_to here (offset_at k) there) k }
 {
     fall(here, k, there) * 8 + (7 - k) as i64
@@ -56,6 +59,7 @@ fn led_to(mark: i64) -> Option<u8>
 /// Which of the eight cells round one the steepest way leads to, the first where several are as steep; none where
 /// nothing is lower.
 pub(crate) fn winner(here: Value, around: &[Cell; 8]) -> Option<u8>
+    requires { IsTrue (is_value here) }
     ensures winner { (s : Size) (surface : Cells) (at : ℕ) → cell_at surface at ≡ Some here → AreAround s surface at around.now → result ≡ winner_at s surface at }
     ensures few { IfSome result (λ k. k < 8) }
 {

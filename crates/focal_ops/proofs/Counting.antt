@@ -159,7 +159,7 @@ before_by_key true y z m k a b fm fk p q l = elim (cases_lt m k) [
 ]
 
 -- the number of a key
-key_number : (least : Bool) (z : ℤ) (m key : ℕ) → IsKey least z m key → pos (key % 4294967296) -ℤ pos 2147483648 ≡ z
+key_number : (least : Bool) (z : ℤ) (m key : ℕ) → IsKey least z m key → pos (key % 18446744073709551616) -ℤ pos 9223372036854775808 ≡ z
 key_number least z m key p = omega (arith, ints, p.is, p.low, p.high)
 
 statistic_is : (least : Bool) (xs : List ℤ) → statistic_of (by_counts least) xs ≡ find (λ y. list_all (is_before least xs y) xs) xs
@@ -181,7 +181,7 @@ module _ (xs values : List ℤ) (counts : List ℕ) (n : ℕ) (h : AreKinds xs (
   ]
 
   -- the kind with the least key
-  pub leader_is : (least : Bool) (key : ℕ) → length xs ≤ 64 → ((k : ℕ) → k < n → (other : ℕ) × IsKey least (get_or values k (pos 0)) (get_or counts k 0) other × (key ≤ other)) → (k : ℕ) → k < n → IsKey least (get_or values k (pos 0)) (get_or counts k 0) key → Some (pos (key % 4294967296) -ℤ pos 2147483648) ≡ statistic_of (by_counts least) xs
+  pub leader_is : (least : Bool) (key : ℕ) → length xs ≤ 64 → ((k : ℕ) → k < n → (other : ℕ) × IsKey least (get_or values k (pos 0)) (get_or counts k 0) other × (key ≤ other)) → (k : ℕ) → k < n → IsKey least (get_or values k (pos 0)) (get_or counts k 0) key → Some (pos (key % 18446744073709551616) -ℤ pos 9223372036854775808) ≡ statistic_of (by_counts least) xs
   leader_is least key few first k l is =
       let y = get_or values k (pos 0) in
       let s = h.are k l in

@@ -9,7 +9,7 @@ use Rattle.map_nums.specs.Stats.{statistic_of, total_of}
 use Rattle.map_nums.specs.Grids.{Size, Cells, numbers_in}
 use Rattle.layer_tiles.specs.Tiles.{Block, tile_height, tile_width}
 use Rattle.focal_ops.specs.Masks.{HasHalves, IsGrown, numbers_to, numbers_round, piece_numbers}
-use Rattle.focal_ops.specs.Totals.{IsFront, IsWithin, count_of, differences, of_totals, summed}
+use Rattle.focal_ops.specs.Totals.{IsFront, IsWithin, Rises, count_of, differences, of_totals, summed}
 use Rattle.focal_ops.proofs.Spans.{numbers_in-append}
 use Rattle.focal_ops.proofs.Mosts.{slice_two}
 use Rattle.focal_ops.proofs.Round.{numbers_more, row_end}
@@ -43,8 +43,25 @@ within_more m n z h w = record { low = omega (arith, ints, w.low, h); high = ome
 pub within_sum : (m : ℕ) (x v : ℤ) → IsWithin m x → IsWithin 1 v → IsWithin (m + 1) (x +ℤ v)
 within_sum m x v p q = record { low = omega (arith, ints, p.low, q.low); high = omega (arith, ints, p.high, q.high) }
 
-pub within_rise : (k : ℕ) (x a b : ℤ) → IsWithin (18432 * k) x → IsWithin 9216 a → IsWithin 9216 b → IsWithin (18432 * (k + 1)) (x +ℤ (b -ℤ a))
-within_rise k x a b p q r = record { low = omega (arith, ints, p.low, q.high, r.low); high = omega (arith, ints, p.high, q.low, r.high) }
+pub within_rise : (k : ℕ) (x r : ℤ) → IsWithin (65 * k) x → IsWithin 65 r → IsWithin (65 * (k + 1)) (x +ℤ r)
+within_rise k x r p q = record { low = omega (arith, ints, p.low, q.low); high = omega (arith, ints, p.high, q.high) }
+
+one_further : (k : ℕ) (a b d : ℤ) → IsWithin k (b -ℤ a) → IsWithin 1 (d -ℤ b) → IsWithin (k + 1) (d -ℤ a)
+one_further k a b d p q = record { low = omega (arith, ints, p.low, q.low); high = omega (arith, ints, p.high, q.high) }
+
+nowhere : (a : ℤ) → IsWithin 0 (a -ℤ a)
+nowhere a = record { low = omega (arith, ints); high = omega (arith, ints) }
+
+-- over k places the fronts rise by k numbers
+pub rise_over : (fronts : List ℤ) (n i k : ℕ) → Rises n fronts → i + k ≤ n → IsWithin k (get_or fronts (i + k) (pos 0) -ℤ get_or fronts i (pos 0))
+rise_over fronts n i zero h l = let e : i + 0 ≡ i = omega arith in rw (e) (nowhere (get_or fronts i (pos 0)))
+rise_over fronts n i (suc k) h l =
+    let e : i + suc k ≡ i + k + 1 = omega arith in
+    let f : suc k ≡ k + 1 = omega arith in
+    rw (e, f) (one_further k (get_or fronts i (pos 0)) (get_or fronts (i + k) (pos 0)) (get_or fronts (i + k + 1) (pos 0)) (rise_over fronts n i k h (omega (arith, l))) (h (i + k) (omega (arith, l))))
+
+pub just : (x v : ℤ) → (x +ℤ v) -ℤ x ≡ v
+just x v = omega (arith, ints)
 
 -- ---- fronts
 
@@ -60,16 +77,18 @@ total_next square m cell x v l is e g = front_next total_of total_adds square m 
 pub count_next : (square : Cells) (m : ℕ) (cell : Option ℤ) (x v : ℤ) → m < length square → cell ≡ get_or square m cell → x ≡ count_of (numbers_in (take m square)) → v ≡ count_of (numbers_in (cell ∷ [])) → x +ℤ v ≡ count_of (numbers_in (take (m + 1) square))
 count_next square m cell x v l is e g = front_next count_of count_adds square m cell x v l is e g
 
-pub front_more : (f : List ℤ → ℤ) (square : Cells) (m : ℕ) (fronts : List ℤ) (word : ℤ) → IsFront f square m fronts → m + 1 < length fronts → m < 9216 → word ≡ f (numbers_in (take (m + 1) square)) → IsWithin (m + 1) word → IsFront f square (m + 1) (set fronts (m + 1) word)
-front_more f square m fronts word h room few e w = record {
+pub front_more : (f : List ℤ → ℤ) (square : Cells) (m : ℕ) (fronts : List ℤ) (word : ℤ) → IsFront f square m fronts → m + 1 < length fronts → word ≡ f (numbers_in (take (m + 1) square)) → IsWithin 1 (word -ℤ get_or fronts m (pos 0)) → IsFront f square (m + 1) (set fronts (m + 1) word)
+front_more f square m fronts word h room e w = record {
   is = λ j l. elim (cases_lt j (m + 1)) as (λ _. get_or (set fronts (m + 1) word) j (pos 0) ≡ f (numbers_in (take j square))) [
     | inl a ↦ (let ne : j ≢ m + 1 = omega (arith, a) in get_or-set_other fronts (m + 1) j word (pos 0) ne ∙ h.is j (omega (arith, a)))
     | inr a ↦ (let same : j ≡ m + 1 = omega (arith, a, l) in rw (same) (get_or-set_same fronts (m + 1) word (pos 0) room ∙ e))
   ];
-  within = λ j l. elim (cases_lt j (m + 1)) as (λ _. IsWithin 9216 (get_or (set fronts (m + 1) word) j (pos 0))) [
-    | inl a ↦ (let ne : j ≢ m + 1 = omega (arith, a) in rw (get_or-set_other fronts (m + 1) j word (pos 0) ne) (h.within j (omega (arith, a))))
-    | inr a ↦ (let same : j ≡ m + 1 = omega (arith, a, l) in rw (same, get_or-set_same fronts (m + 1) word (pos 0) room) (within_more (m + 1) 9216 word (omega (arith, few)) w))
-  ];
+  rises = λ j l.
+      let here : j ≢ m + 1 = omega (arith, l) in
+      elim (cases_lt j m) as (λ _. IsWithin 1 (get_or (set fronts (m + 1) word) (j + 1) (pos 0) -ℤ get_or (set fronts (m + 1) word) j (pos 0))) [
+        | inl a ↦ (let ne : j + 1 ≢ m + 1 = omega (arith, a) in rw (get_or-set_other fronts (m + 1) (j + 1) word (pos 0) ne, get_or-set_other fronts (m + 1) j word (pos 0) here) (h.rises j a))
+        | inr a ↦ (let same : j ≡ m = omega (arith, a, l) in rw (get_or-set_other fronts (m + 1) j word (pos 0) here, same, get_or-set_same fronts (m + 1) word (pos 0) room) w)
+      ];
 }
 
 from_start : (xs : Cells) (n : ℕ) → slice_range xs 0 n ≡ take n xs
@@ -134,11 +153,11 @@ adds_more old totals left right c word done rest room e =
     (λ j l. let ne : j ≢ c = omega arith in get_or-set_other totals c j word (pos 0) ne ∙ done j l)
     (get_or-set_same totals c word (pos 0) room ∙ e ∙ ap (λ z. z +ℤ (get_or right c (pos 0) -ℤ get_or left c (pos 0))) (rest c (omega arith)))
 
-pub fits_rise : (a b : ℤ) → IsWithin 9216 a → IsWithin 9216 b → FitsSigned w64 (b -ℤ a)
-fits_rise a b p q = omega (arith, ints, p.low, p.high, q.low, q.high)
+pub fits_rise : (r : ℤ) → IsWithin 65 r → FitsSigned w64 r
+fits_rise r p = omega (arith, ints, p.low, p.high)
 
-pub fits_total : (k : ℕ) (x a b : ℤ) → k ≤ 65 → IsWithin (18432 * k) x → IsWithin 9216 a → IsWithin 9216 b → FitsSigned w64 (x +ℤ (b -ℤ a))
-fits_total k x a b few p q r = omega (arith, ints, few, p.low, p.high, q.low, q.high, r.low, r.high)
+pub fits_total : (k : ℕ) (x r : ℤ) → k ≤ 65 → IsWithin (65 * k) x → IsWithin 65 r → FitsSigned w64 (x +ℤ r)
+fits_total k x r few p q = omega (arith, ints, few, p.low, p.high, q.low, q.high)
 
 pub fits_next : (m : ℕ) (x v : ℤ) → m < 9216 → IsWithin m x → IsWithin 1 v → FitsSigned w64 (x +ℤ v)
 fits_next m x v l p q = omega (arith, ints, l, p.low, p.high, q.low, q.high)

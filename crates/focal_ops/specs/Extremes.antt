@@ -2,6 +2,7 @@
 use Rattle.std.specs.Prelude.{◌≡◌, ℕ, ◌+◌, ◌*◌, ◌<◌, ◌^◌, ◌≤◌, length, ℤ, pos, negsuc, neg_ℤ, ◌<ℤ◌, Bool, true, false, List, [], ◌∷◌, Option, Some, None, slice_index_or, slice_range, if◌then◌else◌}
 use Rattle.std.specs.Int.{int_max}
 use Rattle.std.specs.Ordering.{int_eq}
+use Rattle.map_nums.specs.Numbers.{greatest_value}
 use Rattle.map_nums.specs.declared.Stat.{Stat}
 use Rattle.map_nums.specs.declared.Stat.TheVariants.{Maximum, Minimum}
 use Rattle.map_nums.specs.Grids.{Cells, numbers_in}
@@ -12,7 +13,7 @@ extreme true = Minimum
 
 -- the word of no number
 abbrev pub nothing : ℤ
-nothing = negsuc 2147483647
+nothing = negsuc greatest_value
 
 abbrev pub turned : Bool → ℤ → ℤ
 turned false z = z

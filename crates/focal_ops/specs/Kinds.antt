@@ -31,6 +31,6 @@ rank least m = if least then m else 64 - m
 
 -- the key of a number z that occurs m times: its rank, and among equal ranks the number
 pub record IsKey (least : Bool) (z : ℤ) (m key : ℕ) : Type 0 where
-  pub is : pos key ≡ (z +ℤ pos (rank least m * 4294967296 + 2147483648))
-  pub low : pos 0 ≤ℤ (z +ℤ pos 2147483648)
-  pub high : (z +ℤ pos 2147483648) <ℤ pos 4294967296
+  pub is : pos key ≡ (z +ℤ pos (rank least m * 18446744073709551616 + 9223372036854775808))
+  pub low : pos 0 ≤ℤ (z +ℤ pos 9223372036854775808)
+  pub high : (z +ℤ pos 9223372036854775808) <ℤ pos 18446744073709551616

@@ -1,5 +1,5 @@
 -- Sums over pieces of rows by what the first cells add up to.
-use Rattle.std.specs.Prelude.{◌≡◌, ℕ, zero, suc, ◌+◌, ◌-◌, ◌*◌, ◌≤◌, ℤ, pos, neg_ℤ, ◌+ℤ◌, ◌-ℤ◌, ◌≤ℤ◌, Bool, true, false, List, length, take, Option, Some, None, slice_index, slice_index_or, if◌then◌else◌}
+use Rattle.std.specs.Prelude.{◌≡◌, ℕ, zero, suc, ◌+◌, ◌-◌, ◌*◌, ◌<◌, ◌≤◌, ℤ, pos, neg_ℤ, ◌+ℤ◌, ◌-ℤ◌, ◌≤ℤ◌, Bool, true, false, List, length, take, Option, Some, None, slice_index, slice_index_or, if◌then◌else◌}
 use Rattle.std.specs.Int.{int_div_euclid}
 use Rattle.std.specs.Ordering.{int_eq}
 use Rattle.map_nums.specs.declared.Stat.{Stat}
@@ -14,15 +14,19 @@ summed true = Mean
 abbrev pub count_of : List ℤ → ℤ
 count_of zs = pos (length zs)
 
--- n numbers of 32 bits may add up to this
+-- n numbers of cells may add up to this, of wider cells too
 pub record IsWithin (n : ℕ) (z : ℤ) : Type 0 where
-  pub low : neg_ℤ (pos (2147483648 * n)) ≤ℤ z
-  pub high : z ≤ℤ pos (2147483648 * n)
+  pub low : neg_ℤ (pos (1000000000000000 * n)) ≤ℤ z
+  pub high : z ≤ℤ pos (1000000000000000 * n)
+
+-- no step from one of the first n places to the next is more than a number
+abbrev pub Rises : ℕ → List ℤ → Type 0
+Rises n fronts = (m : ℕ) → m < n → IsWithin 1 (slice_index_or fronts (m + 1) (pos 0) -ℤ slice_index_or fronts m (pos 0))
 
 -- f of the numbers among the first m cells stands at place m, up to place n
 pub record IsFront (f : List ℤ → ℤ) (square : Cells) (n : ℕ) (fronts : List ℤ) : Type 0 where
   pub is : (m : ℕ) → m ≤ n → slice_index_or fronts m (pos 0) ≡ f (numbers_in (take m square))
-  pub within : (m : ℕ) → m ≤ n → IsWithin 9216 (slice_index_or fronts m (pos 0))
+  pub rises : Rises n fronts
 
 -- those of all cells, for the sums and for the counts
 pub record AreFronts (square : Cells) (sums counts : List ℤ) : Type 0 where

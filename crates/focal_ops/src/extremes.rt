@@ -178,9 +178,8 @@ fn answer_of(least: bool, word: Value) -> Result<Option<Value>, Wide>
     if word == NOTHING {
         return Ok(None);
     }
-    let number = if least { -word } else { word };
-    if (number as i64) < -VMAX || number as i64 > VMAX {
+    if (word as i64) < -VMAX || word as i64 > VMAX {
         return Err(Wide);
     }
-    Ok(Some(number))
+    Ok(Some(if least { -word } else { word }))
 }

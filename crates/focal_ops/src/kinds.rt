@@ -6,7 +6,7 @@ ghost use Rattle.map_nums.specs.declared.Stat.TheVariants.{Variety};
 ghost use Rattle.focal_ops.specs.Kinds.{AreKinds, HaveSlots, IsKey, by_counts, slot_at};
 
 use layer_tiles::Value;
-use map_nums::{Stat, Wide, in_range, statistic_in};
+use map_nums::{Stat, Wide, exact, statistic_in};
 
 /// The most numbers of a short list.
 const MOST: usize = 64;
@@ -15,10 +15,10 @@ const MOST: usize = 64;
 const FREE: u8 = 255;
 
 /// By how much a key grows from one rank to the next.
-const RANK: u64 = 4_294_967_296;
+const RANK: u128 = 18_446_744_073_709_551_616;
 
-/// The negative of the least number of 32 bits.
-const SHIFT: i64 = 2_147_483_648;
+/// The negative of the least number of 64 bits.
+const SHIFT: i128 = 9_223_372_036_854_775_808;
 
 /// Different numbers, and how often each occurs.
 #[derive(Drop)]
@@ -69,7 +69,7 @@ fn leader_of(least: bool, numbers: &[Value], kinds: &mut Kinds) -> Result<Option
         return Ok(None);
     }
     let key = least_key(least, kinds, count);
-    exact((key % RANK) as i64 - SHIFT)
+    exact((key % RANK) as i128 - SHIFT)
 }
 
 /// How many different numbers there are.
@@ -81,17 +81,7 @@ fn variety_of(numbers: &[Value], kinds: &mut Kinds) -> Result<Option<Value>, Wid
     if count == 0 {
         return Ok(None);
     }
-    exact(count as i64)
-}
-
-/// The number, or that it is wide.
-fn exact(number: i64) -> Result<Option<Value>, Wide>
-    ensures { IsExact (Some number) result }
-{
-    match in_range(number as i128) {
-        Some(value) => Ok(Some(value)),
-        None => Err(Wide),
-    }
+    exact(count as i128)
 }
 
 /// Puts the different numbers and how often each occurs to the front of `kinds`, and says how many there are.
@@ -176,7 +166,7 @@ fn place_of(number: Value, values: &[Value]) -> usize
 }
 
 /// The least key of the first `count` kinds.
-fn least_key(least: bool, kinds: &Kinds, count: usize) -> u64
+fn least_key(least: bool, kinds: &Kinds, count: usize) -> u128
     requires some { 0 < count }
     requires few { count ≤ 64 }
     requires counts { (k : ℕ) → k < count → slice_index kinds.now.counts k ≤ 64 }
@@ -191,10 +181,10 @@ fn least_key(least: bool, kinds: &Kinds, count: usize) -> u64
 }
 
 /// The key of a number that occurs so many times.
-fn key_of(least: bool, value: Value, times: u32) -> u64
+fn key_of(least: bool, value: Value, times: u32) -> u128
     requires { times ≤ 64 }
     ensures { IsKey least value times result }
 {
     let rank = if least { times } else { 64 - times };
-    rank as u64 * RANK + (value as i64 + SHIFT) as u64
+    rank as u128 * RANK + (value as i128 + SHIFT) as u128
 }

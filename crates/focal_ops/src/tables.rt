@@ -5,10 +5,10 @@ ghost use Rattle.std.specs.Int.{int_max};
 ghost use Rattle.map_nums.specs.Grids.{numbers_in};
 ghost use Rattle.focal_ops.specs.Extremes.{IsMost, IsTable};
 
-use layer_tiles::{Cell, Value};
+use layer_tiles::{Cell, VMAX, Value};
 
 /// The word of no number, below that of each number.
-pub(crate) const NOTHING: Value = i32::MIN;
+pub(crate) const NOTHING: Value = -(VMAX as Value) - 1;
 
 /// Fills tables of the cells: table `p` has at place m the word of the 2^p cells from m on.
 pub(crate) fn fill_tables(least: bool, levels: u32, square: &[Cell], tables: &mut [Value])

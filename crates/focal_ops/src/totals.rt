@@ -6,7 +6,7 @@ ghost use Rattle.layer_tiles.specs.Tiles.{tiles_in, tile_width};
 ghost use Rattle.layer_tiles.specs.PlaceByPlace.{IsPlacesAnswer};
 ghost use Rattle.tile_frame.specs.Frames.{by_row};
 ghost use Rattle.focal_ops.specs.Masks.{HasHalves, IsGrown, statistic_round};
-ghost use Rattle.focal_ops.specs.Totals.{AreFronts, IsWithin, differences, of_totals, summed};
+ghost use Rattle.focal_ops.specs.Totals.{AreFronts, IsWithin, Rises, differences, of_totals, summed};
 
 use crate::fronts::fill_fronts;
 use crate::masks::Mask;
@@ -132,7 +132,7 @@ fn totals_round(mask: &Mask, near: &NearCells, fronts: &[i64], r: u32, columns: 
     requires narrow { near.now.width ≤ 96 }
     requires count { length near.now.cells ≡ near.now.height * near.now.width }
     requires room { length fronts.now ≡ length near.now.cells + 1 }
-    requires fronts { (m : ℕ) → m ≤ length near.now.cells → IsWithin 9216 (slice_index_or fronts.now m (pos 0)) }
+    requires fronts { Rises (length near.now.cells) fronts.now }
     ensures { (c : ℕ) → c < columns → slice_index_or result c (pos 0) ≡ differences mask.now.reach mask.now.halves fronts.now near.now.width r c (2 * mask.now.reach + 1) }
 {
     let width = near.width() as u32;
@@ -156,11 +156,10 @@ fn add(k: usize, totals: &mut [i64], left: &[i64], right: &[i64])
     requires few { k ≤ 65 }
     requires same { length left.now ≡ length right.now }
     requires room { length left.now ≤ length totals.old }
-    requires totals { (c : ℕ) → c < length left.now → IsWithin (18432 * k) (slice_index_or totals.old c (pos 0)) }
-    requires left { (c : ℕ) → c < length left.now → IsWithin 9216 (slice_index_or left.now c (pos 0)) }
-    requires right { (c : ℕ) → c < length left.now → IsWithin 9216 (slice_index_or right.now c (pos 0)) }
+    requires totals { (c : ℕ) → c < length left.now → IsWithin (65 * k) (slice_index_or totals.old c (pos 0)) }
+    requires rises { (c : ℕ) → c < length left.now → IsWithin 65 (slice_index_or right.now c (pos 0) -ℤ slice_index_or left.now c (pos 0)) }
     ensures sums { (c : ℕ) → c < length left.now → slice_index_or totals.new c (pos 0) ≡ slice_index_or totals.old c (pos 0) +ℤ (slice_index_or right.now c (pos 0) -ℤ slice_index_or left.now c (pos 0)) }
-    ensures within { (c : ℕ) → c < length left.now → IsWithin (18432 * (k + 1)) (slice_index_or totals.new c (pos 0)) }
+    ensures within { (c : ℕ) → c < length left.now → IsWithin (65 * (k + 1)) (slice_index_or totals.new c (pos 0)) }
 {
     for c in 0..left.len() {
         totals[c] += right[c] - left[c];
@@ -179,5 +178,5 @@ fn answer_of(mean: bool, total: i64, count: i64) -> Result<Option<Value>, Wide>
     if number < -VMAX || number > VMAX {
         return Err(Wide);
     }
-    Ok(Some(number as i32))
+    Ok(Some(number as Value))
 }

@@ -7,7 +7,7 @@ use Rattle.std.proofs.lemmas.Bool.{cases_lt, lt-leb, le-leb}
 use Rattle.std.proofs.lemmas.List.{get_or_past, get_or_default}
 use Rattle.std.proofs.lemmas.List.FromFn.{get_or-map-range_with_len, length-map-range_with_len}
 use Rattle.map_nums.specs.Grids.{Size, IsSize, Cells, cell_at, cells_in, places}
-use Rattle.map_nums.specs.Numbers.{is_value}
+use Rattle.map_nums.specs.Numbers.{greatest_value, is_value}
 use Rattle.map_nums.specs.Answers.{is_wide}
 use Rattle.map_defs.specs.Nets.{IsLeastIn}
 use Rattle.map_defs.specs.Rounds.{cost_cell}
@@ -40,13 +40,13 @@ pub shown_answer : (s : Size) (limit : ℕ) (costs : List ℕ) (t : ℕ) (result
 shown_answer s limit costs t result size within a = grid_answer s t (λ r c. shown_at limit costs (cell_in s t r c)) (shown_at limit costs) result size within (λ r c l m. refl) a
 
 -- a cost within a limit is a number that a cell may hold
-pub cost_narrow : (limit v : ℕ) → limit ≤ 2000000000 → is_wide (cost_cell limit v) ≡ false
+pub cost_narrow : (limit v : ℕ) → limit ≤ greatest_value → is_wide (cost_cell limit v) ≡ false
 cost_narrow limit v l = elim (cases_lt limit v) as (λ _. is_wide (cost_cell limit v) ≡ false) [
   | inl m ↦ rw (lt-leb v limit m) refl
-  | inr m ↦ rw (le-leb v limit m) (let h : is_value (pos v) ≡ true = le-leb v 2000000000 (omega (arith, m, l)) in ap not h)
+  | inr m ↦ rw (le-leb v limit m) (let h : is_value (pos v) ≡ true = le-leb v greatest_value (omega (arith, m, l)) in ap not h)
 ]
 
-pub never_wide : {P : Type 0} (s : Size) (limit : ℕ) (costs : List ℕ) (t at : ℕ) → limit ≤ 2000000000 → IsLeastWide s (shown_cells s limit costs) t at → P
+pub never_wide : {P : Type 0} (s : Size) (limit : ℕ) (costs : List ℕ) (t at : ℕ) → limit ≤ greatest_value → IsLeastWide s (shown_cells s limit costs) t at → P
 never_wide s limit costs t at low w =
     let e : is_wide (cell_at (shown_cells s limit costs) at) ≡ is_wide (shown_at limit costs at) = ap is_wide (get_or-map-range_with_len (shown_at limit costs) 0 (cells_in s) at at None w.within (omega arith)) in
     let y : is_wide (cell_at (shown_cells s limit costs) at) ≡ true = w.wide in
@@ -98,7 +98,7 @@ module _ (g : GroundState) (costs : List ℕ) (count : length costs ≡ cells_in
       let all : changed (values g.limit []) (costs_of g costs) (length costs) ≡ changed (values g.limit []) (costs_of g costs) (cells_in g.size) = ap (changed (values g.limit []) (costs_of g costs)) count in
       m ∙ at_limit ∙ all ∙ changed_alike (values g.limit []) (costs_of g costs) (values g.limit cells) (cells_in g.size) (λ j l. sym (shown_values j)) ∙ first_moved g cells shown_costs
 
-  pub list_is : (list : CostList) → list.limit ≡ g.limit → g.limit ≤ 2000000000 → list.costs.items ≡ costs → list.worked ≡ first_work g.size cells → IsCostList g list
+  pub list_is : (list : CostList) → list.limit ≡ g.limit → g.limit ≤ greatest_value → list.costs.items ≡ costs → list.worked ≡ first_work g.size cells → IsCostList g list
   list_is list limit low same work =
       let e : list_cells g.size list ≡ cells = ap (λ n. shown_cells g.size n list.costs.items) limit ∙ ap (shown_cells g.size g.limit) same in
       let P : Cells → Type 0 = IsSpread g.size g.sources g.friction g.limit in

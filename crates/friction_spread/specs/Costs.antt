@@ -1,6 +1,7 @@
 -- Cells as costs, and the net of a spread.
 use Rattle.std.specs.Prelude.{◌≡◌, ℕ, suc, ◌≤◌, ◌&&◌, ℤ, pos, negsuc, List, Option, Some, None, is_some, if◌then◌else◌}
 use Rattle.map_nums.specs.Grids.{Size, IsSize, Cells, cell_at, cells_in, is_neighbour}
+use Rattle.map_nums.specs.Numbers.{greatest_value}
 use Rattle.map_defs.specs.Nets.{Net}
 use Rattle.map_defs.specs.Spread.{step_cost}
 use Rattle.map_defs.specs.Rounds.{is_open, cost_cell}
@@ -38,4 +39,4 @@ net_of g = record { size = cells_in g.size; top = suc g.limit; base = base_of g;
 
 pub record IsGround (g : GroundState) : Type 0 where
   pub size : IsSize g.size
-  pub limit : g.limit ≤ 2000000000
+  pub limit : g.limit ≤ greatest_value

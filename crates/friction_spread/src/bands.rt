@@ -5,6 +5,7 @@
 ghost use Rattle.std.specs.Prelude.{◌≡◌, ◌<◌, ◌≤◌, ◌≤ℤ◌, ◌+◌, ◌*◌, ℕ, suc, pos, nat_abs, true, length, IfOk, OnOk};
 ghost use Rattle.std.specs.List.{Contains};
 ghost use Rattle.map_nums.specs.Grids.{cells_in, row_of};
+ghost use Rattle.map_nums.specs.Numbers.{greatest_value};
 ghost use Rattle.map_defs.specs.Nets.{IsLeastIn};
 ghost use Rattle.least_costs.specs.Queue.{IsKept};
 ghost use Rattle.friction_spread.specs.Costs.{net_of};
@@ -31,11 +32,11 @@ pub struct CostBand {
     above: u32,
     rows: u32,
     /// Of all rows, those taken in too.
-    costs: Vec<u32>,
+    costs: Vec<u64>,
 }
 
 /// The least costs within the rows `first` to before `end` of a map, whose sources and frictions are given whole; rows beside them may
-/// be taken in. The limit is the greatest cost that counts, of 0 to 2,000,000,000.
+/// be taken in. The limit is the greatest cost that counts, and no more than a cell holds.
 ///
 /// # Errors
 ///
@@ -51,7 +52,7 @@ pub fn costs_of_band(
 ) -> Result<CostBand, NoMemory>
     requires sources { length sources.now ≡ cells_in extent }
     requires friction { length friction.now ≡ cells_in extent }
-    requires limit { (pos 0 ≤ℤ limit) × (limit ≤ℤ pos 2000000000) }
+    requires limit { (pos 0 ≤ℤ limit) × (limit ≤ℤ pos greatest_value) }
     requires rows { (first < end) × (end ≤ extent.rows) }
     ensures { IfOk result (IsCostBand (ground_of extent sources.now friction.now (nat_abs limit)) first end) }
 {
@@ -81,7 +82,7 @@ pub fn spread_of_bands(
 ) -> Result<CostList, NoMemory>
     requires sources { length sources.now ≡ cells_in extent }
     requires friction { length friction.now ≡ cells_in extent }
-    requires limit { (pos 0 ≤ℤ limit) × (limit ≤ℤ pos 2000000000) }
+    requires limit { (pos 0 ≤ℤ limit) × (limit ≤ℤ pos greatest_value) }
     requires bands { AreCostBands (ground_of extent sources.now friction.now (nat_abs limit)) 0 bands.now }
     ensures { IfOk result (IsCostList (ground_of extent sources.now friction.now (nat_abs limit))) }
 {
@@ -100,7 +101,7 @@ fn costs_of_bands(
     alloc: Global,
     ground: &FlatGround<'_>,
     bands: &[CostBand],
-) -> Result<Vec<u32>, NoMemory>
+) -> Result<Vec<u64>, NoMemory>
     requires { AreCostBands ground.now 0 bands.now }
     ensures count { IfOk result (λ costs. length costs.items ≡ cells_in ground.now.size) }
     ensures least { IfOk result (λ costs. (i : ℕ) → IsLeastIn (net_of ground.now) i (costs_of ground.now costs.items i)) }
@@ -117,7 +118,7 @@ fn join(
     ground: &FlatGround<'_>,
     bands: &[CostBand],
     queue: &mut Queue,
-) -> Result<Vec<u32>, NoMemory>
+) -> Result<Vec<u64>, NoMemory>
     requires bands { AreCostBands ground.now 0 bands.now }
     ensures { IfOk result (λ costs. AreCostsTo ground.now ground.now.size.rows costs.items queue.new) }
 {
@@ -134,7 +135,7 @@ fn join_band(
     ground: &FlatGround<'_>,
     band: &CostBand,
     first: u32,
-    costs: &mut Vec<u32>,
+    costs: &mut Vec<u64>,
     queue: &mut Queue,
 ) -> Result<u32, NoMemory>
     requires band { IsCostBand ground.now first (first + band.now.rows) band.now }
@@ -154,7 +155,7 @@ fn join_band(
 /// The rows of a band that lie beside another band come into the queue.
 fn push_seams(
     ground: &FlatGround<'_>,
-    costs: &[u32],
+    costs: &[u64],
     queue: &mut Queue,
     first: u32,
     end: u32,
@@ -173,7 +174,7 @@ fn push_seams(
 /// A row comes into the queue if another band lies beside it.
 fn push_beside(
     ground: &FlatGround<'_>,
-    costs: &[u32],
+    costs: &[u64],
     queue: &mut Queue,
     row: u32,
     beside: bool,
@@ -192,7 +193,7 @@ fn push_beside(
 /// The places of a row that have a cost come into the queue.
 fn push_row(
     ground: &FlatGround<'_>,
-    costs: &[u32],
+    costs: &[u64],
     queue: &mut Queue,
     row: u32,
 ) -> Result<(), NoMemory>
@@ -205,7 +206,7 @@ fn push_row(
     let start = row * columns;
     let top = ground.top();
     for at in start..start + columns {
-        offer_cost(queue, costs[at as usize] as u64, top, at)?;
+        offer_cost(queue, costs[at as usize], top, at)?;
     }
     Ok(())
 }

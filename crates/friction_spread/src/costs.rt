@@ -1,6 +1,7 @@
 //! Cells as costs.
 ghost use Rattle.std.specs.Prelude.{◌≡◌, ◌<◌, ◌≤◌, ◌+◌, ◌-◌, ◌^◌, ℕ, suc, length, OnOk, OnErr};
 ghost use Rattle.map_nums.specs.Grids.{cells_in};
+ghost use Rattle.map_nums.specs.Numbers.{greatest_value};
 ghost use Rattle.map_defs.specs.Rounds.{cost_cell};
 ghost use Rattle.layer_tiles.specs.Tallies.{RisesBy};
 ghost use Rattle.tile_work.specs.Working.{IsSameWork, IsCopiedFor, base_of, copies};
@@ -8,14 +9,14 @@ ghost use Rattle.least_costs.specs.Queue.{IsSetTo};
 ghost use Rattle.friction_spread.specs.Costs.{cost_of, values, AreCosts};
 
 use crate::ground::Ground;
-use layer_tiles::{Cell, NoMemory, Tally};
+use layer_tiles::{Cell, NoMemory, Tally, Value};
 use tile_work::Working;
 
 /// The number of a cell; `top` where it is null.
 fn cost_of(cell: Cell, top: u64) -> u64
-    requires { top ≤ 2 ^ 31 }
+    requires { top ≤ 2 ^ 50 }
     ensures value { result ≡ cost_of top cell }
-    ensures low { result ≤ 2 ^ 31 }
+    ensures low { result ≤ 2 ^ 50 }
 {
     match cell.get() {
         Some(value) if value >= 0 => value as u64,
@@ -26,13 +27,13 @@ fn cost_of(cell: Cell, top: u64) -> u64
 
 /// The cell of a cost: null where it is above the limit.
 fn cell_of(cost: u64, limit: u64) -> Cell
-    requires { limit ≤ 2000000000 }
+    requires { limit ≤ greatest_value }
     ensures { result ≡ cost_cell limit cost }
 {
     if cost > limit {
         return Cell::null();
     }
-    match Cell::of(cost as i32) {
+    match Cell::of(cost as Value) {
         Some(cell) => cell,
         None => unreachable!(),
     }
@@ -43,7 +44,7 @@ pub fn cost_at<M: Tally>(ground: &Ground<'_>, labels: &Working<'_>, at: u32, tal
     requires size { labels.now.size ≡ ground.now.size }
     requires within { at < cells_in ground.now.size }
     ensures value { result ≡ values ground.now.limit labels.now.cells at }
-    ensures low { result ≤ 2 ^ 31 }
+    ensures low { result ≤ 2 ^ 50 }
     ensures count { length labels.now.cells ≡ cells_in ground.now.size }
     ensures pick { RisesBy 0 1 (M.counts tally.old) (M.counts tally.new) }
 {

@@ -27,7 +27,7 @@ pub struct Dealt {
 
 /// A place comes into the queue under what it costs, if it has a cost.
 pub fn offer_cost(queue: &mut Queue, cost: u64, top: u64, at: u32) -> Result<(), NoMemory>
-    requires { top ≤ 2 ^ 31 }
+    requires { at < 2 ^ 21 }
     ensures kept { OnOk result (IsKept queue.old queue.new) }
     ensures there { OnOk result (cost < top → Contains queue.new (cost, at)) }
     ensures len { OnOk result (length queue.new ≤ length queue.old + 1) }

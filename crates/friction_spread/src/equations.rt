@@ -15,7 +15,7 @@ use tile_work::Working;
 
 /// No step from or to a place of this friction costs less.
 pub fn least_step(friction: u64) -> u64
-    requires { friction < 2 ^ 31 }
+    requires { friction < 2 ^ 50 }
     ensures { result ≡ 5 * (friction + 1) }
 {
     5 * (friction + 1)
@@ -23,9 +23,9 @@ pub fn least_step(friction: u64) -> u64
 
 /// What a step between neighbours of two frictions costs.
 pub fn weigh(from: Spot, to: Spot, friction: u64, own: u64) -> u64
-    requires { (friction < 2 ^ 31) × (own < 2 ^ 31) }
+    requires { (friction < 2 ^ 50) × (own < 2 ^ 50) }
     ensures value { result ≡ weighed from to friction own }
-    ensures low { result < 2 ^ 40 }
+    ensures low { result < 2 ^ 54 }
 {
     let both = friction + own;
     if from.row == to.row || from.column == to.column {
@@ -50,7 +50,7 @@ fn by_place<M: Tally>(
     requires spots { IsSpot ground.now.size to × IsSpot ground.now.size from }
     requires near { AreNear to from }
     requires floor { (j : ℕ) → floor ≤ values ground.now.limit labels.now.cells j + step_of ground.now j to.at }
-    requires own { (own ≡ friction_at ground.now.friction to.at) × (0 < own) × (own < 2 ^ 31) }
+    requires own { (own ≡ friction_at ground.now.friction to.at) × (0 < own) × (own < 2 ^ 50) }
     requires best { best ≤ suc ground.now.limit }
     ensures value { result ≡ min best (values ground.now.limit labels.now.cells from.at + step_of ground.now from.at to.at) }
     ensures picks { RisesBy 0 2 (M.counts tally.old) (M.counts tally.new) }
@@ -88,7 +88,7 @@ fn by_row<M: Tally>(
     requires row { row < ground.now.size.rows }
     requires close { gap to.row row ≤ 1 }
     requires floor { (j : ℕ) → floor ≤ values ground.now.limit labels.now.cells j + step_of ground.now j to.at }
-    requires own { (own ≡ friction_at ground.now.friction to.at) × (0 < own) × (own < 2 ^ 31) }
+    requires own { (own ≡ friction_at ground.now.friction to.at) × (0 < own) × (own < 2 ^ 50) }
     requires best { best ≤ suc ground.now.limit }
     ensures lowered { IsLowered (net_of ground.now) (values ground.now.limit labels.now.cells) to.at best result }
     ensures near { RowLowered (net_of ground.now) ground.now.size (values ground.now.limit labels.now.cells) to.at row result }
@@ -125,7 +125,7 @@ pub fn equation<M: Tally>(
     requires size { labels.now.size ≡ ground.now.size }
     requires count { length labels.now.cells ≡ cells_in ground.now.size }
     requires spot { IsSpot ground.now.size to }
-    requires own { (own ≡ friction_at ground.now.friction to.at) × (own < 2 ^ 31) }
+    requires own { (own ≡ friction_at ground.now.friction to.at) × (own < 2 ^ 50) }
     requires floor { floor ≤ equation (net_of ground.now) (values ground.now.limit labels.now.cells) to.at }
     ensures value { result ≡ equation (net_of ground.now) (values ground.now.limit labels.now.cells) to.at }
     ensures most { result ≤ suc ground.now.limit }

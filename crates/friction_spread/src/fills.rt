@@ -18,7 +18,7 @@ use least_costs::Queue;
 /// The cost of a place near falls to the cost through this one, and the place comes into the queue, where that is below it.
 fn offer(
     ground: &FlatGround<'_>,
-    costs: &mut [u32],
+    costs: &mut [u64],
     queue: &mut Queue,
     from: Spot,
     value: u64,
@@ -29,15 +29,15 @@ fn offer(
     requires near { AreNear to from }
     requires count { length costs.old ≡ cells_in ground.now.size }
     requires value { value ≡ costs_of ground.now costs.old from.at }
-    requires low { value < 2 ^ 32 }
-    requires own { (own ≡ friction_at ground.now.friction from.at) × (0 < own) × (own < 2147483648) }
+    requires low { value ≤ 2 ^ 50 }
+    requires own { (own ≡ friction_at ground.now.friction from.at) × (0 < own) × (own < 2 ^ 50) }
     ensures offered { OnOk result (IsOffering (net_of ground.now) value from.at (costs_of ground.now costs.old) queue.old (costs_of ground.now costs.new) queue.new) }
     ensures relaxed { OnOk result (IsRelaxed (net_of ground.now) (costs_of ground.now costs.new) from.at to.at) }
 {
     if from.at == to.at {
         return Ok(());
     }
-    let there = costs[to.at as usize] as u64;
+    let there = costs[to.at as usize];
     if there <= value + least_step(own) {
         return Ok(());
     }
@@ -49,15 +49,16 @@ fn offer(
     if cost >= there {
         return Ok(());
     }
+    let _extent = ground.extent();
     queue.push(cost, to.at)?;
-    costs[to.at as usize] = cost as u32;
+    costs[to.at as usize] = cost;
     Ok(())
 }
 
 /// The same for a row next to the place.
 fn offer_row(
     ground: &FlatGround<'_>,
-    costs: &mut [u32],
+    costs: &mut [u64],
     queue: &mut Queue,
     from: Spot,
     value: u64,
@@ -69,8 +70,8 @@ fn offer_row(
     requires close { gap row from.row ≤ 1 }
     requires count { length costs.old ≡ cells_in ground.now.size }
     requires value { value ≡ costs_of ground.now costs.old from.at }
-    requires low { value < 2 ^ 32 }
-    requires own { (own ≡ friction_at ground.now.friction from.at) × (0 < own) × (own < 2147483648) }
+    requires low { value ≤ 2 ^ 50 }
+    requires own { (own ≡ friction_at ground.now.friction from.at) × (0 < own) × (own < 2 ^ 50) }
     ensures offered { OnOk result (IsOffering (net_of ground.now) value from.at (costs_of ground.now costs.old) queue.old (costs_of ground.now costs.new) queue.new) }
     ensures relaxed { OnOk result (RowRelaxed (net_of ground.now) ground.now.size (costs_of ground.now costs.new) from.at row) }
 {
@@ -87,7 +88,7 @@ fn offer_row(
 /// The same for all places near.
 fn offer_round(
     ground: &FlatGround<'_>,
-    costs: &mut [u32],
+    costs: &mut [u64],
     queue: &mut Queue,
     from: Spot,
     value: u64,
@@ -95,7 +96,7 @@ fn offer_round(
     requires spot { IsSpot ground.now.size from }
     requires count { length costs.old ≡ cells_in ground.now.size }
     requires value { value ≡ costs_of ground.now costs.old from.at }
-    requires low { value < 2 ^ 32 }
+    requires low { value ≤ 2 ^ 50 }
     ensures offered { OnOk result (IsOffering (net_of ground.now) value from.at (costs_of ground.now costs.old) queue.old (costs_of ground.now costs.new) queue.new) }
     ensures relaxed { OnOk result ((i : ℕ) → IsRelaxed (net_of ground.now) (costs_of ground.now costs.new) from.at i) }
 {
@@ -115,7 +116,7 @@ fn offer_round(
 /// Deals with an entry that was taken out of the queue: where it is the cost of its place, that is offered to the places near.
 fn reach(
     ground: &FlatGround<'_>,
-    costs: &mut [u32],
+    costs: &mut [u64],
     queue: &mut Queue,
     key: u64,
     at: u32,
@@ -130,7 +131,7 @@ fn reach(
     if at >= cells {
         return Ok(());
     }
-    let cost = costs[at as usize] as u64;
+    let cost = costs[at as usize];
     if cost != key {
         return Ok(());
     }
@@ -139,7 +140,7 @@ fn reach(
 }
 
 /// Gives each place its least cost, where the sources have theirs and stand in the queue.
-pub fn fill(ground: &FlatGround<'_>, costs: &mut [u32], queue: &mut Queue) -> Result<(), NoMemory>
+pub fn fill(ground: &FlatGround<'_>, costs: &mut [u64], queue: &mut Queue) -> Result<(), NoMemory>
     requires count { length costs.old ≡ cells_in ground.now.size }
     requires filling { IsFilling (net_of ground.now) (costs_of ground.now costs.old) queue.old }
     requires begun { (i : ℕ) → costs_of ground.now costs.old i ≤ base_of ground.now i }

@@ -1,6 +1,7 @@
 //! The least costs of a map that had none.
 ghost use Rattle.std.specs.Prelude.{◌≡◌, ◌≤◌, ◌*◌, ◌<◌, ℕ, suc, [], length, OnOk, IfOk};
 ghost use Rattle.map_nums.specs.Grids.{cells_in, cell_at};
+ghost use Rattle.map_nums.specs.Numbers.{greatest_value};
 ghost use Rattle.map_defs.specs.Nets.{IsLeastIn};
 ghost use Rattle.map_defs.specs.Spread.{IsSpread};
 ghost use Rattle.map_defs.specs.Work.{first_work};
@@ -30,7 +31,7 @@ pub struct Repair {
 /// A source that is no barrier costs nothing, and comes into the queue.
 fn begin_at(
     ground: &FlatGround<'_>,
-    costs: &mut [u32],
+    costs: &mut [u64],
     queue: &mut Queue,
     at: u32,
     source: Cell,
@@ -51,13 +52,14 @@ fn begin_at(
     if friction == 0 {
         return Ok(());
     }
+    let _extent = ground.extent();
     queue.push(0, at)?;
     costs[at as usize] = 0;
     Ok(())
 }
 
 /// The sources cost nothing, and come into the queue.
-fn begin(ground: &FlatGround<'_>, costs: &mut [u32], queue: &mut Queue) -> Result<(), NoMemory>
+fn begin(ground: &FlatGround<'_>, costs: &mut [u64], queue: &mut Queue) -> Result<(), NoMemory>
     requires count { length costs.old ≡ cells_in ground.now.size }
     requires none { (i : ℕ) → costs_of ground.now costs.old i ≡ suc ground.now.limit }
     ensures filling { OnOk result (IsFilling (net_of ground.now) (costs_of ground.now costs.new) queue.new) }
@@ -71,11 +73,11 @@ fn begin(ground: &FlatGround<'_>, costs: &mut [u32], queue: &mut Queue) -> Resul
 }
 
 /// The least costs of all places, `top` where there is none.
-pub fn costs_in(alloc: Global, ground: &FlatGround<'_>) -> Result<Vec<u32>, NoMemory>
+pub fn costs_in(alloc: Global, ground: &FlatGround<'_>) -> Result<Vec<u64>, NoMemory>
     ensures count { IfOk result (λ costs. length costs.items ≡ cells_in ground.now.size) }
     ensures least { IfOk result (λ costs. (i : ℕ) → IsLeastIn (net_of ground.now) i (costs_of ground.now costs.items i)) }
 {
-    let top = ground.top() as u32;
+    let top = ground.top();
     let mut costs = vec![in alloc; top; ground.extent().cells() as usize]?;
     let mut queue = Queue::new(alloc);
     begin(ground, &mut costs, &mut queue)?;
@@ -84,7 +86,7 @@ pub fn costs_in(alloc: Global, ground: &FlatGround<'_>) -> Result<Vec<u32>, NoMe
 }
 
 /// The units of work of least costs where there were none.
-pub fn work_of(ground: &FlatGround<'_>, costs: &[u32]) -> u64
+pub fn work_of(ground: &FlatGround<'_>, costs: &[u64]) -> u64
     requires count { length costs.now ≡ cells_in ground.now.size }
     requires least { (i : ℕ) → IsLeastIn (net_of ground.now) i (costs_of ground.now costs.now i) }
     ensures { result ≡ first_work ground.now.size (shown_cells ground.now.size ground.now.limit costs.now) }
@@ -93,7 +95,7 @@ pub fn work_of(ground: &FlatGround<'_>, costs: &[u32]) -> u64
 }
 
 /// The tiles of least costs where there were none, and the work that they are.
-fn first_repair(alloc: Global, ground: &FlatGround<'_>, costs: &[u32]) -> Result<Repair, NoMemory>
+fn first_repair(alloc: Global, ground: &FlatGround<'_>, costs: &[u64]) -> Result<Repair, NoMemory>
     requires count { length costs.now ≡ cells_in ground.now.size }
     requires least { (i : ℕ) → IsLeastIn (net_of ground.now) i (costs_of ground.now costs.now i) }
     ensures size { IfOk result (λ r. r.patch.size ≡ ground.now.size) }
@@ -111,11 +113,11 @@ pub fn first_costs<M: Tally>(
     alloc: Global,
     sources: &Change<'_>,
     friction: &Change<'_>,
-    limit: u32,
+    limit: u64,
     tally: &mut M,
 ) -> Result<Repair, NoMemory>
     requires size { friction.now.size ≡ sources.now.size }
-    requires limit { limit ≤ 2000000000 }
+    requires limit { limit ≤ greatest_value }
     ensures size { IfOk result (λ r. r.patch.size ≡ sources.now.size) }
     ensures spread { IfOk result (λ r. IsSpread sources.now.size sources.now.cells friction.now.cells limit (patched sources.now.size [] r.patch.tiles)) }
     ensures all { IfOk result (λ r. HoldsAll r.patch) }

@@ -1,6 +1,7 @@
 //! What a spread goes over, in lists: each place's cells one after the other.
 ghost use Rattle.std.specs.Prelude.{◌≡◌, ◌<◌, ◌≤◌, ◌^◌, suc, length};
 ghost use Rattle.map_nums.specs.Grids.{cells_in};
+ghost use Rattle.map_nums.specs.Numbers.{greatest_value};
 ghost use Rattle.map_defs.specs.Spread.{friction_at};
 ghost use Rattle.friction_spread.specs.Costs.{GroundState, IsGround};
 ghost use Rattle.friction_spread.specs.Spots.{IsSpot};
@@ -16,19 +17,20 @@ pub struct FlatGround<'a> {
     sources: &'a [Cell],
     friction: &'a [Cell],
     extent: Extent,
-    limit: u32,
+    limit: u64,
 }
 
 impl<'a> Model for FlatGround<'a> {
     ghost use Rattle.std.specs.Prelude.{◌≡◌, ◌≤◌, length};
     ghost use Rattle.map_nums.specs.Grids.{cells_in};
+    ghost use Rattle.map_nums.specs.Numbers.{greatest_value};
     ghost use Rattle.friction_spread.specs.Costs.{GroundState};
 
     ghost Value = { GroundState };
 
     ghost view = { λ g. record { size = g.extent; sources = g.sources.now; friction = g.friction.now; limit = g.limit } };
 
-    ghost invariant = { λ g. (length g.sources.now ≡ cells_in g.extent) × (length g.friction.now ≡ cells_in g.extent) × (g.limit ≤ 2000000000) };
+    ghost invariant = { λ g. (length g.sources.now ≡ cells_in g.extent) × (length g.friction.now ≡ cells_in g.extent) × (g.limit ≤ greatest_value) };
 }
 
 impl<'a> FlatGround<'a> {
@@ -36,11 +38,11 @@ impl<'a> FlatGround<'a> {
         extent: Extent,
         sources: &'a [Cell],
         friction: &'a [Cell],
-        limit: u32,
+        limit: u64,
     ) -> FlatGround<'a>
         requires sources { length sources.now ≡ cells_in extent }
         requires friction { length friction.now ≡ cells_in extent }
-        requires limit { limit ≤ 2000000000 }
+        requires limit { limit ≤ greatest_value }
         ensures { result ≡ ground_of extent sources.now friction.now limit }
     {
         FlatGround {
@@ -60,9 +62,9 @@ impl<'a> FlatGround<'a> {
     }
 
     /// The greatest cost that counts.
-    pub fn limit(&self) -> u32
+    pub fn limit(&self) -> u64
         ensures limit { result ≡ self.now.limit }
-        ensures low { result ≤ 2000000000 }
+        ensures low { result ≤ greatest_value }
     {
         self.limit
     }
@@ -70,9 +72,9 @@ impl<'a> FlatGround<'a> {
     /// The least number that stands for no cost.
     pub fn top(&self) -> u64
         ensures top { result ≡ suc self.now.limit }
-        ensures low { result ≤ 2 ^ 31 }
+        ensures low { result ≤ 2 ^ 50 }
     {
-        self.limit as u64 + 1
+        self.limit + 1
     }
 
     /// A place with its row and column.
@@ -108,7 +110,7 @@ impl<'a> FlatGround<'a> {
     pub fn friction(&self, at: u32) -> u64
         requires { at < cells_in self.now.size }
         ensures value { result ≡ friction_at self.now.friction at }
-        ensures low { result < 2 ^ 31 }
+        ensures low { result < 2 ^ 50 }
     {
         friction_of(self.friction[at as usize])
     }

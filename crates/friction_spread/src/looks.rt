@@ -36,6 +36,7 @@ pub fn look<M: Tally>(
     if value == other {
         return Ok(());
     }
+    let _extent = ground.extent();
     queue.push(value.min(other), at.at)?;
     Ok(())
 }

@@ -30,8 +30,8 @@ fn offer<M: Tally>(
     requires spots { IsSpot ground.now.size from × IsSpot ground.now.size to }
     requires near { AreNear to from }
     requires value { value ≡ values ground.now.limit labels.now.cells from.at }
-    requires low { value ≤ 2 ^ 31 }
-    requires own { (own ≡ friction_at ground.now.friction from.at) × (0 < own) × (own < 2147483648) }
+    requires low { value ≤ 2 ^ 50 }
+    requires own { (own ≡ friction_at ground.now.friction from.at) × (0 < own) × (own < 2 ^ 50) }
     ensures kept { OnOk result (IsKept queue.old queue.new) }
     ensures offered { OnOk result (IsOfferedBy (net_of ground.now) (values ground.now.limit labels.now.cells) queue.new from.at to.at) }
     ensures len { OnOk result (length queue.new ≤ length queue.old + 1) }
@@ -52,6 +52,7 @@ fn offer<M: Tally>(
     if cost >= there {
         return Ok(());
     }
+    let _extent = ground.extent();
     queue.push(cost, to.at)?;
     Ok(())
 }
@@ -72,8 +73,8 @@ fn offer_row<M: Tally>(
     requires row { row < ground.now.size.rows }
     requires close { gap row from.row ≤ 1 }
     requires value { value ≡ values ground.now.limit labels.now.cells from.at }
-    requires low { value ≤ 2 ^ 31 }
-    requires own { (own ≡ friction_at ground.now.friction from.at) × (0 < own) × (own < 2147483648) }
+    requires low { value ≤ 2 ^ 50 }
+    requires own { (own ≡ friction_at ground.now.friction from.at) × (0 < own) × (own < 2 ^ 50) }
     ensures kept { OnOk result (IsKept queue.old queue.new) }
     ensures offered { OnOk result (RowOffered (net_of ground.now) ground.now.size (values ground.now.limit labels.now.cells) queue.new from.at row) }
     ensures len { OnOk result (length queue.new ≤ length queue.old + 3) }
@@ -110,8 +111,8 @@ pub fn offer_round<M: Tally>(
     requires size { labels.now.size ≡ ground.now.size }
     requires spot { IsSpot ground.now.size from }
     requires value { value ≡ values ground.now.limit labels.now.cells from.at }
-    requires low { value ≤ 2 ^ 31 }
-    requires own { (own ≡ friction_at ground.now.friction from.at) × (own < 2147483648) }
+    requires low { value ≤ 2 ^ 50 }
+    requires own { (own ≡ friction_at ground.now.friction from.at) × (own < 2 ^ 50) }
     ensures kept { OnOk result (IsKept queue.old queue.new) }
     ensures offered { OnOk result (RoundOffered (net_of ground.now) ground.now.size (values ground.now.limit labels.now.cells) queue.new from.at) }
     ensures len { OnOk result (length queue.new ≤ length queue.old + 9) }

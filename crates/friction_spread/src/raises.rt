@@ -32,8 +32,8 @@ fn raise<M: Tally>(
     requires size { labels.now.size ≡ ground.now.size }
     requires spots { IsSpot ground.now.size from × IsSpot ground.now.size to }
     requires near { AreNear to from }
-    requires low { value ≤ 2 ^ 31 }
-    requires own { (own ≡ friction_at ground.now.friction from.at) × (0 < own) × (own < 2147483648) }
+    requires low { value ≤ 2 ^ 50 }
+    requires own { (own ≡ friction_at ground.now.friction from.at) × (0 < own) × (own < 2 ^ 50) }
     ensures kept { OnOk result (IsKept queue.old queue.new) }
     ensures risen { OnOk result (IsRisen (net_of ground.now) value (values ground.now.limit labels.now.cells) queue.new from.at to.at) }
     ensures len { OnOk result (length queue.new ≤ length queue.old + 1) }
@@ -55,6 +55,7 @@ fn raise<M: Tally>(
         return Ok(());
     }
     if there == cost {
+        let _extent = ground.extent();
         queue.push(there, to.at)?;
         return Ok(());
     }
@@ -76,8 +77,8 @@ fn raise_row<M: Tally>(
     requires spot { IsSpot ground.now.size from }
     requires row { row < ground.now.size.rows }
     requires close { gap row from.row ≤ 1 }
-    requires low { value ≤ 2 ^ 31 }
-    requires own { (own ≡ friction_at ground.now.friction from.at) × (0 < own) × (own < 2147483648) }
+    requires low { value ≤ 2 ^ 50 }
+    requires own { (own ≡ friction_at ground.now.friction from.at) × (0 < own) × (own < 2 ^ 50) }
     ensures kept { OnOk result (IsKept queue.old queue.new) }
     ensures risen { OnOk result (RowRisen (net_of ground.now) ground.now.size value (values ground.now.limit labels.now.cells) queue.new from.at row) }
     ensures len { OnOk result (length queue.new ≤ length queue.old + 3) }
@@ -113,8 +114,8 @@ pub fn raise_round<M: Tally>(
 ) -> Result<(), NoMemory>
     requires size { labels.now.size ≡ ground.now.size }
     requires spot { IsSpot ground.now.size from }
-    requires low { value ≤ 2 ^ 31 }
-    requires own { (own ≡ friction_at ground.now.friction from.at) × (own < 2147483648) }
+    requires low { value ≤ 2 ^ 50 }
+    requires own { (own ≡ friction_at ground.now.friction from.at) × (own < 2 ^ 50) }
     ensures kept { OnOk result (IsKept queue.old queue.new) }
     ensures risen { OnOk result (RoundRisen (net_of ground.now) ground.now.size value (values ground.now.limit labels.now.cells) queue.new from.at) }
     ensures len { OnOk result (length queue.new ≤ length queue.old + 9) }

@@ -4,6 +4,7 @@ ghost use Rattle.std.specs.List.{All};
 ghost use Rattle.std.specs.Option.{option_copied};
 ghost use Rattle.map_nums.specs.Grids.{Cells, cells_in, places};
 ghost use Rattle.map_nums.specs.Tiles.{tiles};
+ghost use Rattle.map_nums.specs.Numbers.{greatest_value};
 ghost use Rattle.map_defs.specs.Damage.{differs, tile_has, op_damage};
 ghost use Rattle.map_defs.specs.Ops.{Term, spread_op};
 ghost use Rattle.map_defs.specs.Spread.{IsSpread};
@@ -96,11 +97,11 @@ fn repair_layer<M: Tally>(
     base: &Layer,
     sources: &Change<'_>,
     friction: &Change<'_>,
-    limit: u32,
+    limit: u64,
     tally: &mut M,
 ) -> Result<Repair, NoMemory>
     requires size { friction.now.size ≡ sources.now.size }
-    requires limit { limit ≤ 2000000000 }
+    requires limit { limit ≤ greatest_value }
     requires right { IsRightBefore sources.now friction.now limit base.now }
     ensures size { IfOk result (λ r. r.patch.size ≡ sources.now.size) }
     ensures spread { IfOk result (λ r. IsSpread sources.now.size sources.now.cells friction.now.cells limit (patched sources.now.size base.now.cells r.patch.tiles)) }
@@ -118,7 +119,7 @@ fn repair_layer<M: Tally>(
 }
 
 /// The least costs of spreading: all of them where there were none, else those that were right before put right. The limit is the
-/// greatest cost that counts, of 0 to 2,000,000,000.
+/// greatest cost that counts, and no more than a cell holds.
 pub fn spread_repair<M: Tally>(
     alloc: Global,
     base: Option<&Layer>,
@@ -128,7 +129,7 @@ pub fn spread_repair<M: Tally>(
     tally: &mut M,
 ) -> Result<Repair, NoMemory>
     requires size { friction.now.size ≡ sources.now.size }
-    requires limit { (pos 0 ≤ℤ limit) × (limit ≤ℤ pos 2000000000) }
+    requires limit { (pos 0 ≤ℤ limit) × (limit ≤ℤ pos greatest_value) }
     requires base { IsBaseFor sources.now friction.now (nat_abs limit) (option_copied base) }
     ensures size { IfOk result (λ r. r.patch.size ≡ sources.now.size) }
     ensures spread { IfOk result (λ r. IsSpread sources.now.size sources.now.cells friction.now.cells (nat_abs limit) (patched sources.now.size (base_of (before_of (option_copied base.entry))) r.patch.tiles)) }

@@ -2,6 +2,7 @@
 ghost use Rattle.std.specs.Prelude.{◌≡◌, ◌<◌, ◌≤◌, ℕ, suc, length, slice_index_or, None, [], IfOk};
 ghost use Rattle.map_nums.specs.Exact.{IsExact};
 ghost use Rattle.map_nums.specs.Grids.{cells_in};
+ghost use Rattle.map_nums.specs.Numbers.{greatest_value};
 ghost use Rattle.map_defs.specs.Rounds.{cost_cell};
 ghost use Rattle.layer_tiles.specs.Answers.{IsTileAnswer};
 ghost use Rattle.layer_tiles.specs.Tiles.{tiles_in};
@@ -19,10 +20,10 @@ use tile_frame::{RowMaker, TileMaker, make_row, make_tile};
 pub fn cost_patch(
     alloc: Global,
     extent: Extent,
-    limit: u32,
-    costs: &[u32],
+    limit: u64,
+    costs: &[u64],
 ) -> Result<Patch, NoMemory>
-    requires limit { limit ≤ 2000000000 }
+    requires limit { limit ≤ greatest_value }
     requires count { length costs.now ≡ cells_in extent }
     ensures size { IfOk result (λ patch. patch.size ≡ extent) }
     ensures patch { IfOk result (λ patch. IsPatchTo extent None (shown_cells extent limit costs.now) patch.tiles) }
@@ -43,11 +44,11 @@ pub fn cost_tile(
     alloc: Global,
     extent: Extent,
     tile: u32,
-    limit: u32,
-    costs: &[u32],
+    limit: u64,
+    costs: &[u64],
 ) -> Result<Tile, KernelRefusal>
     requires within { tile < tiles_in extent }
-    requires limit { limit ≤ 2000000000 }
+    requires limit { limit ≤ greatest_value }
     requires count { length costs.now ≡ cells_in extent }
     ensures { IsTileAnswer extent (shown_cells extent limit costs.now) tile result }
 {
@@ -66,19 +67,20 @@ pub fn cost_tile(
 struct CostTile<'a> {
     extent: Extent,
     tile: u32,
-    limit: u32,
-    costs: &'a [u32],
+    limit: u64,
+    costs: &'a [u64],
 }
 
 impl<'a> TileMaker for CostTile<'a> {
     ghost use Rattle.std.specs.Prelude.{◌≡◌, ◌≤◌, length};
     ghost use Rattle.map_nums.specs.Grids.{IsSize, cells_in};
+    ghost use Rattle.map_nums.specs.Numbers.{greatest_value};
     ghost use Rattle.layer_tiles.specs.PlaceByPlace.{cell_in};
     ghost use Rattle.friction_spread.specs.Shown.{shown_at};
 
     ghost value = { λ m r c. shown_at m.limit m.costs.now (cell_in m.extent m.tile r c) };
 
-    ghost makes = { λ m s t. (s ≡ m.extent) × (t ≡ m.tile) × IsSize s × (length m.costs.now ≡ cells_in s) × (m.limit ≤ 2000000000) };
+    ghost makes = { λ m s t. (s ≡ m.extent) × (t ≡ m.tile) × IsSize s × (length m.costs.now ≡ cells_in s) × (m.limit ≤ greatest_value) };
 
     fn row(&self, extent: Extent, tile: u32, r: u32, made: &mut Tile) -> Result<(), KernelRefusal> {
         let place = extent.place(tile);
@@ -95,18 +97,19 @@ impl<'a> TileMaker for CostTile<'a> {
 /// The costs, place by place, and the place where a row begins.
 #[derive(Drop)]
 struct CostRow<'a> {
-    limit: u32,
-    costs: &'a [u32],
+    limit: u64,
+    costs: &'a [u64],
     start: u32,
 }
 
 impl<'a> RowMaker for CostRow<'a> {
     ghost use Rattle.std.specs.Prelude.{◌≡◌, ◌+◌, ◌<◌, ◌≤◌, length};
+    ghost use Rattle.map_nums.specs.Numbers.{greatest_value};
     ghost use Rattle.friction_spread.specs.Shown.{shown_at};
 
     ghost value = { λ m c. shown_at m.limit m.costs.now (m.start + c) };
 
-    ghost has = { λ m c. (m.start + c < length m.costs.now) × (m.limit ≤ 2000000000) };
+    ghost has = { λ m c. (m.start + c < length m.costs.now) × (m.limit ≤ greatest_value) };
 
     fn value_at(&self, c: u32) -> Result<Option<Value>, Wide> {
         shown(self.limit, self.costs, self.start as usize + c as usize)
@@ -114,8 +117,8 @@ impl<'a> RowMaker for CostRow<'a> {
 }
 
 /// What a place shows.
-fn shown(limit: u32, costs: &[u32], at: usize) -> Result<Option<Value>, Wide>
-    requires limit { limit ≤ 2000000000 }
+fn shown(limit: u64, costs: &[u64], at: usize) -> Result<Option<Value>, Wide>
+    requires limit { limit ≤ greatest_value }
     requires within { at < length costs.now }
     ensures { IsExact (shown_at limit costs.now at) result }
 {
@@ -123,18 +126,18 @@ fn shown(limit: u32, costs: &[u32], at: usize) -> Result<Option<Value>, Wide>
 }
 
 /// The value of a cost, none above the limit.
-fn value_of(limit: u32, cost: u32) -> Option<Value>
-    requires { limit ≤ 2000000000 }
+fn value_of(limit: u64, cost: u64) -> Option<Value>
+    requires { limit ≤ greatest_value }
     ensures { result ≡ cost_cell limit cost }
 {
     if cost > limit {
         return None;
     }
-    Some(cost as i32)
+    Some(cost as Value)
 }
 
 /// How many costs are within the limit.
-pub fn count_costs(limit: u32, costs: &[u32]) -> u64
+pub fn count_costs(limit: u64, costs: &[u64]) -> u64
     requires most { (k : ℕ) → slice_index_or costs.now k 0 ≤ suc limit }
     requires count { length costs.now < 4294967296 }
     ensures counted { result ≡ changed (values limit []) (λ i. slice_index_or costs.now i (suc limit)) (length costs.now) }

@@ -22,6 +22,4 @@ mod CellLists
 mod Splits
 mod HeaderLines
 mod Blanks
-mod RowsOfTiles
 mod RowTexts
-mod Looks

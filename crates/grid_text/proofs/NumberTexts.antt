@@ -1,16 +1,17 @@
 -- Numbers that are printed are read as themselves.
 use Rattle.std.proofs.Common.{◌≡◌, ◌≢◌, ℕ, suc, ◌+◌, ◌-◌, ◌*◌, ◌^◌, ◌<◌, ◌≤◌, ◌==◌, Bool, true, false, cond, ◌||◌, nat_le, ℤ, pos, negsuc, neg_ℤ, List, [], ◌∷◌, length, drop, Option, Some, None, decimal, refl, sym, ap, subst, ◌∙◌, arith}
-use Rattle.std.specs.Prelude.{IsTrue, int_le}
+use Rattle.std.specs.Prelude.{IsTrue}
 use Rattle.std.specs.Char.{is_ascii_digit}
 use Rattle.std.specs.Fmt.{signed_decimal, digits}
 use Rattle.std.specs.List.{fold, list_all, prefix_len}
 use Rattle.std.specs.Option.{option_map, option_and_then}
-use Rattle.std.proofs.lemmas.Bool.{and_parts, and_from, ne_eqb, lt-ltb, le-leb, leb-true, cond-true}
+use Rattle.std.proofs.lemmas.Bool.{and_parts, and_from, ne_eqb, lt-ltb, le-leb, cond-true}
 use Rattle.std.proofs.lemmas.Fmt.{decimal_nonempty, digits_decimal, digits_value-decimal}
 use Rattle.std.proofs.lemmas.List.{take_all}
 use Rattle.std.proofs.lemmas.Str.Parse.{IsDigitsTest, FoldsDigits, IsNumeralModel, numerals_by_fold}
 use Rattle.std.proofs.Math.Numerals.{one-add}
-use Rattle.map_nums.specs.Numbers.{is_value, vmin, vmax}
+use Rattle.map_nums.specs.Numbers.{is_value}
+use Rattle.map_nums.proofs.Ranges.{value_small}
 use Rattle.layer_tiles.specs.Cells.{IsCell}
 use Rattle.grid_text.specs.Grammar.{IsCellText}
 use Rattle.grid_text.specs.Numbers.{digits_number, natural_in, whole_in, is_short, number_in, count_in, not_negative}
@@ -96,19 +97,13 @@ pub null_word : IsWord (signed_decimal null_number)
 unfolding digits
 null_word = record { some = omega arith; solid = refl }
 
-pub value_pos : (n : ℕ) → IsTrue (is_value (pos n)) → n ≤ 2000000000
-value_pos n h = leb-true n 2000000000 (and_parts (int_le vmin (pos n)) (int_le (pos n) vmax) h).1
-
-pub value_negsuc : (n : ℕ) → IsTrue (is_value (negsuc n)) → n ≤ 1999999999
-value_negsuc n h = leb-true n 1999999999 (and_parts (int_le vmin (negsuc n)) (int_le (negsuc n) vmax) h).0
-
 minus_word : (text : List ℕ) → IsWord text → IsWord (45 ∷ text)
 minus_word text h = record { some = omega arith; solid = h.solid }
 
 pub cell_word : (c : Option ℤ) → IsCell c → IsWord (cell_text c)
 cell_word None h = null_word
-cell_word (Some (pos n)) h = decimal_word n (omega (arith, value_pos n h))
-cell_word (Some (negsuc n)) h = minus_word (decimal (suc n)) (decimal_word (suc n) (omega (arith, value_negsuc n h)))
+cell_word (Some (pos n)) h = decimal_word n (omega (arith, value_small (pos n) h))
+cell_word (Some (negsuc n)) h = minus_word (decimal (suc n)) (decimal_word (suc n) (omega (arith, value_small (negsuc n) h)))
 
 not_null : (z : ℤ) → IsTrue (is_value z) → z ≢ null_number
 not_null z h e = let v : IsTrue (is_value null_number) = subst (λ (k : ℤ). IsTrue (is_value k)) e h in absurd cc
@@ -116,5 +111,5 @@ not_null z h e = let v : IsTrue (is_value null_number) = subst (λ (k : ℤ). Is
 -- a cell's text says the cell
 pub cell_says : (c : Option ℤ) → IsCell c → IsCellText null_number (cell_text c) c
 cell_says None h = null_read
-cell_says (Some (pos n)) h = (whole_decimal n (omega (arith, value_pos n h)), not_null (pos n) h, h)
-cell_says (Some (negsuc n)) h = (whole_minus n (omega (arith, value_negsuc n h)), not_null (negsuc n) h, h)
+cell_says (Some (pos n)) h = (whole_decimal n (omega (arith, value_small (pos n) h)), not_null (pos n) h, h)
+cell_says (Some (negsuc n)) h = (whole_minus n (omega (arith, value_small (negsuc n) h)), not_null (negsuc n) h, h)

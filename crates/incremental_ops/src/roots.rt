@@ -10,8 +10,8 @@ const SHORT: u64 = 1_073_741_824;
 
 /// The root of the sum of two squares, rounded down.
 pub(crate) fn root_of_squares(a: u64, b: u64) -> u64
-    requires a { a ≤ 17179869184 }
-    requires b { b ≤ 17179869184 }
+    requires a { a ≤ 8000000000000000 }
+    requires b { b ≤ 8000000000000000 }
     ensures { IsFloorRoot (a * a + b * b) result }
 {
     if a <= SHORT && b <= SHORT {

@@ -1,5 +1,6 @@
 //! What the shapes make of a number and the cells round it.
-ghost use Rattle.std.specs.Prelude.{◌≡◌, ◌+◌, ◌*◌, ◌≤◌, ℤ, pos, ◌≤ℤ◌, neg_ℤ, nat_abs, Some, not, unwrap_or, if◌then◌else◌};
+ghost use Rattle.std.specs.Prelude.{◌≡◌, ◌+◌, ◌*◌, ◌≤◌, ℤ, pos, ◌≤ℤ◌, neg_ℤ, nat_abs, Some, not, unwrap_or, if◌then◌else◌, IsTrue};
+ghost use Rattle.map_nums.specs.Numbers.{is_value};
 ghost use Rattle.map_nums.specs.Exact.{IsExact};
 ghost use Rattle.map_defs.specs.Cells.{has_number};
 ghost use Rattle.map_defs.specs.Roots.{floor_root};
@@ -33,9 +34,10 @@ pub(crate) fn value_of(shape: Shape, own: Cell, ring: &Ring) -> Result<Option<Va
     }
 }
 
-/// The shape's value at a number.
+/// The shape's value at the number of a cell.
 #[tactic(auto, unfolding(crate::specs::Shapes::shape_of))]
 fn shape_number(shape: Shape, number: Value, ring: &Ring) -> u64
+    requires { IsTrue (is_value number) }
     ensures { result ≡ shape_of shape ring.now number }
 {
     match shape {
@@ -58,7 +60,7 @@ fn kept(number: u64) -> Result<Option<Value>, Wide>
     if number > VMAX as u64 {
         return Err(Wide);
     }
-    Ok(Some(number as i32))
+    Ok(Some(number as Value))
 }
 
 /// The weight of a cell that has the number.
@@ -133,9 +135,10 @@ fn frontage(number: Value, ring: &Ring) -> u64
 
 /// The cell's number, or the given one where it has none.
 fn number_or(cell: Cell, number: Value) -> i64
+    requires { IsTrue (is_value number) }
     ensures number { result ≡ unwrap_or cell number }
-    ensures low { neg_ℤ (pos 2147483648) ≤ℤ result }
-    ensures high { result ≤ℤ pos 2147483648 }
+    ensures low { neg_ℤ (pos 1000000000000000) ≤ℤ result }
+    ensures high { result ≤ℤ pos 1000000000000000 }
 {
     match cell.get() {
         Some(value) => value as i64,
@@ -145,36 +148,39 @@ fn number_or(cell: Cell, number: Value) -> i64
 
 /// The first, twice the second and the third.
 fn leaning(number: Value, first: Cell, second: Cell, third: Cell) -> i64
+    requires { IsTrue (is_value number) }
     ensures sum { result ≡ leaning_of number first second third }
-    ensures low { neg_ℤ (pos 8589934592) ≤ℤ result }
-    ensures high { result ≤ℤ pos 8589934592 }
+    ensures low { neg_ℤ (pos 4000000000000000) ≤ℤ result }
+    ensures high { result ≤ℤ pos 4000000000000000 }
 {
     number_or(first, number) + 2 * number_or(second, number) + number_or(third, number)
 }
 
 fn slope_p(number: Value, ring: &Ring) -> i64
+    requires { IsTrue (is_value number) }
     ensures slope { result ≡ slope_p_of ring.now number }
-    ensures low { neg_ℤ (pos 17179869184) ≤ℤ result }
-    ensures high { result ≤ℤ pos 17179869184 }
+    ensures low { neg_ℤ (pos 8000000000000000) ≤ℤ result }
+    ensures high { result ≤ℤ pos 8000000000000000 }
 {
     leaning(number, ring.ne, ring.e, ring.se) - leaning(number, ring.nw, ring.w, ring.sw)
 }
 
 fn slope_q(number: Value, ring: &Ring) -> i64
+    requires { IsTrue (is_value number) }
     ensures slope { result ≡ slope_q_of ring.now number }
-    ensures low { neg_ℤ (pos 17179869184) ≤ℤ result }
-    ensures high { result ≤ℤ pos 17179869184 }
+    ensures low { neg_ℤ (pos 8000000000000000) ≤ℤ result }
+    ensures high { result ≤ℤ pos 8000000000000000 }
 {
     leaning(number, ring.nw, ring.n, ring.ne) - leaning(number, ring.sw, ring.s, ring.se)
 }
 
 /// A slope seen from above.
 fn falling(slope: i64) -> i64
-    requires low { neg_ℤ (pos 17179869184) ≤ℤ slope }
-    requires high { slope ≤ℤ pos 17179869184 }
+    requires low { neg_ℤ (pos 8000000000000000) ≤ℤ slope }
+    requires high { slope ≤ℤ pos 8000000000000000 }
     ensures value { result ≡ neg_ℤ slope }
-    ensures least { neg_ℤ (pos 17179869184) ≤ℤ result }
-    ensures most { result ≤ℤ pos 17179869184 }
+    ensures least { neg_ℤ (pos 8000000000000000) ≤ℤ result }
+    ensures most { result ≤ℤ pos 8000000000000000 }
 {
     -slope
 }
@@ -182,10 +188,10 @@ fn falling(slope: i64) -> i64
 /// The root of the slopes' squares, rounded down.
 #[tactic(auto, using(map_defs::proofs::Roots::floor_root_only))]
 fn gradient(p: i64, q: i64) -> u64
-    requires p_low { neg_ℤ (pos 17179869184) ≤ℤ p }
-    requires p_high { p ≤ℤ pos 17179869184 }
-    requires q_low { neg_ℤ (pos 17179869184) ≤ℤ q }
-    requires q_high { q ≤ℤ pos 17179869184 }
+    requires p_low { neg_ℤ (pos 8000000000000000) ≤ℤ p }
+    requires p_high { p ≤ℤ pos 8000000000000000 }
+    requires q_low { neg_ℤ (pos 8000000000000000) ≤ℤ q }
+    requires q_high { q ≤ℤ pos 8000000000000000 }
     ensures { result ≡ floor_root (nat_abs p * nat_abs p + nat_abs q * nat_abs q) }
 {
     root_of_squares(p.unsigned_abs(), q.unsigned_abs())
@@ -194,10 +200,10 @@ fn gradient(p: i64, q: i64) -> u64
 /// The octant of an east and a north part.
 #[tactic(auto, unfolding(map_defs::specs::Slopes::octant))]
 fn octant_of(east: i64, north: i64) -> u64
-    requires east_low { neg_ℤ (pos 17179869184) ≤ℤ east }
-    requires east_high { east ≤ℤ pos 17179869184 }
-    requires north_low { neg_ℤ (pos 17179869184) ≤ℤ north }
-    requires north_high { north ≤ℤ pos 17179869184 }
+    requires east_low { neg_ℤ (pos 8000000000000000) ≤ℤ east }
+    requires east_high { east ≤ℤ pos 8000000000000000 }
+    requires north_low { neg_ℤ (pos 8000000000000000) ≤ℤ north }
+    requires north_high { north ≤ℤ pos 8000000000000000 }
     ensures { result ≡ octant east north }
 {
     let across = east.unsigned_abs();

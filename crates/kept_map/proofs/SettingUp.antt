@@ -26,7 +26,7 @@ use Rattle.map_waves.specs.Bases.{source_by}
 use Rattle.map_waves.specs.Operands.{IsOperand}
 use Rattle.map_waves.specs.declared.plans.Shift.{Shift}
 use Rattle.map_waves.specs.declared.plans.Shift.TheVariants.{Nothing, Loaded}
-use Rattle.map_waves.proofs.Damages.{changed_none}
+use Rattle.map_defs.proofs.Unchanged.{changed_none}
 use Rattle.map_waves.proofs.Making.{all_get}
 use Rattle.edit_plans.specs.PlansFor.{IsChangeOf}
 use Rattle.edit_plans.proofs.Positions.{some_position, position_at, any_at_place}

@@ -1,6 +1,7 @@
 //! What an edit makes of all statements, with all memory that it wants, before anything is put in place.
 
 ghost use Rattle.std.specs.Prelude.{◌≡◌, ℕ, ◌<◌, ◌≤◌, false, List, IfOk, IfErr};
+ghost use Rattle.layer_tiles.specs.Tallies.{IsUndivided};
 ghost use Rattle.map_edits.specs.WholeStates.{WholeState};
 ghost use Rattle.map_edits.specs.WholeEdits.{WholeEdit};
 ghost use Rattle.kept_map.specs.Maps.{names_with};
@@ -48,7 +49,7 @@ fn repaired<M: Tally + Send, G: Gate + Sync, R: Threads + Sync>(
     requires kept { IsKept map.now }
     requires planned { (e : WholeEdit) × (t : WholeState) × (sources : List (List ℕ)) × IsPlannedFor map.now e t shift sources planned.now.names.keys planned.now.steps.items }
     requires workers { (0 < workers) × (workers ≤ 64) }
-    requires whole { 1 < workers → ((M.counts tally.old).is_part ≡ false) × ((M.counts tally.old).parts_out ≡ 0) }
+    requires whole { 1 < workers → IsUndivided (M.counts tally.old) }
     ensures prepared { (e : WholeEdit) (t : WholeState) (sources : List (List ℕ)) → IsPlannedFor map.now e t shift.entry sources planned.now.names.keys planned.now.steps.items
         → IfOk result (IsPreparedFor map.now e t shift.entry sources planned.now.names.keys planned.now.steps.items) }
     ensures halted { (e : WholeEdit) (t : WholeState) (sources : List (List ℕ)) → IsPlannedFor map.now e t shift.entry sources planned.now.names.keys planned.now.steps.items → IfErr result (IsHaltOf e t) }
@@ -83,7 +84,7 @@ pub fn prepare_kept<M: Tally + Send, G: Gate + Sync, R: Threads + Sync>(
     requires kept { IsKept map.now }
     requires set_up { (e : WholeEdit) × (t : WholeState) × IsSetUp map.now e t shift map.now.sources.names.keys × IsSamePlan map.now e t }
     requires workers { (0 < workers) × (workers ≤ 64) }
-    requires whole { 1 < workers → ((M.counts tally.old).is_part ≡ false) × ((M.counts tally.old).parts_out ≡ 0) }
+    requires whole { 1 < workers → IsUndivided (M.counts tally.old) }
     ensures prepared { (e : WholeEdit) (t : WholeState) → IsSetUp map.now e t shift.entry map.now.sources.names.keys → IsSamePlan map.now e t
         → IfOk result (IsPreparedFor map.now e t shift.entry map.now.sources.names.keys map.now.planned.names.keys map.now.planned.steps.items) }
     ensures halted { (e : WholeEdit) (t : WholeState) → IsSetUp map.now e t shift.entry map.now.sources.names.keys → IsSamePlan map.now e t → IfErr result (IsHaltOf e t) }
@@ -114,7 +115,7 @@ pub fn prepare<M: Tally + Send, G: Gate + Sync, R: Threads + Sync>(
     requires kept { IsKept map.now }
     requires set_up { (e : WholeEdit) × (t : WholeState) × IsSetUp map.now e t shift (names_with map.now.sources added) × IsReplanned map.now e t (names_with map.now.sources added) graph.now edited.now written.now }
     requires workers { (0 < workers) × (workers ≤ 64) }
-    requires whole { 1 < workers → ((M.counts tally.old).is_part ≡ false) × ((M.counts tally.old).parts_out ≡ 0) }
+    requires whole { 1 < workers → IsUndivided (M.counts tally.old) }
     ensures prepared { (e : WholeEdit) (t : WholeState) → IsSetUp map.now e t shift.entry (names_with map.now.sources added.entry) → IsReplanned map.now e t (names_with map.now.sources added.entry) graph.now edited.now written.now
         → IfOk result (λ p. IsPreparedFor map.now e t shift.entry (names_with map.now.sources added.entry) p.0.names.keys p.0.steps.items p.1) }
     ensures halted { (e : WholeEdit) (t : WholeState) → IsSetUp map.now e t shift.entry (names_with map.now.sources added.entry) → IsReplanned map.now e t (names_with map.now.sources added.entry) graph.now edited.now written.now → IfErr result (IsHaltOf e t) }

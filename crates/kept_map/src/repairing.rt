@@ -1,7 +1,7 @@
 //! All statements are repaired, and what is wrong with one is told by its name.
 
 ghost use Rattle.std.specs.Prelude.{◌≡◌, ◌^◌, ◌<◌, ◌≤◌, ◌*◌, ℕ, false, length, IfOk, Some, slice_get};
-ghost use Rattle.layer_tiles.specs.Tallies.{RisesBy};
+ghost use Rattle.layer_tiles.specs.Tallies.{RisesBy, IsUndivided};
 ghost use Rattle.statement_parser.specs.Views.{op_view};
 ghost use Rattle.map_waves.specs.Plans.{changed_to, evaluated_to, worked_to};
 ghost use Rattle.map_waves.specs.Bases.{IsBase, ArePlanned, AreRight, plan_of};
@@ -50,7 +50,7 @@ pub fn repair<M: Tally + Send, G: Gate + Sync, R: Threads + Sync>(
     requires named { length planned.now.names.keys ≡ length planned.now.steps.items }
     requires few { length planned.now.steps.items < 2 ^ 31 }
     requires workers { (0 < workers) × (workers ≤ 64) }
-    requires whole { 1 < workers → ((M.counts tally.old).is_part ≡ false) × ((M.counts tally.old).parts_out ≡ 0) }
+    requires whole { 1 < workers → IsUndivided (M.counts tally.old) }
     ensures count { IfOk result (λ r. length r.made.items ≡ length planned.now.steps.items) }
     ensures made { IfOk result (λ r. ArePrepared op_view suits base.now planned.now.steps.items 0 r.made.items) }
     ensures changed { IfOk result (λ r. r.counts.changed ≡ changed_to (plan_of op_view base.now planned.now.steps.items) (length planned.now.steps.items)) }

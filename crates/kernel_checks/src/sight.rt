@@ -2,6 +2,7 @@
 ghost use Rattle.std.specs.Prelude.{◌≡◌, ◌<◌, IfOk};
 ghost use Rattle.std.specs.List.{All};
 ghost use Rattle.map_nums.specs.Grids.{cells_in};
+ghost use Rattle.sight_lines.specs.Heights.{AreHeights};
 
 use crate::makers::{NULL, cell, first_row, layer_of};
 use layer_tiles::{Change, Extent, Layer, Patch, Tile, Value};
@@ -120,7 +121,9 @@ fn viewers_after_a_repaint(rt: HostRuntime) -> Result<(), Fail> {
 }
 
 /// Whether a cell of a row of five sees another, raised by these heights; none for any other layer and past its end.
-fn sees_in_row(heights: &Layer, viewer: u32, target: u32, from: Value, to: Value) -> Option<bool> {
+fn sees_in_row(heights: &Layer, viewer: u32, target: u32, from: Value, to: Value) -> Option<bool>
+    requires { AreHeights from to }
+{
     let extent = heights.extent();
     if extent.columns() != 5 || extent.cells() != 5 || viewer >= 5 || target >= 5 {
         return None;

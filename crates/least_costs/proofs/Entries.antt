@@ -13,25 +13,25 @@ use Rattle.least_costs.specs.Entries.{entry_of, number_cmp}
 not_below : (a b : ℕ) → is_lt (nat_cmp b a) ≡ false → a ≤ b
 not_below a b h = grind (arith, nat_tests)
 
-key_below : (a b : ℕ) → a ≤ b → a / 4294967296 ≤ b / 4294967296
+key_below : (a b : ℕ) → a ≤ b → a / 2097152 ≤ b / 2097152
 key_below a b h = omega (arith, h)
 
-no_lower : (x : Reverse ℕ) (xs : List (Reverse ℕ)) → IsUpperBound number_cmp x xs → AllByRecursion (λ (y : ℕ × ℕ). x.0 / 4294967296 ≤ y.0) (map entry_of xs)
+no_lower : (x : Reverse ℕ) (xs : List (Reverse ℕ)) → IsUpperBound number_cmp x xs → AllByRecursion (λ (y : ℕ × ℕ). x.0 / 2097152 ≤ y.0) (map entry_of xs)
 no_lower x [] h = h
 no_lower x (y ∷ ys) h = (key_below x.0 y.0 (not_below x.0 y.0 h.0), no_lower x ys h.1)
 
-pub least_entry : (x : Reverse ℕ) (xs : List (Reverse ℕ)) → IsUpperBound number_cmp x xs → All (λ (y : ℕ × ℕ). x.0 / 4294967296 ≤ y.0) (map entry_of xs)
-least_entry x xs h = All-from_recursion (λ (y : ℕ × ℕ). x.0 / 4294967296 ≤ y.0) (map entry_of xs) (no_lower x xs h)
+pub least_entry : (x : Reverse ℕ) (xs : List (Reverse ℕ)) → IsUpperBound number_cmp x xs → All (λ (y : ℕ × ℕ). x.0 / 2097152 ≤ y.0) (map entry_of xs)
+least_entry x xs h = All-from_recursion (λ (y : ℕ × ℕ). x.0 / 2097152 ≤ y.0) (map entry_of xs) (no_lower x xs h)
 
 -- a number that is made of a key and a place gives them again
-entry_is : (key at : ℕ) → at < 4294967296 → ◌≡◌ {A = ℕ × ℕ} ((key * 4294967296 + at) / 4294967296, (key * 4294967296 + at) % 4294967296) (key, at)
-entry_is key at h = let k : (key * 4294967296 + at) / 4294967296 ≡ key = omega (arith, h) in
-    let p : (key * 4294967296 + at) % 4294967296 ≡ at = omega (arith, h) in
-    let P : ℕ → Type 0 = λ a. ◌≡◌ {A = ℕ × ℕ} (a, (key * 4294967296 + at) % 4294967296) (key, at) in
+entry_is : (key at : ℕ) → at < 2097152 → ◌≡◌ {A = ℕ × ℕ} ((key * 2097152 + at) / 2097152, (key * 2097152 + at) % 2097152) (key, at)
+entry_is key at h = let k : (key * 2097152 + at) / 2097152 ≡ key = omega (arith, h) in
+    let p : (key * 2097152 + at) % 2097152 ≡ at = omega (arith, h) in
+    let P : ℕ → Type 0 = λ a. ◌≡◌ {A = ℕ × ℕ} (a, (key * 2097152 + at) % 2097152) (key, at) in
     let Q : ℕ → Type 0 = λ b. ◌≡◌ {A = ℕ × ℕ} (key, b) (key, at) in
     subst P (sym k) (subst Q (sym p) refl)
 
-pub pushed : (r : Reverse ℕ) (key at : ℕ) (old new : List (Reverse ℕ)) → r.0 ≡ key * 4294967296 + at → at < 4294967296 → IsPermutation (r ∷ old) new → IsPermutation ((key, at) ∷ map entry_of old) (map entry_of new)
-pushed r key at old new e h p = let N : ℕ → Type 0 = λ n. ◌≡◌ {A = ℕ × ℕ} (n / 4294967296, n % 4294967296) (key, at) in
+pub pushed : (r : Reverse ℕ) (key at : ℕ) (old new : List (Reverse ℕ)) → r.0 ≡ key * 2097152 + at → at < 2097152 → IsPermutation (r ∷ old) new → IsPermutation ((key, at) ∷ map entry_of old) (map entry_of new)
+pushed r key at old new e h p = let N : ℕ → Type 0 = λ n. ◌≡◌ {A = ℕ × ℕ} (n / 2097152, n % 2097152) (key, at) in
     let Q : ℕ × ℕ → Type 0 = λ x. IsPermutation (x ∷ map entry_of old) (map entry_of new) in
     subst Q (subst N (sym e) (entry_is key at h)) (IsPermutation-map entry_of _ _ p)

@@ -10,7 +10,7 @@ use Rattle.map_defs.specs.Nets.{Net, HasCosts, IsClosed, IsWithin, IsLeastIn, eq
 use Rattle.map_defs.proofs.Nets.{IsSettled, least_costs}
 use Rattle.least_costs.specs.Ranks.{ranks, changed}
 use Rattle.least_costs.specs.Queue.{IsQueued, IsKept, IsDue, next_value, IsOffered, IsSetTo, IsRaised, IsRise, IsStep, is_first}
-use Rattle.least_costs.specs.Best.{Ranked, IsRepairing, same}
+use Rattle.least_costs.specs.Best.{Ranked, IsRepairing}
 use Rattle.least_costs.proofs.Equations.{same_or, equation_kept, equation_fallen, equation_rises, equation_holds, outside, next_above, next_below, next_most}
 use Rattle.least_costs.proofs.Takes.{Taken, take_above, take_below, ranks_rise, ranks_most, ranks_changed, changed_moves, rank_left}
 use Rattle.least_costs.proofs.Moves.{moved_least, moved_most}

@@ -10,22 +10,24 @@ use std::cmp::Reverse;
 use std::collections::BinaryHeap;
 use std::marker::Model;
 
-/// Keys with places. An entry is one number, the key above the lower 32 bits, so that the heap compares one word.
+/// Keys with places. An entry is one number, the key above the lower 21 bits, which have room for each place of a map, so that the heap
+/// compares numbers.
 #[derive(Drop)]
 pub struct Queue {
-    heap: BinaryHeap<Reverse<u64>, Global>,
+    heap: BinaryHeap<Reverse<u128>, Global>,
 }
 
 impl Model for Queue {
     ghost use Rattle.std.specs.Prelude.{ℕ, List, map};
+    ghost use Rattle.std.specs.List.{All};
     ghost use Rattle.std.specs.BinaryHeap.{IsHeap, heap_items};
-    ghost use Rattle.least_costs.specs.Entries.{entry_of, number_cmp};
+    ghost use Rattle.least_costs.specs.Entries.{entry_of, HasKey, number_cmp};
 
     ghost Value = { List (ℕ × ℕ) };
 
     ghost view = { λ q. map entry_of (heap_items q.heap) };
 
-    ghost invariant = { λ q. IsHeap number_cmp (heap_items q.heap) };
+    ghost invariant = { λ q. IsHeap number_cmp (heap_items q.heap) × All HasKey (heap_items q.heap) };
 }
 
 impl Queue {
@@ -38,11 +40,11 @@ impl Queue {
     }
 
     pub fn push(&mut self, key: u64, at: u32) -> Result<(), NoMemory>
-        requires { key < 2 ^ 32 }
+        requires { at < 2 ^ 21 }
         ensures { OnOk result (IsPermutation ((key, at) ∷ self.old) self.new) }
     {
         self.heap
-            .push(Reverse(key * 4_294_967_296 + u64::from(at)))?;
+            .push(Reverse(u128::from(key) * 2_097_152 + u128::from(at)))?;
         Ok(())
     }
 
@@ -55,6 +57,6 @@ impl Queue {
         let Some(Reverse(number)) = self.heap.pop() else {
             return None;
         };
-        Some((number / 4_294_967_296, (number % 4_294_967_296) as u32))
+        Some(((number / 2_097_152) as u64, (number % 2_097_152) as u32))
     }
 }

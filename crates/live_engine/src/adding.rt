@@ -4,7 +4,7 @@ ghost use Rattle.std.specs.Prelude.{◌≡◌, ◌<◌, ◌≤◌, ◌++◌, ◌
 ghost use Rattle.map_nums.specs.Counts.{raised};
 ghost use Rattle.map_words.specs.Names.{is_plain};
 ghost use Rattle.layer_tiles.specs.Layers.{IsLayer, layer_of};
-ghost use Rattle.layer_tiles.specs.Tallies.{RisesBy};
+ghost use Rattle.layer_tiles.specs.Tallies.{RisesBy, IsUndivided};
 ghost use Rattle.map_edits.specs.Entries.{find_def};
 ghost use Rattle.map_edits.specs.EditForms as edits;
 ghost use Rattle.map_edits.specs.EntriesAfter.{same_size as is_same_size};
@@ -55,7 +55,7 @@ pub(crate) fn load<M: Tally + Send, G: Gate + Sync, R: Threads + Sync>(
     requires plain { IsTrue (is_plain name) }
     requires some { 1 ≤ workers }
     requires most { workers ≤ 64 }
-    requires whole { 1 < workers → ((M.counts tally.old).is_part ≡ false) × ((M.counts tally.old).parts_out ≡ 0) }
+    requires whole { 1 < workers → IsUndivided (M.counts tally.old) }
     ensures accepts { Accepts (seen map.old) (seen map.new) (of_names (edits.load name (grid_of layer))) result }
     ensures kept { IsKept map.new }
     ensures reads { ReadsWithin (seen map.old) (of_names (edits.load name (grid_of layer))) (M.counts tally.old) (M.counts tally.new) }
@@ -87,7 +87,7 @@ pub(crate) fn new_layer<M: Tally + Send, G: Gate + Sync, R: Threads + Sync>(
     requires plain { IsTrue (is_plain name) }
     requires some { 1 ≤ workers }
     requires most { workers ≤ 64 }
-    requires whole { 1 < workers → ((M.counts tally.old).is_part ≡ false) × ((M.counts tally.old).parts_out ≡ 0) }
+    requires whole { 1 < workers → IsUndivided (M.counts tally.old) }
     ensures accepts { Accepts (seen map.old) (seen map.new) (of_names (edits.new_layer name cell)) result }
     ensures kept { IsKept map.new }
     ensures reads { ReadsWithin (seen map.old) (of_names (edits.new_layer name cell)) (M.counts tally.old) (M.counts tally.new) }
@@ -118,7 +118,7 @@ fn add_source<M: Tally + Send, G: Gate + Sync, R: Threads + Sync>(
     requires layer { layer ≡ layer_of map.old.extent layer.cells (raised map.old.number 1) }
     requires some { 1 ≤ workers }
     requires most { workers ≤ 64 }
-    requires whole { 1 < workers → ((M.counts tally.old).is_part ≡ false) × ((M.counts tally.old).parts_out ≡ 0) }
+    requires whole { 1 < workers → IsUndivided (M.counts tally.old) }
     ensures accepts { (edit : edits.Edit) → IsAdding (seen map.old) edit name (grid_of layer) → Accepts (seen map.old) (seen map.new) (of_names edit) result }
     ensures kept { IsKept map.new }
     ensures reads { (edit : edits.Edit) → IsAdding (seen map.old) edit name (grid_of layer) → ReadsWithin (seen map.old) (of_names edit) (M.counts tally.old) (M.counts tally.new) }

@@ -1,6 +1,7 @@
 //! Statements that are written or rewritten.
 
 ghost use Rattle.std.specs.Prelude.{◌≡◌, ◌<◌, ◌≤◌, false, IsTrue, None, Ok};
+ghost use Rattle.layer_tiles.specs.Tallies.{IsUndivided};
 ghost use Rattle.indexmap.specs.IndexMap.{spare};
 ghost use Rattle.map_words.specs.Names.{is_plain};
 ghost use Rattle.statement_parser.specs.Formed.{IsWritten};
@@ -48,7 +49,7 @@ pub(crate) fn define<M: Tally + Send, G: Gate + Sync, R: Threads + Sync>(
     requires formed { IsWritten (written_view written) }
     requires some { 1 ≤ workers }
     requires most { workers ≤ 64 }
-    requires whole { 1 < workers → ((M.counts tally.old).is_part ≡ false) × ((M.counts tally.old).parts_out ≡ 0) }
+    requires whole { 1 < workers → IsUndivided (M.counts tally.old) }
     ensures accepts { Accepts (seen map.old) (seen map.new) (defines name written) result }
     ensures kept { IsKept map.new }
     ensures reads { ReadsWithin (seen map.old) (defines name written) (M.counts tally.old) (M.counts tally.new) }
@@ -133,7 +134,7 @@ fn put<M: Tally + Send, G: Gate + Sync, R: Threads + Sync>(
     requires formed { IsWritten (written_view written) }
     requires some { 1 ≤ workers }
     requires most { workers ≤ 64 }
-    requires whole { 1 < workers → ((M.counts tally.old).is_part ≡ false) × ((M.counts tally.old).parts_out ≡ 0) }
+    requires whole { 1 < workers → IsUndivided (M.counts tally.old) }
     ensures accepts { Accepts (seen map.old) (seen map.new) (defines name written) result }
     ensures kept { IsKept map.new }
     ensures reads { ReadsWithin (seen map.old) (defines name written) (M.counts tally.old) (M.counts tally.new) }

@@ -2,6 +2,7 @@
 
 ghost use Rattle.std.specs.Prelude.{◌≡◌, ◌<◌, ◌≤◌, false, true, IsTrue, Ok, None, length, is_some, bytes_eq};
 ghost use Rattle.std.specs.List.{IsDistinct};
+ghost use Rattle.layer_tiles.specs.Tallies.{IsUndivided};
 ghost use Rattle.map_words.specs.Names.{is_plain};
 ghost use Rattle.map_waves.specs.declared.plans.Shift.TheVariants.{Nothing};
 ghost use Rattle.statement_graph.specs.Groups.{drop_group};
@@ -42,7 +43,7 @@ pub(crate) fn drop_name<M: Tally + Send, G: Gate + Sync, R: Threads + Sync>(
     requires plain { IsTrue (is_plain name) }
     requires some { 1 ≤ workers }
     requires most { workers ≤ 64 }
-    requires whole { 1 < workers → ((M.counts tally.old).is_part ≡ false) × ((M.counts tally.old).parts_out ≡ 0) }
+    requires whole { 1 < workers → IsUndivided (M.counts tally.old) }
     ensures accepts { Accepts (seen map.old) (seen map.new) (drops name) result }
     ensures kept { IsKept map.new }
     ensures reads { ReadsWithin (seen map.old) (drops name) (M.counts tally.old) (M.counts tally.new) }

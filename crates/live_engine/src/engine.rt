@@ -1,7 +1,7 @@
 //! The engine.
 
 ghost use Rattle.std.specs.Prelude.{◌≡◌, ◌<◌, ◌≤◌, false, None, IfOk, option_copied, option_map, slice_get};
-ghost use Rattle.layer_tiles.specs.Tallies.{RisesBy};
+ghost use Rattle.layer_tiles.specs.Tallies.{RisesBy, IsUndivided};
 ghost use Rattle.statement_parser.specs.Formed.{IsEdit};
 ghost use Rattle.statement_parser.specs.Views.{edit_view};
 ghost use Rattle.statement_parser.specs.Procedures.{procedure_view};
@@ -72,7 +72,7 @@ fn apply_line<M: Tally + Send, G: Gate + Sync, R: Threads + Sync>(
     requires formed { IsEdit (edit_view line) }
     requires some { 1 ≤ workers }
     requires most { workers ≤ 64 }
-    requires whole { 1 < workers → ((M.counts tally.old).is_part ≡ false) × ((M.counts tally.old).parts_out ≡ 0) }
+    requires whole { 1 < workers → IsUndivided (M.counts tally.old) }
     ensures accepts { Accepts (seen map.old) (seen map.new) (line_edit (edit_view line)) result }
     ensures kept { IsKept map.new }
     ensures reads { ReadsWithin (seen map.old) (line_edit (edit_view line)) (M.counts tally.old) (M.counts tally.new) }
@@ -127,7 +127,7 @@ fn apply<M: Tally + Send, G: Gate + Sync, R: Threads + Sync>(
     requires formed { IsFormedEdit cmd }
     requires some { 1 ≤ workers }
     requires most { workers ≤ 64 }
-    requires whole { 1 < workers → ((M.counts tally.old).is_part ≡ false) × ((M.counts tally.old).parts_out ≡ 0) }
+    requires whole { 1 < workers → IsUndivided (M.counts tally.old) }
     ensures accepts { Accepts (seen map.old) (seen map.new) (edit_of cmd) result }
     ensures kept { IsKept map.new }
     ensures reads { ReadsWithin (seen map.old) (edit_of cmd) (M.counts tally.old) (M.counts tally.new) }
@@ -161,7 +161,7 @@ impl Engine {
         requires formed { IsFormedEdit cmd }
         requires some { 1 ≤ workers }
         requires most { workers ≤ 64 }
-        requires whole { 1 < workers → ((M.counts tally.old).is_part ≡ false) × ((M.counts tally.old).parts_out ≡ 0) }
+        requires whole { 1 < workers → IsUndivided (M.counts tally.old) }
         ensures accepts { Accepts self.old self.new (edit_of cmd) result }
         ensures reads { ReadsWithin self.old (edit_of cmd) (M.counts tally.old) (M.counts tally.new) }
     {

@@ -1,6 +1,7 @@
 //! Labels and symbols are put.
 
 ghost use Rattle.std.specs.Prelude.{◌≡◌, ◌<◌, ◌≤◌, false};
+ghost use Rattle.layer_tiles.specs.Tallies.{IsUndivided};
 ghost use Rattle.map_edits.specs.WholeEdits.{label as labels, symbol as symbols};
 ghost use Rattle.kept_map.specs.Maps.{seen};
 ghost use Rattle.kept_map.specs.Keeps.{IsKept};
@@ -35,7 +36,7 @@ pub(crate) fn label<M: Tally + Send, G: Gate + Sync, R: Threads + Sync>(
     requires kept { IsKept map.old }
     requires some { 1 ≤ workers }
     requires most { workers ≤ 64 }
-    requires whole { 1 < workers → ((M.counts tally.old).is_part ≡ false) × ((M.counts tally.old).parts_out ≡ 0) }
+    requires whole { 1 < workers → IsUndivided (M.counts tally.old) }
     ensures accepts { Accepts (seen map.old) (seen map.new) (labels name value text) result }
     ensures kept { IsKept map.new }
     ensures reads { ReadsWithin (seen map.old) (labels name value text) (M.counts tally.old) (M.counts tally.new) }
@@ -72,7 +73,7 @@ pub(crate) fn symbol<M: Tally + Send, G: Gate + Sync, R: Threads + Sync>(
     requires kept { IsKept map.old }
     requires some { 1 ≤ workers }
     requires most { workers ≤ 64 }
-    requires whole { 1 < workers → ((M.counts tally.old).is_part ≡ false) × ((M.counts tally.old).parts_out ≡ 0) }
+    requires whole { 1 < workers → IsUndivided (M.counts tally.old) }
     ensures accepts { Accepts (seen map.old) (seen map.new) (symbols name value sign) result }
     ensures kept { IsKept map.new }
     ensures reads { ReadsWithin (seen map.old) (symbols name value sign) (M.counts tally.old) (M.counts tally.new) }

@@ -1,6 +1,7 @@
 //! What an edit notes beside the names of a map, which leaves every layer as it is.
 
 ghost use Rattle.std.specs.Prelude.{◌≡◌, ◌<◌, ◌≤◌, false};
+ghost use Rattle.layer_tiles.specs.Tallies.{IsUndivided};
 ghost use Rattle.kept_map.specs.Maps.{seen};
 ghost use Rattle.kept_map.specs.Keeps.{IsKept};
 ghost use Rattle.live_engine.specs.Accepts.{Accepts, ReadsWithin};
@@ -57,7 +58,7 @@ pub(crate) fn take_note<M: Tally + Send, G: Gate + Sync, R: Threads + Sync>(
     requires may { MayNote (seen map.old) note }
     requires some { 1 ≤ workers }
     requires most { workers ≤ 64 }
-    requires whole { 1 < workers → ((M.counts tally.old).is_part ≡ false) × ((M.counts tally.old).parts_out ≡ 0) }
+    requires whole { 1 < workers → IsUndivided (M.counts tally.old) }
     ensures accepts { Accepts (seen map.old) (seen map.new) (edit_of_note note) result }
     ensures kept { IsKept map.new }
     ensures reads { ReadsWithin (seen map.old) (edit_of_note note) (M.counts tally.old) (M.counts tally.new) }

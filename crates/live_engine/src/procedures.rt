@@ -1,6 +1,7 @@
 //! Procedures are defined.
 
 ghost use Rattle.std.specs.Prelude.{◌≡◌, ◌+◌, ◌<◌, ◌≤◌, false, length, None, OnOk, IfErr};
+ghost use Rattle.layer_tiles.specs.Tallies.{IsUndivided};
 ghost use Rattle.map_defs.specs.Calls.{wrong_call};
 ghost use Rattle.map_defs.specs.Expansion.{find_procedure};
 ghost use Rattle.statement_parser.specs.Formed.{IsProcedure};
@@ -58,7 +59,7 @@ pub(crate) fn define_procedure<M: Tally + Send, G: Gate + Sync, R: Threads + Syn
     requires formed { IsProcedure (procedure_view procedure) }
     requires some { 1 ≤ workers }
     requires most { workers ≤ 64 }
-    requires whole { 1 < workers → ((M.counts tally.old).is_part ≡ false) × ((M.counts tally.old).parts_out ≡ 0) }
+    requires whole { 1 < workers → IsUndivided (M.counts tally.old) }
     ensures accepts { Accepts (seen map.old) (seen map.new) (defines (procedure_view procedure)) result }
     ensures kept { IsKept map.new }
     ensures reads { ReadsWithin (seen map.old) (defines (procedure_view procedure)) (M.counts tally.old) (M.counts tally.new) }

@@ -1,6 +1,7 @@
 //! Sources are painted.
 
 ghost use Rattle.std.specs.Prelude.{◌≡◌, ◌<◌, ◌≤◌, false, Some, position, bytes_eq, IfOk, IfErr, ℤ, Option};
+ghost use Rattle.layer_tiles.specs.Tallies.{IsUndivided};
 ghost use Rattle.statement_parser.specs.Formed.{IsEdit};
 ghost use Rattle.statement_parser.specs.Lines.{paint as paints};
 ghost use Rattle.map_edits.specs.EditForms.{Rectangle as AnyRectangle, paint as any_paint};
@@ -80,7 +81,7 @@ pub(crate) fn paint<M: Tally + Send, G: Gate + Sync, R: Threads + Sync>(
     requires formed { IsEdit (paints name rectangle.top rectangle.left rectangle.bottom rectangle.right cell) }
     requires some { 1 ≤ workers }
     requires most { workers ≤ 64 }
-    requires whole { 1 < workers → ((M.counts tally.old).is_part ≡ false) × ((M.counts tally.old).parts_out ≡ 0) }
+    requires whole { 1 < workers → IsUndivided (M.counts tally.old) }
     ensures accepts { Accepts (seen map.old) (seen map.new) (of_names (any_paint name (rectangle_of rectangle) cell)) result }
     ensures kept { IsKept map.new }
     ensures reads { ReadsWithin (seen map.old) (of_names (any_paint name (rectangle_of rectangle) cell)) (M.counts tally.old) (M.counts tally.new) }

@@ -1,6 +1,7 @@
-//! What an operation makes of two cells. The numbers are summed and compared in 64 bits, and nothing is copied.
-ghost use Rattle.std.specs.Prelude.{◌≡◌, [], ◌∷◌, Some, pos};
+//! What an operation makes of two cells. Nothing is copied, and the simple operations stay within 64 bits.
+ghost use Rattle.std.specs.Prelude.{◌≡◌, [], ◌∷◌, Some, pos, IsTrue, ◌-ℤ◌};
 ghost use Rattle.std.specs.Int.{int_div_euclid};
+ghost use Rattle.map_nums.specs.Numbers.{is_value};
 ghost use Rattle.map_nums.specs.Exact.{IsExact};
 ghost use Rattle.map_nums.specs.Stats.{statistic_of, total_of, product_of, maximum_of, minimum_of, variety_of};
 ghost use Rattle.map_defs.specs.Local.{local_cell, of_numbers};
@@ -9,11 +10,12 @@ ghost use Rattle.local_ops.specs.Operations.{op_of, Takes};
 use crate::ops::LocalOp;
 use crate::values::{difference, kept, ratio};
 use layer_tiles::{Cell, Value};
-use map_nums::{Stat, Wide};
+use map_nums::{Stat, Wide, exact};
 
 /// An operation on two values as a type: so the loop over a row has none to choose.
 pub(crate) trait Pairing {
-    ghost use Rattle.std.specs.Prelude.{[], ◌∷◌};
+    ghost use Rattle.std.specs.Prelude.{[], ◌∷◌, IsTrue};
+    ghost use Rattle.map_nums.specs.Numbers.{is_value};
     ghost use Rattle.map_nums.specs.Exact.{IsExact};
     ghost use Rattle.map_defs.specs.Local.{LocalOp, of_numbers};
 
@@ -23,9 +25,11 @@ pub(crate) trait Pairing {
     /// It takes two operands.
     ghost takes: { Self → Type 0 };
 
-    /// Its value of two values.
+    /// Its value of two values of cells.
     fn of(&self, left: Value, right: Value) -> Result<Option<Value>, Wide>
-        requires { takes self.now }
+        requires taken { takes self.now }
+        requires left { IsTrue (is_value left) }
+        requires right { IsTrue (is_value right) }
         ensures { IsExact (of_numbers (op self.now) (left ∷ right ∷ [])) result };
 }
 
@@ -62,7 +66,7 @@ impl Pairing for Sums {
     ghost takes = { λ _. Unit {0} };
 
     fn of(&self, left: Value, right: Value) -> Result<Option<Value>, Wide> {
-        kept(total(left, right))
+        kept(sum(left, right))
     }
 }
 
@@ -75,7 +79,7 @@ impl Pairing for Products {
     ghost takes = { λ _. Unit {0} };
 
     fn of(&self, left: Value, right: Value) -> Result<Option<Value>, Wide> {
-        kept(product(left, right))
+        exact(product(left, right))
     }
 }
 
@@ -113,7 +117,7 @@ impl Pairing for Differences {
     ghost takes = { λ _. Unit {0} };
 
     fn of(&self, left: Value, right: Value) -> Result<Option<Value>, Wide> {
-        difference(left, right)
+        kept(rest(left, right))
     }
 }
 
@@ -165,10 +169,10 @@ fn statistic_of_pair(stat: Stat, left: Value, right: Value) -> Result<Option<Val
     ensures { IsExact (statistic_of stat (left ∷ right ∷ [])) result }
 {
     match stat {
-        Stat::Sum => kept(total(left, right)),
-        Stat::Product => kept(product(left, right)),
+        Stat::Sum => exact(total(left, right)),
+        Stat::Product => exact(product(left, right)),
         Stat::Maximum => kept(greater(left, right) as i64),
-        Stat::Mean => kept(mean(left, right)),
+        Stat::Mean => exact(mean(left, right)),
         // of two values, the least is in the lower middle, and it leads where both occur as often
         Stat::Minimum | Stat::Median | Stat::Majority | Stat::Minority => {
             kept(lesser(left, right) as i64)
@@ -177,22 +181,40 @@ fn statistic_of_pair(stat: Stat, left: Value, right: Value) -> Result<Option<Val
     }
 }
 
-/// The sum of two values.
-fn total(left: Value, right: Value) -> i64
+/// The sum of two values of cells.
+fn sum(left: Value, right: Value) -> i64
+    requires left { IsTrue (is_value left) }
+    requires right { IsTrue (is_value right) }
     ensures { result ≡ total_of (left ∷ right ∷ []) }
 {
     left as i64 + right as i64
 }
 
+/// The first of two values of cells minus the second.
+fn rest(left: Value, right: Value) -> i64
+    requires left { IsTrue (is_value left) }
+    requires right { IsTrue (is_value right) }
+    ensures { result ≡ left -ℤ right }
+{
+    left as i64 - right as i64
+}
+
+/// The sum of two values.
+fn total(left: Value, right: Value) -> i128
+    ensures { result ≡ total_of (left ∷ right ∷ []) }
+{
+    left as i128 + right as i128
+}
+
 /// The product of two values.
-fn product(left: Value, right: Value) -> i64
+fn product(left: Value, right: Value) -> i128
     ensures { result ≡ product_of (left ∷ right ∷ []) }
 {
-    left as i64 * right as i64
+    left as i128 * right as i128
 }
 
 /// The mean of two values, rounded down.
-fn mean(left: Value, right: Value) -> i64
+fn mean(left: Value, right: Value) -> i128
     ensures { result ≡ int_div_euclid (total_of (left ∷ right ∷ [])) (pos 2) }
 {
     total(left, right).div_euclid(2)

@@ -5,7 +5,7 @@ ghost use Rattle.map_defs.specs.Local.{of_numbers, ratio_of, rated};
 ghost use Rattle.local_ops.specs.Operations.{op_of, Takes};
 
 use crate::ops::LocalOp;
-use map_nums::{Rate, VMAX, Value, Wide, floor_div, statistic_in};
+use map_nums::{Rate, VMAX, Value, Wide, exact, floor_div, statistic_in};
 
 /// The operation's value, where all operands have one. It may bring the values into another order.
 pub(crate) fn value_of(op: &LocalOp, values: &mut [Value]) -> Result<Option<Value>, Wide>
@@ -24,15 +24,15 @@ pub(crate) fn value_of(op: &LocalOp, values: &mut [Value]) -> Result<Option<Valu
 pub(crate) fn difference(left: Value, right: Value) -> Result<Option<Value>, Wide>
     ensures { IsExact (Some (left -ℤ right)) result }
 {
-    kept(left as i64 - right as i64)
+    exact(left as i128 - right as i128)
 }
 
 /// The floor of `left / right`, null where `right` is 0.
 pub(crate) fn ratio(left: Value, right: Value) -> Result<Option<Value>, Wide>
     ensures { IsExact (ratio_of left right) result }
 {
-    match floor_div(left as i64, right as i64) {
-        Some(quotient) => kept(quotient),
+    match floor_div(left as i128, right as i128) {
+        Some(quotient) => exact(quotient),
         None => Ok(None),
     }
 }
@@ -59,12 +59,12 @@ fn found(value: Option<Value>) -> Result<Option<Value>, Wide>
     }
 }
 
-/// The number, or that no cell may hold it.
+/// A number of 64 bits as a cell's value: a loop over a row takes less time so than by `exact`.
 pub(crate) fn kept(number: i64) -> Result<Option<Value>, Wide>
     ensures { IsExact (Some number) result }
 {
     if number < -VMAX || number > VMAX {
         return Err(Wide);
     }
-    Ok(Some(number as i32))
+    Ok(Some(number as Value))
 }

@@ -1,124 +1,17 @@
--- Where nothing changed nothing is damaged, and there is no work.
-use Rattle.std.proofs.Common.{◌≡◌, ℕ, ℤ, ◌+◌, ◌==◌, Bool, true, false, not, cond, ◌&&◌, ◌||◌, List, [], ◌∷◌, length, filter, Option, Some, None, unwrap_or, refl, ap, ◌∙◌, if◌then◌else◌}
-use Rattle.std.specs.List.{list_any}
-use Rattle.std.proofs.lemmas.Bool.{true≢false}
-use Rattle.map_nums.specs.Grids.{Size, Cells, cell_at, places}
-use Rattle.map_nums.specs.Tiles.{tiles, tile_of}
-use Rattle.map_nums.specs.declared.Stat.{Stat}
-use Rattle.map_defs.specs.Ops.{Name, Op, local_op, difference_op, ratio_op, rating_op, focal_op, zonal_op, form_op, direction_op, flow_op, spread_op, sight_op, region_op}
-use Rattle.map_defs.specs.Operate.{operand}
-use Rattle.map_defs.specs.Tiles.{is_in_square}
-use Rattle.map_defs.specs.Zonal.{zone_statistic}
-use Rattle.map_defs.specs.Differences.{differs, has_changed, tile_has, square_has, zone_differs, changed_tiles}
-use Rattle.map_defs.specs.Damage.{reach_of, is_damaged_at, is_damaged, op_damage}
-use Rattle.map_defs.specs.Work.{is_touched, in_one_region, op_work}
-use Rattle.map_defs.proofs.RegionCells.{same_so}
+-- A statement that stays as it was counts nothing.
+use Rattle.std.proofs.Common.{◌≡◌, Bool, List, [], Option, Some, None, unwrap_or, ap, ◌∙◌, if◌then◌else◌, false}
+use Rattle.map_nums.specs.Grids.{Cells}
+use Rattle.map_defs.specs.Ops.{Name, Op}
+use Rattle.map_defs.specs.Differences.{changed_tiles}
+use Rattle.map_defs.specs.Damage.{op_damage}
+use Rattle.map_defs.specs.Work.{op_work}
+use Rattle.map_defs.proofs.Unchanged.{damage_none, changed_none, work_none}
 use Rattle.map_edits.specs.LayerDefs.{by_op}
 use Rattle.map_edits.specs.EngineStates.{EngineState}
 use Rattle.map_edits.specs.WholeStates.{cells_of}
 use Rattle.map_edits.specs.Touches.{Touch, is_whole}
 use Rattle.map_edits.specs.LayerChanges.{now_of, standing, operands_in}
 use Rattle.map_edits.specs.CountLaws.{CountsNothing}
-
-filter_none : {X : Type 0} (p : X → Bool) → ((x : X) → p x ≡ false) → (xs : List X) → filter p xs ≡ []
-filter_none p none [] = refl
-filter_none {X} p none (x ∷ xs) = go (p x) (none x) (filter_none p none xs)
-  where
-    go : (b : Bool) → b ≡ false → filter p xs ≡ [] → cond b (x ∷ filter p xs) (filter p xs) ≡ []
-    go true e rest = absurd (true≢false e)
-    go false e rest = rest
-
-any_none : {X : Type 0} (p : X → Bool) → ((x : X) → p x ≡ false) → (xs : List X) → list_any p xs ≡ false
-any_none p none [] = refl
-any_none p none (x ∷ xs) = ap (λ b. b || list_any p xs) (none x) ∙ any_none p none xs
-
-and_none : (b : Bool) → (b && false) ≡ false
-and_none true = refl
-and_none false = refl
-
-both_none : (a b : Bool) → a ≡ false → b ≡ false → (a || b) ≡ false
-both_none a b p q = ap (λ x. x || b) p ∙ q
-
-not_differs : (w : Cells) (i : ℕ) → differs w w i ≡ false
-not_differs w i = ap not (same_so (cell_at w i) (cell_at w i) refl)
-
-has_unchanged : (b : List Cells) (i : ℕ) → has_changed b b i ≡ false
-has_unchanged [] i = refl
-has_unchanged (x ∷ xs) i = both_none (differs x x i) (has_changed xs xs i) (not_differs x i) (has_unchanged xs i)
-
-tile_none : (s : Size) (test : ℕ → Bool) → ((i : ℕ) → test i ≡ false) → (t : ℕ) → tile_has s test t ≡ false
-tile_none s test none t = ap (λ is. list_any (λ i. tile_of s i == t) is) (filter_none test none (places s))
-
-square_none : (r : ℕ) (s : Size) (test : ℕ → Bool) → ((i : ℕ) → test i ≡ false) → (t : ℕ) → square_has r s test t ≡ false
-square_none r s test none t = ap (λ is. list_any (is_in_square r s t) is) (filter_none test none (places s))
-
-zone_none : (stat : Stat) (s : Size) (b : List Cells) (c : Option ℤ) → zone_differs stat s b b c ≡ false
-zone_none stat s b None = refl
-zone_none stat s b (Some z) = ap not (same_so (zone_statistic stat s (operand b 0) (operand b 1) z) (zone_statistic stat s (operand b 0) (operand b 1) z) refl)
-
--- ---- damage
-
-module _ (s : Size) (b : List Cells) (w : Cells) where
-  at_none : (op : Op) (i : ℕ) → is_damaged_at op s b b w w i ≡ false
-  at_none (local_op stat ts) i = refl
-  at_none (difference_op u v) i = refl
-  at_none (ratio_op u v) i = refl
-  at_none (rating_op u rates) i = refl
-  at_none (focal_op stat r u) i = refl
-  at_none (zonal_op stat u v) i = zone_none stat s b (cell_at (operand b 1) i)
-  at_none (form_op f u) i = refl
-  at_none (direction_op u) i = refl
-  at_none (flow_op u v) i = not_differs w i
-  at_none (spread_op limit u v) i = not_differs w i
-  at_none (sight_op sight u v) i = refl
-  at_none (region_op u) i = not_differs w i
-
-  damaged_none : (op : Op) (t : ℕ) → is_damaged op s b b w w t ≡ false
-  damaged_none op t =
-      both_none (square_has (reach_of op) s (has_changed b b) t) (tile_has s (is_damaged_at op s b b w w) t) (square_none (reach_of op) s (has_changed b b) (has_unchanged b) t)
-      (tile_none s (is_damaged_at op s b b w w) (at_none op) t)
-
-  damage_none : (op : Op) → op_damage op s b b (Some w) w ≡ []
-  unfolding op_damage
-  damage_none op = filter_none (is_damaged op s b b w w) (damaged_none op) (tiles s)
-
-  changed_none : changed_tiles s (Some w) w ≡ []
-  unfolding changed_tiles
-  changed_none = filter_none (tile_has s (differs w w)) (tile_none s (differs w w) (not_differs w)) (tiles s)
-
-  -- ---- work
-
-  no_places : filter (has_changed b b) (places s) ≡ []
-  no_places = filter_none (has_changed b b) (has_unchanged b) (places s)
-
-  no_results : filter (differs w w) (places s) ≡ []
-  no_results = filter_none (differs w w) (not_differs w) (places s)
-
-  no_regions : filter (is_touched s w []) (places s) ≡ []
-  no_regions = filter_none (is_touched s w []) (λ i. any_none (λ j. in_one_region w i j && false) (λ j. and_none (in_one_region w i j)) (places s)) (places s)
-
-  abbrev lengths : List ℕ → List ℕ → ℕ
-  lengths xs ys = length xs + length ys
-
-  placed_none : lengths (filter (has_changed b b) (places s)) (filter (differs w w) (places s)) ≡ 0
-  placed_none = ap (λ xs. lengths xs (filter (differs w w) (places s))) no_places ∙ ap (λ ys. lengths [] ys) no_results
-
-  work_none : (op : Op) → op_work op s b b (Some w) w ≡ 0
-  unfolding op_work
-  work_none (local_op stat ts) = refl
-  work_none (difference_op u v) = refl
-  work_none (ratio_op u v) = refl
-  work_none (rating_op u rates) = refl
-  work_none (focal_op stat r u) = refl
-  work_none (zonal_op stat u v) = refl
-  work_none (form_op f u) = refl
-  work_none (direction_op u) = refl
-  work_none (flow_op u v) = placed_none
-  work_none (spread_op limit u v) = placed_none
-  work_none (sight_op sight u v) = refl
-  work_none (region_op u) = ap (λ xs. lengths xs (filter (is_touched s w xs) (places s))) no_places ∙ ap (λ ys. lengths [] ys) no_regions
-
--- ---- a statement of two states
 
 module _ (touch : Touch) (s t : EngineState) (n : Name) (op : Op) (w : Cells) (unwritten : is_whole t.entries touch n ≡ false) (same : operands_in s op ≡ operands_in t op)
     (was : cells_of s n ≡ Some w) (now : cells_of t n ≡ Some w) where

@@ -14,3 +14,7 @@ in_range_from_magnitude (negsuc n) h = grind (arith, nat_tests)
 pub magnitude_in_range : (z : ℤ) → is_value z ≡ true → unsigned_abs z ≤ most
 magnitude_in_range (pos n) h = grind (arith, nat_tests)
 magnitude_in_range (negsuc n) h = grind (arith, nat_tests)
+
+-- a value's magnitude, by a bound with room for wider cells
+pub value_small : (z : ℤ) → is_value z ≡ true → unsigned_abs z ≤ 1000000000000000
+value_small z h = let m = magnitude_in_range z h in omega arith

@@ -13,7 +13,7 @@ mod runs;
 mod statistics;
 mod sums;
 
-pub use numbers::{cmp_cross, in_range};
+pub use numbers::{cmp_cross, exact, in_range};
 pub use rounding::{floor_div, floor_root};
 pub use statistics::{statistic, statistic_in};
 use std::alloc::{AllocError, AllocFailed};

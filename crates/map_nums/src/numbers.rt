@@ -1,9 +1,10 @@
 //! What a cell may hold, and products compared without a bound.
-ghost use Rattle.std.specs.Prelude.{◌≡◌, ◌*ℤ◌};
+ghost use Rattle.std.specs.Prelude.{◌≡◌, ◌*ℤ◌, Some};
 ghost use Rattle.std.specs.Ordering.{int_cmp};
+ghost use Rattle.map_nums.specs.Exact.{IsExact};
 ghost use Rattle.map_nums.specs.Numbers.{in_value_range};
 
-use crate::{VMAX, Value};
+use crate::{VMAX, Value, Wide};
 use std::cmp::Ordering;
 
 /// The number where a cell may hold it.
@@ -13,7 +14,21 @@ pub fn in_range(n: i128) -> Option<Value>
     if n < -(VMAX as i128) || n > VMAX as i128 {
         None
     } else {
-        Some(n as i32)
+        Some(n as Value)
+    }
+}
+
+/// The number as a cell's value.
+///
+/// # Errors
+///
+/// `Wide` exactly where no cell may hold it.
+pub fn exact(number: i128) -> Result<Option<Value>, Wide>
+    ensures { IsExact (Some number) result }
+{
+    match in_range(number) {
+        Some(value) => Ok(Some(value)),
+        None => Err(Wide),
     }
 }
 

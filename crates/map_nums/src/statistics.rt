@@ -4,7 +4,7 @@ ghost use Rattle.map_nums.specs.Answers.{IsAnswer};
 ghost use Rattle.map_nums.specs.Exact.{IsExact};
 ghost use Rattle.map_nums.specs.Stats.{statistic_of};
 
-use crate::numbers::in_range;
+use crate::numbers::exact;
 use crate::ranks::{maximum, median, minimum};
 use crate::runs::{majority, minority, variety};
 use crate::sums::{mean, product, total};
@@ -51,16 +51,6 @@ pub fn statistic_in(stat: Stat, values: &mut [Value]) -> Result<Option<Value>, W
         Stat::Majority => found(majority(values)),
         Stat::Minority => found(minority(values)),
         Stat::Variety => exact(variety(values) as i128),
-    }
-}
-
-/// The number, or that it is wide.
-fn exact(number: i128) -> Result<Option<Value>, Wide>
-    ensures { IsExact (Some number) result }
-{
-    match in_range(number) {
-        Some(value) => Ok(Some(value)),
-        None => Err(Wide),
     }
 }
 

@@ -1,5 +1,5 @@
 -- How far a run has come, by its sink and its tally.
-use Rattle.std.specs.Prelude.{ℕ, ◌≡◌, false, List, Option}
+use Rattle.std.specs.Prelude.{ℕ, List, Option}
 use Rattle.layer_tiles.specs.Tallies.{TallyState, RisesBy}
 use Rattle.map_edits.specs.Allowances.{Reads}
 
@@ -12,7 +12,3 @@ pub record Progress : Type 0 where
 -- at most so much more was read
 abbrev pub Rises : Reads → TallyState → TallyState → Type 0
 Rises r before after = RisesBy r.looks r.picks before after
-
--- no part of another tally, with no part of its own out
-abbrev pub IsUndivided : TallyState → Type 0
-IsUndivided t = (t.is_part ≡ false) × (t.parts_out ≡ 0)

@@ -7,8 +7,8 @@ ghost use Rattle.map_machine.specs.LineReads.{line_reads};
 ghost use Rattle.map_machine.specs.Lines.{open_piece, without_return, has_line_feed, further_lines, last_line};
 ghost use Rattle.map_outside.specs.Causes.{PutCounts};
 ghost use Rattle.map_outside.specs.Contents.{PutGrows};
-ghost use Rattle.layer_tiles.specs.Tallies.{TallyState, KeepsParts};
-ghost use Rattle.map_run.specs.Progress.{Rises, IsUndivided};
+ghost use Rattle.layer_tiles.specs.Tallies.{TallyState, KeepsParts, IsUndivided};
+ghost use Rattle.map_run.specs.Progress.{Rises};
 ghost use Rattle.map_run.specs.Answered.{Answered};
 ghost use Rattle.map_run.specs.Kept.{IsKept};
 

@@ -8,10 +8,9 @@ ghost use Rattle.map_machine.specs.States.{MapState};
 ghost use Rattle.map_session.specs.Answered.{Opens};
 ghost use Rattle.map_outside.specs.Causes.{FetchCounts};
 ghost use Rattle.map_outside.specs.Contents.{Files, Fetches};
-ghost use Rattle.layer_tiles.specs.Tallies.{TallyState, KeepsParts};
+ghost use Rattle.layer_tiles.specs.Tallies.{TallyState, KeepsParts, IsUndivided};
 ghost use Rattle.map_run.specs.FaultCounts.{RunCounts};
 ghost use Rattle.map_run.specs.Loads.{Loads, LoadsAs, load_on, load_reads_on, opened_stage, file_stage};
-ghost use Rattle.map_run.specs.Progress.{IsUndivided};
 ghost use Rattle.map_run.specs.Stages.{Comes};
 ghost use Rattle.map_run.specs.Stops.{status_of};
 

@@ -6,12 +6,11 @@ ghost use Rattle.map_machine.specs.ModelFiles.{long_model_reply};
 ghost use Rattle.map_machine.specs.States.{MapState};
 ghost use Rattle.map_outside.specs.Causes.{FetchCounts};
 ghost use Rattle.map_outside.specs.Contents.{Files, Fetches};
-ghost use Rattle.layer_tiles.specs.Tallies.{TallyState, KeepsParts};
+ghost use Rattle.layer_tiles.specs.Tallies.{TallyState, KeepsParts, IsUndivided};
 ghost use Rattle.map_run.specs.FaultCounts.{RunCounts};
 ghost use Rattle.map_machine.specs.Loads.{turned_away};
 ghost use Rattle.map_run.specs.Loads.{Loads, LoadsAs, model_lines_stage, model_file_stage};
 ghost use Rattle.map_run.specs.Models.{ModelGoes};
-ghost use Rattle.map_run.specs.Progress.{IsUndivided};
 ghost use Rattle.map_run.specs.Stages.{Comes};
 ghost use Rattle.map_run.specs.Stops.{status_of};
 

@@ -2,11 +2,10 @@
 ghost use Rattle.std.specs.Prelude.{◌≡◌, ◌<◌, ℕ, IsTrue, IfSome, length, option_map};
 ghost use Rattle.std.specs.List.{All};
 ghost use Rattle.map_words.specs.Names.{is_plain};
-ghost use Rattle.layer_tiles.specs.Tallies.{KeepsParts};
+ghost use Rattle.layer_tiles.specs.Tallies.{KeepsParts, IsUndivided};
 ghost use Rattle.map_run.specs.FaultCounts.{RunCounts};
 ghost use Rattle.map_run.specs.Forms.{pairs_read, model_read};
 ghost use Rattle.map_run.specs.Loads.{Loads, further_stage, pairs_stage, files_stage};
-ghost use Rattle.map_run.specs.Progress.{IsUndivided};
 ghost use Rattle.map_run.specs.Stops.{status_of};
 
 use crate::forms::{FileWords, Pair};

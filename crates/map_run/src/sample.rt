@@ -1,7 +1,7 @@
 //! The sample: its grids are made in memory and loaded, and then its lines are answered.
 ghost use Rattle.std.specs.Prelude.{◌≡◌, ◌≤◌, ℕ, map, IfOk, IsTrue};
 ghost use Rattle.map_words.specs.Names.{is_plain};
-ghost use Rattle.layer_tiles.specs.Tallies.{KeepsParts, RisesBy};
+ghost use Rattle.layer_tiles.specs.Tallies.{KeepsParts, RisesBy, IsUndivided};
 ghost use Rattle.map_machine.specs.Loads.{grid_load};
 ghost use Rattle.map_machine.specs.LoadReads.{grid_load_reads};
 ghost use Rattle.map_machine.specs.SampleGrids.{by_place, sample_grids};
@@ -11,7 +11,6 @@ ghost use Rattle.map_sample.specs.Grids.{cell_in, name_of, named_grid};
 ghost use Rattle.map_run.specs.Answered.{Answered};
 ghost use Rattle.map_run.specs.FaultCounts.{RunCounts};
 ghost use Rattle.map_run.specs.Loads.{opened_stage, grids_stage};
-ghost use Rattle.map_run.specs.Progress.{IsUndivided};
 ghost use Rattle.map_run.specs.Sampled.{Sampled};
 ghost use Rattle.map_run.specs.Stages.{Comes};
 ghost use Rattle.map_run.specs.Stops.{status_of};

@@ -1,7 +1,6 @@
 //! The session, from a source to a sink.
 ghost use Rattle.std.specs.Prelude.{◌≡◌, ◌≤◌, ◌<◌, ℕ, length, vec_len, IfOk};
-ghost use Rattle.layer_tiles.specs.Tallies.{KeepsParts};
-ghost use Rattle.map_run.specs.Progress.{IsUndivided};
+ghost use Rattle.layer_tiles.specs.Tallies.{KeepsParts, IsUndivided};
 ghost use Rattle.map_run.specs.FaultCounts.{RunCounts};
 ghost use Rattle.map_run.specs.Played.{Plays};
 ghost use Rattle.map_run.specs.Stops.{status_of};

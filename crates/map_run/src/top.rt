@@ -1,7 +1,7 @@
 //! The top call.
 ghost use Rattle.std.specs.Prelude.{◌≡◌, ◌↔◌, false, true, Some, IsTrue, IsNone, IsSome, IfSome};
 ghost use Rattle.std.specs.List.{All};
-ghost use Rattle.layer_tiles.specs.Tallies.{KeepsParts};
+ghost use Rattle.layer_tiles.specs.Tallies.{KeepsParts, IsUndivided, IsUndivided};
 ghost use Rattle.map_machine.specs.Limits.{longest_file, too_many_bytes};
 ghost use Rattle.map_machine.specs.Play.{run_text, run_opening};
 ghost use Rattle.map_machine.specs.Openings.{goes_on};
@@ -13,7 +13,6 @@ ghost use Rattle.map_run.specs.FaultCounts.{RunCounts, NoneRose};
 ghost use Rattle.map_run.specs.Forms.{form_read};
 ghost use Rattle.map_run.specs.Front.{WritesFront, ReadsAsWritten};
 ghost use Rattle.map_run.specs.Openings.{OpensSo};
-ghost use Rattle.map_run.specs.Progress.{IsUndivided};
 ghost use Rattle.map_run.specs.RunsTo.{RunsTo};
 ghost use Rattle.map_run.specs.Seen.{WhereHeld, WhereTold};
 ghost use Rattle.map_run.specs.Stops.{status_of};
@@ -173,7 +172,7 @@ pub fn run<F: Shelf, S: Source, K: Sink, M: Tally + Send, G: Gate + Sync, R: Thr
     tally: &mut M,
 ) -> Status
     requires serves { IfSome (form_of words.now) (λ form. All (λ f. IsTrue (F.serves shelf.old f)) (files_of form)) }
-    requires whole { ((M.counts tally.old).is_part ≡ false) × ((M.counts tally.old).parts_out ≡ 0) }
+    requires whole { IsUndivided (M.counts tally.old) }
 
     ensures usage { (result ≡ Status.Usage) ↔ IsNone (form_of words.now) }
     ensures counts { RunCounts (F.faults shelf.old) (F.faults shelf.new) (S.faults source.old) (S.faults source.new) (K.faults sink.old) (K.faults sink.new) result }

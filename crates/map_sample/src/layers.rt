@@ -1,6 +1,6 @@
 //! The layers of the sample's grids.
 ghost use Rattle.std.specs.Prelude.{◌≡◌, ◌<◌, ◌≤◌, false, IfOk};
-ghost use Rattle.layer_tiles.specs.Tallies.{RisesBy};
+ghost use Rattle.layer_tiles.specs.Tallies.{RisesBy, IsUndivided};
 ghost use Rattle.map_machine.specs.SampleGrids.{by_place};
 ghost use Rattle.map_sample.specs.Grids.{cell_in};
 
@@ -33,7 +33,7 @@ pub fn sample_layer<M: Tally + Send, G: Gate + Sync, R: Threads + Sync>(
     requires some { 1 ≤ side }
     requires most { side ≤ 1224 }
     requires workers { (0 < workers) × (workers ≤ 64) }
-    requires whole { 1 < workers → ((M.counts tally.old).is_part ≡ false) × ((M.counts tally.old).parts_out ≡ 0) }
+    requires whole { 1 < workers → IsUndivided (M.counts tally.old) }
     ensures layer { IfOk result (λ l. record { size = l.size; cells = l.cells } ≡ by_place side (cell_in grid)) }
     ensures tally { RisesBy 0 0 (M.counts tally.old) (M.counts tally.new) }
 {

@@ -1,6 +1,6 @@
 //! The loads of a session.
 ghost use Rattle.std.specs.Prelude.{◌≡◌, ◌≤◌, ◌<◌, false, Ok, IsTrue};
-ghost use Rattle.layer_tiles.specs.Tallies.{RisesBy};
+ghost use Rattle.layer_tiles.specs.Tallies.{RisesBy, IsUndivided};
 ghost use Rattle.map_words.specs.Names.{is_plain};
 ghost use Rattle.grid_text.specs.Reads.{held};
 ghost use Rattle.map_machine.specs.Loads.{grid_load, read_load, state_for};
@@ -35,7 +35,7 @@ impl Session {
         requires plain { IsTrue (is_plain name) }
         requires some { 1 ≤ workers }
         requires most { workers ≤ 64 }
-        requires whole { 1 < workers → ((M.counts tally.old).is_part ≡ false) × ((M.counts tally.old).parts_out ≡ 0) }
+        requires whole { 1 < workers → IsUndivided (M.counts tally.old) }
         ensures begins { Begins name bytes.now result }
         ensures reads { RisesBy (first_load_reads name bytes.now).looks (first_load_reads name bytes.now).picks (M.counts tally.old) (M.counts tally.new) }
     {
@@ -60,7 +60,7 @@ impl Session {
         requires plain { IsTrue (is_plain name) }
         requires some { 1 ≤ workers }
         requires most { workers ≤ 64 }
-        requires whole { 1 < workers → ((M.counts tally.old).is_part ≡ false) × ((M.counts tally.old).parts_out ≡ 0) }
+        requires whole { 1 < workers → IsUndivided (M.counts tally.old) }
         ensures begins { BeginsAs (read_load state_for name (Ok (held grid))) result }
         ensures reads { RisesBy (read_load_reads state_for name (Ok (held grid))).looks (read_load_reads state_for name (Ok (held grid))).picks (M.counts tally.old) (M.counts tally.new) }
     {
@@ -88,7 +88,7 @@ impl Session {
         requires plain { IsTrue (is_plain name) }
         requires some { 1 ≤ workers }
         requires most { workers ≤ 64 }
-        requires whole { 1 < workers → ((M.counts tally.old).is_part ≡ false) × ((M.counts tally.old).parts_out ≡ 0) }
+        requires whole { 1 < workers → IsUndivided (M.counts tally.old) }
         ensures loads { Loads self.old self.new name bytes.now result }
         ensures reads { RisesBy (next_load_reads self.old name bytes.now).looks (next_load_reads self.old name bytes.now).picks (M.counts tally.old) (M.counts tally.new) }
     {
@@ -115,7 +115,7 @@ impl Session {
         requires plain { IsTrue (is_plain name) }
         requires some { 1 ≤ workers }
         requires most { workers ≤ 64 }
-        requires whole { 1 < workers → ((M.counts tally.old).is_part ≡ false) × ((M.counts tally.old).parts_out ≡ 0) }
+        requires whole { 1 < workers → IsUndivided (M.counts tally.old) }
         ensures loads { LoadsAs self.old self.new (grid_load self.old name (record { size = layer.size; cells = layer.cells })) result }
         ensures reads { RisesBy (grid_load_reads self.old name (record { size = layer.size; cells = layer.cells })).looks (grid_load_reads self.old name (record { size = layer.size; cells = layer.cells })).picks (M.counts tally.old) (M.counts tally.new) }
     {

@@ -1,6 +1,6 @@
 //! A session over the layers of an engine.
 ghost use Rattle.std.specs.Prelude.{◌≡◌, ◌≢◌, ◌≤◌, ◌<◌, false, None, Ok, IfOk};
-ghost use Rattle.layer_tiles.specs.Tallies.{RisesBy};
+ghost use Rattle.layer_tiles.specs.Tallies.{RisesBy, IsUndivided};
 ghost use Rattle.statement_parser.specs.Formed.{IsEdit};
 ghost use Rattle.statement_parser.specs.Views.{edit_view, request_view};
 ghost use Rattle.map_edits.specs.Faults.{fault_of};
@@ -78,7 +78,7 @@ impl Session {
     ) -> Result<Reply, NoMemory>
         requires some { 1 ≤ workers }
         requires most { workers ≤ 64 }
-        requires whole { 1 < workers → ((M.counts tally.old).is_part ≡ false) × ((M.counts tally.old).parts_out ≡ 0) }
+        requires whole { 1 < workers → IsUndivided (M.counts tally.old) }
         ensures steps { Steps self.old self.new line.now result }
         ensures kept { IfOk result (λ reply. reply.kind ≢ Kind.Accepted → self.new ≡ self.old) }
         ensures reads { RisesBy (line_reads self.old line.now).looks (line_reads self.old line.now).picks (M.counts tally.old) (M.counts tally.new) }
@@ -108,7 +108,7 @@ impl Session {
         requires formed { IsEdit (edit_view edit) }
         requires some { 1 ≤ workers }
         requires most { workers ≤ 64 }
-        requires whole { 1 < workers → ((M.counts tally.old).is_part ≡ false) × ((M.counts tally.old).parts_out ≡ 0) }
+        requires whole { 1 < workers → IsUndivided (M.counts tally.old) }
         ensures does { Does self.old self.new (edited self.old (accept_counted self.old.whole (line_edit (edit_view edit)))) result }
         ensures reads { RisesBy (edit_reads self.old.whole (line_edit (edit_view edit))).looks (edit_reads self.old.whole (line_edit (edit_view edit))).picks (M.counts tally.old) (M.counts tally.new) }
     {

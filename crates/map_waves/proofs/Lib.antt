@@ -1,7 +1,6 @@
 pub mod Running
 pub mod Valued
 pub mod Righted
-pub mod Damages
 pub mod Unchanged
 pub mod Narrowing
 pub mod Making

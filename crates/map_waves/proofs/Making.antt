@@ -26,7 +26,7 @@ use Rattle.map_waves.specs.Prepared.{IsMade}
 use Rattle.map_waves.specs.declared.keeping.Kept.{Kept}
 use Rattle.map_waves.specs.declared.keeping.Made.{Made}
 use Rattle.map_waves.specs.declared.plans.Base.{Base}
-use Rattle.map_waves.proofs.Damages.{damage_none, damage_all, changed_none, changed_all, work_none}
+use Rattle.map_defs.proofs.Unchanged.{damage_none, damage_all, changed_none, changed_all, work_none}
 use Rattle.map_waves.proofs.Narrowing.{narrowed_exact, narrowed_cells}
 
 -- ---- what is kept

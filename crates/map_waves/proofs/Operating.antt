@@ -20,7 +20,7 @@ use Rattle.map_waves.specs.declared.plans.Ref.{Ref}
 use Rattle.map_waves.specs.declared.plans.Ref.TheVariants.{Source, Statement, Number}
 use Rattle.map_waves.specs.declared.plans.Step.{Step}
 use Rattle.map_waves.specs.declared.plans.Base.{Base}
-use Rattle.map_waves.proofs.Damages.{changed_none}
+use Rattle.map_defs.proofs.Unchanged.{changed_none}
 use Rattle.map_waves.proofs.Unchanged.{unchanged}
 use Rattle.map_waves.proofs.Running.{changes_at}
 use Rattle.map_waves.proofs.Reading.{prepared_at}

@@ -3,7 +3,7 @@ ghost use Rattle.std.specs.Prelude.{◌≡◌, ◌+◌, ◌*◌, ◌<◌, ◌≤
 ghost use Rattle.std.specs.List.{All};
 ghost use Rattle.map_defs.specs.Ops.{terms_of};
 ghost use Rattle.layer_tiles.specs.Operands.{cells_after};
-ghost use Rattle.layer_tiles.specs.Tallies.{RisesBy};
+ghost use Rattle.layer_tiles.specs.Tallies.{RisesBy, IsUndivided};
 ghost use Rattle.map_waves.specs.Statements.{damage_by, work_by};
 ghost use Rattle.map_waves.specs.Operands.{IsOperand};
 ghost use Rattle.map_waves.specs.Keeping.{kept_now, was_of, IsRightKept};
@@ -53,7 +53,7 @@ fn begin_step<'o, 'a, K: Maker + Sync, M: Tally + Send, G: Gate + Sync, R: Threa
     requires terms { length operands.now ≡ length (terms_of (K.means step.now.op)) }
     requires right { IsRightKept K.suits base.now.extent (K.means step.now.op) operands.now (reckoned_kept base.now step.now) }
     requires workers { (0 < workers) × (workers ≤ 64) }
-    requires whole { 1 < workers → ((M.counts tally.old).is_part ≡ false) × ((M.counts tally.old).parts_out ≡ 0) }
+    requires whole { 1 < workers → IsUndivided (M.counts tally.old) }
     ensures over { IfOk result (λ j. AreOver j base.now.extent step.now.op operands.now (reckoned_kept base.now step.now)) }
     ensures jobs { IfOk result (λ j. AreJobs K.means K.sound K.first K.looks K.picks K.pieces j) }
     ensures halt { IfErr result (IsHalt base.now.extent (K.means step.now.op) (cells_after operands.now)) }
@@ -96,7 +96,7 @@ pub(crate) fn begin_all<
 >
     requires tasks { All (IsTask K.means K.formed K.suits base.now steps.now) tasks.now }
     requires workers { (0 < workers) × (workers ≤ 64) }
-    requires whole { 1 < workers → ((M.counts tally.old).is_part ≡ false) × ((M.counts tally.old).parts_out ≡ 0) }
+    requires whole { 1 < workers → IsUndivided (M.counts tally.old) }
     ensures begun { IfOk result (λ q. AreBegun K.means K.sound K.first K.looks K.picks K.pieces base.now steps.now tasks.now q.0.items) }
     ensures halted { IfOk result (λ q. IsHalted (plan_of K.means base.now steps.now) tasks.now (length q.0.items) q.1) }
     ensures rises { let plan = plan_of K.means base.now steps.now in

@@ -2,7 +2,7 @@
 ghost use Rattle.std.specs.Prelude.{◌≡◌, ℕ, ◌*◌, ◌^◌, ◌<◌, ◌≤◌, false, length, Some, Ok, slice_get, IfOk, IfSome, sum_by};
 ghost use Rattle.std.specs.List.{All, range_with_len};
 ghost use Rattle.map_defs.specs.Ops.{terms_of};
-ghost use Rattle.layer_tiles.specs.Tallies.{RisesBy};
+ghost use Rattle.layer_tiles.specs.Tallies.{RisesBy, IsUndivided};
 ghost use Rattle.map_waves.specs.Operands.{IsOperand};
 ghost use Rattle.map_waves.specs.Keeping.{kept_now, was_of};
 ghost use Rattle.map_waves.specs.Statements.{damage_by};
@@ -96,7 +96,7 @@ fn find_all<K: Maker + Sync, M: Tally + Send, G: Gate + Sync, R: Threads + Sync>
     requires ground { K.grounded extent (K.means op.now) operands.now count ground.now }
     requires few { count < 2 ^ 32 }
     requires workers { (0 < workers) × (workers ≤ 64) }
-    requires whole { 1 < workers → ((M.counts tally.old).is_part ≡ false) × ((M.counts tally.old).parts_out ≡ 0) }
+    requires whole { 1 < workers → IsUndivided (M.counts tally.old) }
     ensures found { IfOk result (λ parts. AreFound K.grounded K.part extent (K.means op.now) operands.now ground.now parts.items) }
     ensures looks { RisesBy (sum_by (K.finding extent (K.means op.now) operands.now count) (range_with_len 0 count)) 0 (M.counts tally.old) (M.counts tally.new) }
 {
@@ -129,7 +129,7 @@ pub(crate) fn found_of<K: Maker + Sync, M: Tally + Send, G: Gate + Sync, R: Thre
     requires operands { All (IsOperand extent) operands.now }
     requires terms { length operands.now ≡ length (terms_of (K.means op.now)) }
     requires workers { (0 < workers) × (workers ≤ 64) }
-    requires whole { 1 < workers → ((M.counts tally.old).is_part ≡ false) × ((M.counts tally.old).parts_out ≡ 0) }
+    requires whole { 1 < workers → IsUndivided (M.counts tally.old) }
     ensures found { IfOk result (λ found. IfSome found (λ q. AreFound K.grounded K.part extent (K.means op.now) operands.now q.0 q.1.items)) }
     ensures fit { K.grounding extent (K.means op.now) (was_of (kept_now kept.entry)) operands.now ≤ 60 * length (damage_by extent (K.means op.now) (was_of (kept_now kept.entry)) operands.now) }
     ensures looks { RisesBy (K.grounding extent (K.means op.now) (was_of (kept_now kept.entry)) operands.now) 0 (M.counts tally.old) (M.counts tally.new) }

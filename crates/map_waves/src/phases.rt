@@ -1,6 +1,6 @@
 //! All statements, depth by depth.
 ghost use Rattle.std.specs.Prelude.{◌≡◌, ℕ, ◌-◌, ◌*◌, ◌<◌, ◌≤◌, false, length};
-ghost use Rattle.layer_tiles.specs.Tallies.{RisesBy};
+ghost use Rattle.layer_tiles.specs.Tallies.{RisesBy, IsUndivided};
 ghost use Rattle.map_waves.specs.Plans.{evaluated_to, worked_to};
 ghost use Rattle.map_waves.specs.Bases.{IsBase, ArePlanned, AreRight, plan_of};
 ghost use Rattle.map_waves.specs.Prepared.{ArePrepared};
@@ -53,7 +53,7 @@ fn repair_tasks<'o, 'a, K: Maker + Sync, M: Tally + Send, G: Gate + Sync, R: Thr
     requires some { first < end }
     requires tasks { AreTasks K.means K.formed K.suits base.now steps.now first end tasks.now }
     requires workers { (0 < workers) × (workers ≤ 64) }
-    requires whole { 1 < workers → ((M.counts tally.old).is_part ≡ false) × ((M.counts tally.old).parts_out ≡ 0) }
+    requires whole { 1 < workers → IsUndivided (M.counts tally.old) }
     ensures phase { IsPhase K.means K.suits base.now steps.now first end result }
     ensures tally { let plan = plan_of K.means base.now steps.now in
         RisesBy (62 * (evaluated_to plan end - evaluated_to plan first)) (1000 * (worked_to plan end - worked_to plan first)) (M.counts tally.old) (M.counts tally.new) }
@@ -95,7 +95,7 @@ fn repair_phase<'a, K: Maker + Sync, M: Tally + Send, G: Gate + Sync, R: Threads
     requires most { end ≤ length steps.now }
     requires alike { AreAlike steps.now (length prepared.now) end }
     requires workers { (0 < workers) × (workers ≤ 64) }
-    requires whole { 1 < workers → ((M.counts tally.old).is_part ≡ false) × ((M.counts tally.old).parts_out ≡ 0) }
+    requires whole { 1 < workers → IsUndivided (M.counts tally.old) }
     ensures phase { IsPhase K.means K.suits base.now steps.now (length prepared.now) end result }
     ensures tally { let plan = plan_of K.means base.now steps.now in let first = length prepared.now in
         RisesBy (62 * (evaluated_to plan end - evaluated_to plan first)) (1000 * (worked_to plan end - worked_to plan first)) (M.counts tally.old) (M.counts tally.new) }
@@ -130,7 +130,7 @@ pub fn repair_all<K: Maker + Sync, M: Tally + Send, G: Gate + Sync, R: Threads +
     requires planned { ArePlanned K.means K.formed base.now steps.now }
     requires right { AreRight K.means K.suits base.now steps.now }
     requires workers { (0 < workers) × (workers ≤ 64) }
-    requires whole { 1 < workers → ((M.counts tally.old).is_part ≡ false) × ((M.counts tally.old).parts_out ≡ 0) }
+    requires whole { 1 < workers → IsUndivided (M.counts tally.old) }
     ensures all { IsPhase K.means K.suits base.now steps.now 0 (length steps.now) result }
     ensures tally { (end : ℕ) × IsReached (plan_of K.means base.now steps.now) steps.now result end
         × RisesBy (62 * evaluated_to (plan_of K.means base.now steps.now) end) (1000 * worked_to (plan_of K.means base.now steps.now) end) (M.counts tally.old) (M.counts tally.new) }

@@ -1,7 +1,7 @@
 //! The jobs of several statements as one run of tickets.
 ghost use Rattle.std.specs.Prelude.{◌≡◌, ◌^◌, ◌<◌, ◌≤◌, false, IfOk};
 ghost use Rattle.std.specs.List.{All};
-ghost use Rattle.layer_tiles.specs.Tallies.{RisesBy};
+ghost use Rattle.layer_tiles.specs.Tallies.{RisesBy, IsUndivided};
 ghost use Rattle.map_waves.specs.Answers.{AreJobs};
 ghost use Rattle.map_waves.specs.Seating.{all_jobs, all_rises, AreStarts, AreAnswered};
 
@@ -113,7 +113,7 @@ pub(crate) fn do_jobs<K: Maker + Sync, M: Tally + Send, G: Gate + Sync, R: Threa
     tally: &mut M,
 ) -> Result<Vec<Result<K::Piece, KernelRefusal>>, NoMemory>
     requires workers { (0 < workers) × (workers ≤ 64) }
-    requires whole { 1 < workers → ((M.counts tally.old).is_part ≡ false) × ((M.counts tally.old).parts_out ≡ 0) }
+    requires whole { 1 < workers → IsUndivided (M.counts tally.old) }
     requires jobs { All (AreJobs K.means K.sound K.first K.looks K.picks K.pieces) jobs.now }
     ensures answers { IfOk result (λ answers. AreAnswered K.pieces jobs.now answers.items) }
     ensures tally { RisesBy (all_rises K.looks jobs.now) (all_rises K.picks jobs.now) (M.counts tally.old) (M.counts tally.new) }

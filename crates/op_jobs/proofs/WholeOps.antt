@@ -1,7 +1,8 @@
 -- From an operation's own operands to its kernel's, and back.
-use Rattle.std.proofs.Common.{◌≡◌, ℕ, ◌*◌, ◌≤◌, ℤ, nat_abs, unsigned_abs, w32, List, [], ◌∷◌, length, Option, Result, sym, ◌∙◌, ap, subst, arith}
+use Rattle.std.proofs.Common.{◌≡◌, ℕ, ◌*◌, ◌≤◌, ℤ, nat_abs, unsigned_abs, List, [], ◌∷◌, length, Option, Result, sym, ◌∙◌, ap, subst, arith}
 use mir.Val.{to_z, of_z}
 use Rattle.std.proofs.lemmas.Int.{to_z-of_z, fits_signed_from_abs}
+use Rattle.map_nums.specs.Widths.{value_width}
 use Rattle.map_nums.specs.Numbers.{greatest_value}
 use Rattle.map_nums.specs.Grids.{Cells}
 use Rattle.map_defs.specs.Ops.{Op, Term, flow_op, spread_op, region_op}
@@ -69,11 +70,11 @@ module _ (xs : List ChangeState) (a : ChangeState) (e : xs ≡ a ∷ []) (op : O
 
 -- ---- the limit
 
-limit_value : (n : ℕ) (z : ℤ) → nat_abs z ≤ greatest_value → n ≡ unsigned_abs (to_z w32 (of_z w32 z)) → n ≡ nat_abs z
-limit_value n z l e = e ∙ ap (λ (x : ℤ). unsigned_abs x) (to_z-of_z w32 z (fits_signed_from_abs w32 z (omega (arith, l, magnitude_is z)))) ∙ magnitude_is z
+limit_value : (n : ℕ) (z : ℤ) → nat_abs z ≤ greatest_value → n ≡ unsigned_abs (to_z value_width (of_z value_width z)) → n ≡ nat_abs z
+limit_value n z l e = e ∙ ap (λ (x : ℤ). unsigned_abs x) (to_z-of_z value_width z (fits_signed_from_abs value_width z (omega (arith, l, magnitude_is z)))) ∙ magnitude_is z
 
 -- as it is written
-pub limit_is : (op : Op) (n : ℕ) (z : ℤ) (t u : Term) → op ≡ spread_op (nat_abs z) t u → HasRanges op → n ≡ unsigned_abs (to_z w32 (of_z w32 z)) → op ≡ spread_op n t u
+pub limit_is : (op : Op) (n : ℕ) (z : ℤ) (t u : Term) → op ≡ spread_op (nat_abs z) t u → HasRanges op → n ≡ unsigned_abs (to_z value_width (of_z value_width z)) → op ≡ spread_op n t u
 limit_is op n z t u f formed e =
     let h : HasRanges (spread_op (nat_abs z) t u) = subst (λ (o : Op). HasRanges o) f formed in
     f ∙ ap (λ (k : ℕ). spread_op k t u) (sym (limit_value n z h.0 e))

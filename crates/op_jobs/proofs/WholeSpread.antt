@@ -1,8 +1,9 @@
 -- Repaired least costs, in the words of operations.
-use Rattle.std.proofs.Common.{◌≡◌, ℕ, ◌*◌, ◌^◌, ◌<◌, ◌≤◌, List, [], ◌∷◌, length, Option, Some, None, sym, ◌∙◌, ap, subst, arith, w32}
+use Rattle.std.proofs.Common.{◌≡◌, ℕ, ◌*◌, ◌^◌, ◌<◌, ◌≤◌, List, [], ◌∷◌, length, Option, Some, None, sym, ◌∙◌, ap, subst, arith}
 use Rattle.std.specs.Prelude.{nat_abs}
 use Rattle.std.specs.Int.{cast_signed}
 use Rattle.std.proofs.lemmas.Int.{to_z_pos}
+use Rattle.map_nums.specs.Widths.{value_width}
 use Rattle.map_nums.specs.Grids.{Size, IsSize, Cells}
 use Rattle.map_nums.specs.Numbers.{greatest_value}
 use Rattle.map_defs.specs.Damage.{op_damage}
@@ -87,5 +88,5 @@ module _ (sources friction : ChangeState) (limit : ℕ) (t u : Term) where
         spread_rises a b (subst (λ (k : ℕ). (cells : Cells) → IsSpread s sources.cells friction.cells k cells → RisesBy (32 * length (op_damage (spread_op k t u) s were are (before_of old) cells)) (1000 * op_work (spread_op k t u) s were are (before_of old) cells) a b) q r)
 
 -- the limit fits a value
-pub limit_fits : (n : ℕ) → n ≤ greatest_value → nat_abs (cast_signed w32 n) ≡ n
-limit_fits n l = ap nat_abs (to_z_pos w32 n (omega (arith, l)))
+pub limit_fits : (n : ℕ) → n ≤ greatest_value → nat_abs (cast_signed value_width n) ≡ n
+limit_fits n l = ap nat_abs (to_z_pos value_width n (omega (arith, l)))

@@ -1,6 +1,7 @@
 -- Layers that were not there, place by place.
 use Rattle.std.specs.Prelude.{◌≡◌, ◌^◌, ◌<◌, ◌≤◌, ℕ, List, length, Option, Some, None, IsTrue, IsFalse}
 use Rattle.map_nums.specs.Grids.{Size, Cells, cells_in}
+use Rattle.map_nums.specs.Numbers.{greatest_value}
 use Rattle.map_defs.specs.Damage.{has_work}
 use Rattle.map_defs.specs.Ops.{Op}
 use Rattle.layer_tiles.specs.Changes.{ChangeState}
@@ -15,7 +16,7 @@ use Rattle.op_jobs.specs.declared.lists.LayerList.TheVariants.{Costs, Flow, Labe
 
 -- it has all places of a map
 abbrev pub IsList : Size → LayerList → Type 0
-IsList s (Costs list) = (list.limit ≤ 2000000000) × (length list.costs.items ≡ cells_in s)
+IsList s (Costs list) = (list.limit ≤ greatest_value) × (length list.costs.items ≡ cells_in s)
 IsList s (Flow list) = (length list.surface.items ≡ cells_in s) × AreEven list.bands.items × (length (all_flows list.bands.items) ≡ cells_in s)
 IsList s (Labels list) = AreBack list.labels.items × (length list.labels.items ≡ cells_in s)
 

@@ -78,7 +78,7 @@ pub(crate) fn find_band(
     let parts = count as u32;
     match op {
         Op::Spread { limit, .. } => {
-            let limit = limit.unsigned_abs();
+            let limit = limit.unsigned_abs() as u64;
             let band = find_costs(alloc, extent, ground, limit, parts, k)?;
             Ok(Part::Costs(band))
         }
@@ -105,7 +105,7 @@ fn make_of_both(
     let _tiles = extent.tiles();
     match op {
         Op::Spread { limit, .. } => {
-            let limit = limit.unsigned_abs();
+            let limit = limit.unsigned_abs() as u64;
             let costs = spread_by(alloc, extent, &ground, limit, parts)?;
             let worked = costs.worked;
             Ok((LayerList::Costs(costs), worked))

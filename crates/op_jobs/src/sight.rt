@@ -9,6 +9,7 @@ ghost use Rattle.map_defs.specs.Sight.{Sighting, viewer_count, most_viewers};
 ghost use Rattle.layer_tiles.specs.Answers.{IsTileAnswer};
 ghost use Rattle.layer_tiles.specs.Operands.{cells_after};
 ghost use Rattle.layer_tiles.specs.Tallies.{RisesBy};
+ghost use Rattle.sight_lines.specs.Heights.{AreHeights};
 ghost use Rattle.sight_lines.specs.Puts.{sighting_of};
 ghost use Rattle.sight_lines.specs.Viewed.{viewers_of};
 ghost use Rattle.map_waves.specs.Answers.{IsHalt};
@@ -125,6 +126,7 @@ pub(crate) fn sight_piece<M: Tally>(
     requires two { length operands.now ≡ 2 }
     requires operands { All (IsOperand extent) operands.now }
     requires reach { sight.reach ≤ 64 }
+    requires heights { AreHeights sight.from sight.to }
     requires within { tile < tiles_in extent }
     requires viewers { viewers.now ≡ viewers_of extent (operand (cells_after operands.now) 0) }
     ensures answer { (t u : Term) → IsTileAnswer extent (made extent (sight_op (sighting_of sight) t u) (cells_after operands.now)) tile result }

@@ -8,6 +8,7 @@ ghost use Rattle.layer_tiles.specs.Answers.{IsTileAnswer};
 ghost use Rattle.layer_tiles.specs.Operands.{cells_after};
 ghost use Rattle.layer_tiles.specs.Tallies.{RisesBy};
 ghost use Rattle.layer_tiles.specs.Tiles.{tiles_in};
+ghost use Rattle.sight_lines.specs.Heights.{AreHeights};
 ghost use Rattle.sight_lines.specs.Puts.{sighting_of};
 ghost use Rattle.statement_parser.specs.Views.{op_view};
 ghost use Rattle.map_waves.specs.Answers.{IsHalt};
@@ -85,6 +86,7 @@ pub(crate) fn tile_of_sights<M: Tally>(
     requires two { length operands.now ≡ 2 }
     requires operands_are { All (IsOperand extent) operands.now }
     requires reach { sight.reach ≤ 64 }
+    requires heights { AreHeights sight.from sight.to }
     requires within { tile < tiles_in extent }
     requires beside { AreViewers extent (operand (cells_after operands.now) 0) beside.now }
     ensures answer { (t u : Term) → IsTileAnswer extent (made extent (sight_op (sighting_of sight) t u) (cells_after operands.now)) tile result }

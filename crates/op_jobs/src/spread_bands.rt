@@ -23,7 +23,7 @@ pub(crate) fn find_costs(
     alloc: Global,
     extent: Extent,
     ground: &BothCells,
-    limit: u32,
+    limit: u64,
     parts: u32,
     k: u64,
 ) -> Result<CostBand, NoMemory>
@@ -75,7 +75,7 @@ pub(crate) fn spread_by(
     alloc: Global,
     extent: Extent,
     ground: &BothCells,
-    limit: u32,
+    limit: u64,
     parts: Vec<Part>,
 ) -> Result<CostList, NoMemory>
     requires limit { limit ≤ greatest_value }

@@ -73,7 +73,7 @@ pub(crate) fn repair_whole<M: Tally>(
         }
         Op::Spread { limit, .. } => {
             let (sources, friction) = both_of(operands);
-            let limit = limit.unsigned_abs();
+            let limit = limit.unsigned_abs() as u64;
             repair_spread(alloc, old, sources, friction, limit, tally)
         }
         Op::Region { .. } => repair_regions(alloc, old, only_of(operands), tally),

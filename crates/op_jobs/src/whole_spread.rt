@@ -25,7 +25,7 @@ pub(crate) fn repair_spread<M: Tally>(
     old: Option<&Layer>,
     sources: &Change<'_>,
     friction: &Change<'_>,
-    limit: u32,
+    limit: u64,
     tally: &mut M,
 ) -> Result<(Patch, u64), KernelRefusal>
     requires sources { IsOperand sources.now.size sources.now }

@@ -1,5 +1,6 @@
 //! A work over a list that it borrows, whose jobs take memory.
 ghost use Rattle.std.specs.Prelude.{◌≡◌, ℕ, ◌*◌, ◌^◌, ◌<◌, ◌≤◌, false, IfOk, vec_len, length, slice_index, slice_index_or};
+ghost use Rattle.layer_tiles.specs.Tallies.{IsUndivided};
 
 use layer_tiles::Tally;
 use map_nums::NoMemory;
@@ -49,7 +50,7 @@ pub fn doubled<G: Gate + Sync, M: Tally + Send, R: Threads + Sync>(
 ) -> Result<Vec<Result<Vec<u64>, NoMemory>>, NoMemory>
     requires count { length values.now < 2 ^ 32 }
     requires workers { (0 < workers) × (workers ≤ 64) }
-    requires whole { 1 < workers → ((M.counts tally.old).is_part ≡ false) × ((M.counts tally.old).parts_out ≡ 0) }
+    requires whole { 1 < workers → IsUndivided (M.counts tally.old) }
     ensures len { IfOk result (λ v. vec_len v ≡ length values.now) }
     ensures each { IfOk result (λ v. (k : ℕ) (d : _) → k < length values.now → IfOk (slice_index_or v.items k d) (λ w. slice_index w.items 0 ≡ 2 * slice_index values.now k)) }
     ensures kept { ((M.counts tally.new).parts_out ≡ (M.counts tally.old).parts_out) × ((M.counts tally.new).is_part ≡ (M.counts tally.old).is_part) }

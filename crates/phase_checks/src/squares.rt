@@ -1,5 +1,6 @@
 //! A work of numbers, in which every second job has no answer.
 ghost use Rattle.std.specs.Prelude.{◌≡◌, ℕ, ◌*◌, ◌%◌, ◌^◌, ◌<◌, ◌≤◌, false, IfOk, MatchResult, vec_len, slice_index_or};
+ghost use Rattle.layer_tiles.specs.Tallies.{IsUndivided};
 
 use layer_tiles::Tally;
 use map_nums::NoMemory;
@@ -56,7 +57,7 @@ pub fn squares_of_even<G: Gate + Sync, M: Tally + Send, R: Threads + Sync>(
 ) -> Result<Vec<Result<u64, OddTicket>>, NoMemory>
     requires count { count < 2 ^ 32 }
     requires workers { (0 < workers) × (workers ≤ 64) }
-    requires whole { 1 < workers → ((M.counts tally.old).is_part ≡ false) × ((M.counts tally.old).parts_out ≡ 0) }
+    requires whole { 1 < workers → IsUndivided (M.counts tally.old) }
     ensures len { IfOk result (λ v. vec_len v ≡ count) }
     ensures even { IfOk result (λ v. (k : ℕ) (d : _) → k < count → k % 2 ≡ 0 → IfOk (slice_index_or v.items k d) (λ n. n ≡ k * k)) }
     ensures kept { ((M.counts tally.new).parts_out ≡ (M.counts tally.old).parts_out) × ((M.counts tally.new).is_part ≡ (M.counts tally.old).is_part) }

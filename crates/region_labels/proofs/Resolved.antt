@@ -3,7 +3,7 @@ use Rattle.std.proofs.Common.{◌≡◌, ℕ, suc, ◌<◌, ◌≤◌, true, fal
 use Rattle.std.specs.Prelude.{Result, not}
 use Rattle.std.proofs.lemmas.Bool.{le-leb}
 use Rattle.map_nums.specs.Grids.{Size, IsSize, Cells, cell_at}
-use Rattle.map_nums.specs.Numbers.{is_value}
+use Rattle.map_nums.specs.Numbers.{greatest_value, is_value}
 use Rattle.map_nums.specs.Answers.{is_wide}
 use Rattle.layer_tiles.specs.Tiles.{Block, tiles_in, tile_width}
 use Rattle.layer_tiles.specs.Answers.{IsTileAnswer}
@@ -22,7 +22,7 @@ resolved_answer s labels t result size within a = grid_answer s t (λ r c. resol
 
 numbered_narrow : (root : ℕ) (label : Option ℤ) → root < 1500000 → is_wide (numbered root label) ≡ false
 numbered_narrow root None l = refl
-numbered_narrow root (Some z) l = let h : is_value (pos (suc root)) ≡ true = le-leb (suc root) 2000000000 (omega (arith, l)) in ap not h
+numbered_narrow root (Some z) l = let h : is_value (pos (suc root)) ≡ true = le-leb (suc root) greatest_value (omega (arith, l)) in ap not h
 
 pub resolved_narrow : (labels : Cells) (i : ℕ) → i < length labels → length labels ≤ 1500000 → AreBack labels → is_wide (resolved labels i) ≡ false
 resolved_narrow labels i l few back = numbered_narrow (root_in labels i) (cell_at labels i) (omega (arith, l, few, root_back (told_in labels) (told_least labels back) i))

@@ -11,6 +11,7 @@ use Rattle.std.proofs.lemmas.Str.Parse.{digit_from_value}
 use Rattle.std.proofs.lemmas.Bool.Decides.{nat_tests}
 use Rattle.std.proofs.lemmas.Bool.{leb-true}
 use Rattle.map_nums.specs.Numbers.{is_value, vmin, vmax}
+use Rattle.map_nums.proofs.Ranges.{value_small}
 use Rattle.map_words.specs.Bytes.{Text, is_blank, is_mark, is_good}
 use Rattle.map_words.specs.Names.{is_plain}
 use Rattle.map_words.specs.Numbers.{number_text, unsigned_text, signed_text, are_digits, with_sign, if_between}
@@ -68,14 +69,10 @@ number_minus n lt = ap (option_map (with_sign true)) (unsigned_is (suc n) lt)
 
 -- a number that a cell may hold
 pos_small : (n : ℕ) → IsTrue (is_value (pos n)) → n < 2 ^ 64
-pos_small n h = let l : n ≤ 2000000000 = leb-true n 2000000000 h in omega arith
+pos_small n h = let m = value_small (pos n) h in omega arith
 
 neg_small : (n : ℕ) → IsTrue (is_value (negsuc n)) → suc n < 2 ^ 64
-neg_small n h = let l : n ≤ 1999999999 = leb-true n 1999999999 (first_true (nat_le n 1999999999) true h) in omega arith
-  where
-    first_true : (a b : Bool) → (a && b) ≡ true → a ≡ true
-    first_true true b e = refl
-    first_true false b e = absurd cc
+neg_small n h = let m = value_small (negsuc n) h in omega arith
 
 number_value : (z : ℤ) → IsTrue (is_value z) → number_text (signed_decimal z) ≡ Some z
 number_value (pos n) h = number_decimal n (pos_small n h)

@@ -30,7 +30,8 @@ use Rattle.statement_parser.specs.TermTexts.{term_text, terms_after, listed_afte
 use Rattle.statement_parser.specs.Canonical.{op_texts, tail_text, written_text}
 use Rattle.statement_parser.specs.Formed.{Each, IsTerm, IsWritten, AreInScope, IsFresh, AreFresh, IsInner, AreInner, IsProcedure}
 use Rattle.statement_parser.specs.There.{HasCommand, IsWrittenThere, AreInnerThere}
-use Rattle.statement_parser.specs.ProcedureTexts.{names_after, names_text, statements_after, statements_text, procedure_text, ReadsBack}
+use Rattle.statement_parser.specs.ProcedureTexts.{names_after, names_text, statements_after, statements_text, procedure_text}
+use Rattle.statement_parser.specs.ReadingBack.{ReadsBack}
 use Rattle.statement_parser.specs.Texts.{seen, is_short, LineText, worded}
 use Rattle.statement_parser.specs.declared.command.Command.TheVariants.{Procedure as Procedures}
 use Rattle.statement_parser.proofs.SoundBodies.{healthy_body}

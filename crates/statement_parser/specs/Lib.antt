@@ -30,5 +30,6 @@ pub mod TermTexts
 pub mod Canonical
 pub mod Printing
 pub mod ProcedureTexts
+pub mod ReadingBack
 pub mod Worked
 pub mod LineOf

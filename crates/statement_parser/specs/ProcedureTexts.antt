@@ -1,12 +1,8 @@
 -- The one canonical text of a procedure.
-use Rattle.std.specs.Prelude.{List, [], ◌∷◌, ◌++◌, codes, IsTrue}
+use Rattle.std.specs.Prelude.{List, [], ◌∷◌, ◌++◌, codes}
 use Rattle.map_words.specs.Bytes.{Text}
 use Rattle.map_defs.specs.Statements.{Inner, Procedure}
-use Rattle.statement_parser.specs.Lines.{Manner, define_procedure, edit}
 use Rattle.statement_parser.specs.Canonical.{written_text}
-use Rattle.statement_parser.specs.Formed.{IsProcedure}
-use Rattle.statement_parser.specs.There.{IsEditThere}
-use Rattle.statement_parser.specs.Texts.{is_short, LineText}
 
 -- the names with a comma and a space before each
 abbrev pub names_after : List Text → Text
@@ -31,7 +27,3 @@ statements_text (i ∷ is) = written_text i.name i.written ++ statements_after i
 -- the word procedure, the name, the parameters between ( and ), a colon, and the statements
 abbrev pub procedure_text : Procedure → Text
 procedure_text p = codes "procedure " ++ (p.name ++ 40 ∷ (names_text p.takes ++ 41 ∷ 58 ∷ 32 ∷ statements_text p.body))
-
--- the text of a formed procedure is its line where its rows are there and it is no longer than one
-abbrev pub ReadsBack : Procedure → Text → Type 0
-ReadsBack p text = (m : Manner) → IsProcedure p → IsEditThere m (define_procedure p) → IsTrue (is_short text) → LineText m text (edit (define_procedure p))

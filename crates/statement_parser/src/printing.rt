@@ -98,7 +98,7 @@ fn optional_number(
     number(text, value)
 }
 
-fn count(text: &mut Vec<u8>, count: u32) -> Result<(), AllocError>
+fn count(text: &mut Vec<u8>, count: u64) -> Result<(), AllocError>
     ensures { IfOk result (λ _. Adds text.old.items text.new.items (decimal count ∷ [])) }
 {
     let mut buffer = Buffer::new();
@@ -109,8 +109,8 @@ fn count(text: &mut Vec<u8>, count: u32) -> Result<(), AllocError>
 fn optional_count(
     text: &mut Vec<u8>,
     name: &[u8],
-    default: u32,
-    value: u32,
+    default: u64,
+    value: u64,
 ) -> Result<(), AllocError>
     ensures { IfOk result (λ _. Adds text.old.items text.new.items (optional_texts name.now (pos default) (pos value))) }
 {
@@ -190,7 +190,7 @@ fn reach(text: &mut Vec<u8>, reach: Reach) -> Result<(), AllocError>
         Reach::Square => Ok(()),
         Reach::Disc(radius) => {
             word(text, b"at")?;
-            count(text, radius)
+            count(text, radius as u64)
         }
     }
 }
@@ -234,7 +234,7 @@ fn friction(text: &mut Vec<u8>, friction: &Term) -> Result<(), AllocError>
 fn limit(text: &mut Vec<u8>, limit: &Value) -> Result<(), AllocError>
     ensures { IfOk result (λ _. Adds text.old.items text.new.items (optional_texts (codes "within") vmax (pos (nat_abs limit.now)))) }
 {
-    optional_count(text, b"within", VMAX as u32, limit.unsigned_abs())
+    optional_count(text, b"within", VMAX as u64, limit.unsigned_abs() as u64)
 }
 
 /// What follows the sources of a spread.
@@ -258,7 +258,7 @@ fn heights(text: &mut Vec<u8>, from: &Value, to: &Value, reach: u32) -> Result<(
 {
     optional_number(text, b"from", 0, *from)?;
     optional_number(text, b"to", 0, *to)?;
-    optional_count(text, b"within", 64, reach)
+    optional_count(text, b"within", 64, reach as u64)
 }
 
 /// What a sum radiates on.

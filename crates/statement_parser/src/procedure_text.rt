@@ -3,7 +3,8 @@
 ghost use Rattle.std.specs.Prelude.{◌≡◌, IfOk};
 ghost use Rattle.statement_parser.specs.Canonical.{written_text};
 ghost use Rattle.statement_parser.specs.Printing.{Grows};
-ghost use Rattle.statement_parser.specs.ProcedureTexts.{names_after, names_text, statements_after, statements_text, procedure_text, ReadsBack};
+ghost use Rattle.statement_parser.specs.ProcedureTexts.{names_after, names_text, statements_after, statements_text, procedure_text};
+ghost use Rattle.statement_parser.specs.ReadingBack.{ReadsBack};
 ghost use Rattle.statement_parser.specs.Views.{written_view, body_view, procedure_view};
 
 use crate::line::Written;

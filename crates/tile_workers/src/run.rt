@@ -1,7 +1,7 @@
 //! A phase, by so many workers.
 ghost use Rattle.std.specs.Prelude.{◌≡◌, ℕ, ◌+◌, ◌^◌, ◌<◌, ◌≤◌, false, [], IfOk, sum_by, vec_len, slice_index_or};
 ghost use Rattle.std.specs.List.{range_with_len};
-ghost use Rattle.layer_tiles.specs.Tallies.{TallyState, RisesBy};
+ghost use Rattle.layer_tiles.specs.Tallies.{TallyState, RisesBy, IsUndivided};
 ghost use Rattle.tile_workers.specs.Seats.{drawn, share, IsSeatOf};
 ghost use Rattle.tile_workers.specs.Shifts.{IsAllDone};
 
@@ -91,7 +91,7 @@ where
     requires count { phase.now.jobs < 2 ^ 32 }
     requires workers { (0 < workers) × (workers ≤ 64) }
     requires fresh { (drawn seat ≡ []) × (share seat ≡ 64) }
-    requires whole { 1 < workers → ((M.counts tally.old).is_part ≡ false) × ((M.counts tally.old).parts_out ≡ 0) }
+    requires whole { 1 < workers → IsUndivided (M.counts tally.old) }
     ensures { IsAllDone phase.now.board.now.table.shared.table_id phase.now.jobs (W.looks phase.now.work.now) (W.picks phase.now.work.now) (W.answers phase.now.work.now) (M.counts tally.old) (M.counts tally.new) result }
 {
     if workers == 1 {
@@ -124,7 +124,7 @@ where
     requires jobs { jobs ≡ W.jobs work.now }
     requires count { jobs < 2 ^ 32 }
     requires workers { (0 < workers) × (workers ≤ 64) }
-    requires whole { 1 < workers → ((M.counts tally.old).is_part ≡ false) × ((M.counts tally.old).parts_out ≡ 0) }
+    requires whole { 1 < workers → IsUndivided (M.counts tally.old) }
     ensures len { IfOk result (λ v. vec_len v ≡ jobs) }
     ensures each { IfOk result (λ v. (k : ℕ) (d : _) → k < jobs → W.answers work.now k (slice_index_or v.items k d)) }
     ensures tally { RisesBy (sum_by (W.looks work.now) (range_with_len 0 jobs)) (sum_by (W.picks work.now) (range_with_len 0 jobs)) (M.counts tally.old) (M.counts tally.new) }

@@ -181,7 +181,7 @@ part_by : (e : Entry) (ps : List Entry) (n : ℕ) (b : Bool) → length ps ≤ n
 part_by e ps n true h = omega (arith, h)
 part_by e ps n false h = omega (arith, h)
 
-part_length : (z : ℤ) (es : List Entry) → length (part_of z es) ≤ length es
+pub part_length : (z : ℤ) (es : List Entry) → length (part_of z es) ≤ length es
 part_length z [] = omega arith
 part_length z (e ∷ es) = part_by e (part_of z es) (length es) (int_eq e.pair.zone z) (part_length z es)
 

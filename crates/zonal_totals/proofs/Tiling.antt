@@ -1,16 +1,17 @@
 -- The tiles of a zone are the keys of its entries.
-use Rattle.std.proofs.Common.{◌≡◌, ℕ, zero, suc, ◌+◌, ◌<◌, Bool, true, false, cond, ◌&&◌, List, [], ◌∷◌, length, get_or, map, slice_get, Option, Some, None, Contains, refl, sym, ◌∙◌, ap, subst, arith, ℤ, pos, negsuc, ◌<ℤ◌}
-use Rattle.std.specs.Prelude.{count_by}
+use Rattle.std.proofs.Common.{◌≡◌, ℕ, zero, suc, ◌+◌, ◌<◌, ◌^◌, Bool, true, false, cond, ◌&&◌, List, [], ◌∷◌, length, get_or, map, slice_get, Option, Some, None, Contains, refl, sym, ◌∙◌, ap, subst, arith, ℤ, pos, negsuc, ◌<ℤ◌}
+use Rattle.std.specs.Prelude.{count_by, nat_lt}
 use Rattle.std.specs.Ordering.{int_eq}
 use Rattle.std.proofs.lemmas.Int.{ints}
-use Rattle.std.proofs.lemmas.Bool.Decides.{Decides-int_eq}
+use Rattle.std.proofs.lemmas.Bool.Decides.{Decides-int_eq, nat_tests}
 use Rattle.std.proofs.lemmas.List.FromFn.{get_or-range_with_len, length-range_with_len}
 use Rattle.std.proofs.lemmas.List.Sums.{sum_by-cons}
-use Rattle.map_nums.specs.Grids.{Size, Cells, cells_in, cell_at, places}
+use Rattle.map_nums.specs.Grids.{Size, Cells, cells_in, cell_at, places, IsSize}
 use Rattle.map_nums.specs.Stats.{occurrences}
 use Rattle.map_nums.proofs.Picks.{count_by-cons}
 use Rattle.map_defs.specs.Cells.{has_number}
 use Rattle.layer_tiles.specs.Tiles.{tile_of}
+use Rattle.layer_tiles.proofs.Rounds.{back}
 use Rattle.zonal_totals.specs.declared.pairs.Pair.{Pair}
 use Rattle.zonal_totals.specs.declared.entries.Entry.{Entry}
 use Rattle.zonal_totals.specs.Pairs.{floor}
@@ -19,6 +20,7 @@ use Rattle.zonal_totals.specs.Books.{BookState, IsBookOf, has_pair, pairs_in, ti
 use Rattle.zonal_totals.specs.TileKeys.{natural, tile_at}
 use Rattle.zonal_totals.specs.Tilings.{HasZone, IsZoneTile}
 use Rattle.zonal_totals.proofs.Bags.{there, part_counts}
+use Rattle.zonal_totals.proofs.Drafting.{few_tiles}
 use Rattle.zonal_totals.proofs.Numbers.{numbers_from, numbers_have}
 
 -- ---- what is counted is there
@@ -108,12 +110,15 @@ keys_climb r (e ∷ es) i zero d c l h = absurd (omega arith)
 keys_climb r (e ∷ es) zero (suc j) d c l h = keys_above e.pair.key es j d c.2 (omega arith)
 keys_climb r (e ∷ es) (suc i) (suc j) d c l h = keys_climb e.pair.key es i j d c.2 (omega arith) (omega arith)
 
-got : (es : List Entry) (k : ℕ) → ((j : ℕ) (d : Entry) → j < length es → (t : ℕ) × ((get_or es j d).pair.key ≡ pos t)) → tile_at (slice_get es k) ≡ slice_get (map tile_key es) k
+short_natural : (n : ℕ) → n < 2 ^ 32 → natural (pos n) ≡ Some n
+short_natural n h = let t : nat_lt n (2 ^ 32) ≡ true = grind (arith, nat_tests) in rw (t) refl
+
+got : (es : List Entry) (k : ℕ) → ((j : ℕ) (d : Entry) → j < length es → (t : ℕ) × ((get_or es j d).pair.key ≡ pos t) × (t < 2 ^ 32)) → tile_at (slice_get es k) ≡ slice_get (map tile_key es) k
 got [] k h = refl
-got (e ∷ es) zero h = let f = h 0 e (omega arith) in ap natural f.1 ∙ ap Some (sym (key_tile e f.0 f.1))
+got (e ∷ es) zero h = let f = h 0 e (omega arith) in ap natural f.1 ∙ short_natural f.0 f.2 ∙ ap Some (sym (key_tile e f.0 f.1))
 got (e ∷ es) (suc k) h = got es k (λ j d l. h (suc j) d (omega arith))
 
-module _ (b : BookState) (values zones : Cells) (is : IsBookOf b values zones) (z : ℤ) (order : KeysClimb floor (part_of z b.tiles)) where
+module _ (b : BookState) (size : IsSize b.size) (values zones : Cells) (is : IsBookOf b values zones) (z : ℤ) (order : KeysClimb floor (part_of z b.tiles)) where
   abbrev part : List Entry
   part = part_of z b.tiles
 
@@ -162,11 +167,11 @@ module _ (b : BookState) (values zones : Cells) (is : IsBookOf b values zones) (
         let lt : pos (tile_of b.size f.0) <ℤ pos (tile_of b.size g.0) = rw (f.2, g.2) up in
         omega (arith, ints, a, b', lt);
     exact = λ t. (held_here t, here_held t);
-    is = e ∙ got part k (λ j d l. let f = key_there j d l in (tile_of b.size f.0, sym f.2));
+    is = e ∙ got part k (λ j d l. let f = key_there j d l in (tile_of b.size f.0, sym f.2, omega (arith, (back b.size f.0 size f.1).tile, few_tiles b.size size)));
   }
 
-pub part_tile : (b b' : BookState) (values zones : Cells) (z z' : ℤ) (part : List Entry) (k : ℕ) (r : Option ℕ) → b ≡ b' → z' ≡ z → part ≡ part_of z' b.tiles → KeysClimb floor part → r ≡ tile_at (slice_get part k) → IsBookOf b' values zones → IsZoneTile b'.size zones z k r
-part_tile b b' values zones z z' part k r same zone is order e =
+pub part_tile : (b b' : BookState) (values zones : Cells) (z z' : ℤ) (part : List Entry) (k : ℕ) (r : Option ℕ) → IsSize b.size → b ≡ b' → z' ≡ z → part ≡ part_of z' b.tiles → KeysClimb floor part → r ≡ tile_at (slice_get part k) → IsBookOf b' values zones → IsZoneTile b'.size zones z k r
+part_tile b b' values zones z z' part k r size same zone is order e =
     let here : part ≡ part_of z b.tiles = is ∙ ap (λ (x : ℤ). part_of x b.tiles) zone in
     let P : BookState → Type 0 = λ x. IsBookOf x values zones → IsZoneTile x.size zones z k r in
-    subst P same (λ h. zone_tile b values zones h z (subst (λ (l : List Entry). KeysClimb floor l) here order) k r (e ∙ ap (λ (l : List Entry). tile_at (slice_get l k)) here))
+    subst P same (λ h. zone_tile b size values zones h z (subst (λ (l : List Entry). KeysClimb floor l) here order) k r (e ∙ ap (λ (l : List Entry). tile_at (slice_get l k)) here))

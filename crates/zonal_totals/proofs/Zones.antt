@@ -1,5 +1,5 @@
 -- The entries of a zone, and its statistic.
-use Rattle.std.proofs.Common.{◌≡◌, inl, inr, ℕ, suc, ◌+◌, ◌-◌, ◌<◌, ◌≤◌, Bool, true, false, cond, List, [], ◌∷◌, ◌++◌, length, get_or, take, drop, refl, sym, ◌∙◌, ap, subst, arith, ℤ, pos, negsuc, ◌<ℤ◌, ◌≤ℤ◌, ◌+ℤ◌, ◌*ℤ◌}
+use Rattle.std.proofs.Common.{◌≡◌, inl, inr, ℕ, suc, ◌+◌, ◌-◌, ◌<◌, ◌≤◌, Bool, true, false, cond, List, [], ◌∷◌, ◌++◌, length, get_or, take, drop, refl, sym, ◌∙◌, ap, subst, arith, ℤ, pos, ◌<ℤ◌, ◌≤ℤ◌, ◌+ℤ◌, ◌*ℤ◌}
 use Rattle.std.specs.Prelude.{filter}
 use Rattle.std.specs.Ordering.{int_eq}
 use Rattle.std.proofs.lemmas.Int.{ints, by_lt_z}
@@ -15,7 +15,7 @@ use Rattle.map_nums.proofs.Reorders.{statistic_of-permutation}
 use Rattle.map_defs.specs.Zonal.{zone_numbers, zone_statistic}
 use Rattle.zonal_totals.specs.declared.pairs.Pair.{Pair}
 use Rattle.zonal_totals.specs.declared.entries.Entry.{Entry}
-use Rattle.zonal_totals.specs.Pairs.{rank, floor, IsShort}
+use Rattle.zonal_totals.specs.Pairs.{rank, floor, least_word, greatest_word, IsShort}
 use Rattle.zonal_totals.specs.Entries.{Climbs}
 use Rattle.zonal_totals.specs.Numbers.{numbers, part_of, KeysClimb}
 use Rattle.zonal_totals.specs.Books.{BookState, IsBookOf}
@@ -32,7 +32,7 @@ order_by : (z r k : ℤ) (e : Entry) (es : List Entry) → Climbs r (e ∷ es) �
 order_by z r k e es c h go true q =
     let same : e.pair.zone ≡ z = (Decides-int_eq e.pair.zone z).0 q in
     let s : IsShort (pair_of z e.pair.key) = record { low_zone = omega (arith, ints, c.2.low_zone, same); high_zone = omega (arith, ints, c.2.high_zone, same); low_key = c.2.low_key; high_key = c.2.high_key } in
-    let up : rank e.pair ≡ rank (pair_of z e.pair.key) = ap (λ x. (x *ℤ pos 4294967296) +ℤ e.pair.key) same in
+    let up : rank e.pair ≡ rank (pair_of z e.pair.key) = ap (λ x. (x *ℤ pos 18446744073709551616) +ℤ e.pair.key) same in
     (h e.pair.key s (omega (arith, ints, c.0, up)), c.1, go e.pair.key (λ x t l. omega (arith, ints, l, up)))
 order_by z r k e es c h go false q = go k (λ x t l. h x t (omega (arith, ints, c.0, l)))
 
@@ -53,11 +53,12 @@ filter_all : (p : Entry → Bool) (es : List Entry) → ((i : ℕ) (d : Entry) �
 filter_all p [] h = refl
 filter_all p (e ∷ es) h = let a : p e ≡ true = h 0 e (omega arith) in rw (a) (ap (λ l. e ∷ l) (filter_all p es (λ i d l. h (suc i) d (omega arith))))
 
+-- the entries from the first pair of a zone to its last
 module _ (es : List Entry) (z : ℤ) (low high : ℕ) (c : Climbs floor es) (order : low ≤ high) (within : high ≤ length es)
-    (below : (i : ℕ) (d : Entry) → i < low → rank (get_or es i d).pair <ℤ rank (pair_of z (negsuc 2147483647)))
-    (from : (i : ℕ) (d : Entry) → low ≤ i → i < length es → rank (pair_of z (negsuc 2147483647)) ≤ℤ rank (get_or es i d).pair)
-    (to : (i : ℕ) (d : Entry) → i < high → rank (get_or es i d).pair ≤ℤ rank (pair_of z (pos 2147483647)))
-    (above : (i : ℕ) (d : Entry) → high ≤ i → i < length es → rank (pair_of z (pos 2147483647)) <ℤ rank (get_or es i d).pair) where
+    (below : (i : ℕ) (d : Entry) → i < low → rank (get_or es i d).pair <ℤ rank (pair_of z least_word))
+    (from : (i : ℕ) (d : Entry) → low ≤ i → i < length es → rank (pair_of z least_word) ≤ℤ rank (get_or es i d).pair)
+    (to : (i : ℕ) (d : Entry) → i < high → rank (get_or es i d).pair ≤ℤ rank (pair_of z greatest_word))
+    (above : (i : ℕ) (d : Entry) → high ≤ i → i < length es → rank (pair_of z greatest_word) <ℤ rank (get_or es i d).pair) where
   abbrev test : Entry → Bool
   test e = int_eq e.pair.zone z
 
@@ -108,8 +109,8 @@ module _ (es : List Entry) (z : ℤ) (low high : ℕ) (c : Climbs floor es) (ord
       ∙ append-nil (filter test middle)
       ∙ middle_all)
 
-pub bounds_order : (es : List Entry) (z : ℤ) (low high : ℕ) → low ≤ length es → ((i : ℕ) (d : Entry) → i < low → rank (get_or es i d).pair <ℤ rank (pair_of z (negsuc 2147483647)))
-    → ((i : ℕ) (d : Entry) → high ≤ i → i < length es → rank (pair_of z (pos 2147483647)) <ℤ rank (get_or es i d).pair) → low ≤ high
+pub bounds_order : (es : List Entry) (z : ℤ) (low high : ℕ) → low ≤ length es → ((i : ℕ) (d : Entry) → i < low → rank (get_or es i d).pair <ℤ rank (pair_of z least_word))
+    → ((i : ℕ) (d : Entry) → high ≤ i → i < length es → rank (pair_of z greatest_word) <ℤ rank (get_or es i d).pair) → low ≤ high
 bounds_order es z low high l below above =
     elim (cases_lt high low) [
       | inl h ↦ let d : Entry = record { pair = pair_of z (pos 0); count = 0 } in absurd (omega (arith, ints, below high d h, above high d (omega arith) (omega arith)))

@@ -1,9 +1,16 @@
 -- Counts in sections of whole zones.
-use Rattle.std.specs.Prelude.{◌≡◌, ◌<◌, ◌++◌, List, [], ◌∷◌, length, ℤ, pos, negsuc, ◌+ℤ◌, ◌*ℤ◌}
+use Rattle.std.specs.Prelude.{◌≡◌, ◌^◌, ◌<◌, ◌++◌, List, [], ◌∷◌, length, ℤ, pos, negsuc, ◌+ℤ◌, ◌*ℤ◌}
+use Rattle.map_nums.specs.Stats.{total_of}
 use Rattle.zonal_totals.specs.declared.entries.Entry.{Entry}
 use Rattle.zonal_totals.specs.declared.steps.Step.{Step}
 use Rattle.zonal_totals.specs.Entries.{Climbs}
 use Rattle.zonal_totals.specs.Merges.{IsMerged}
+use Rattle.zonal_totals.specs.Numbers.{numbers}
+
+-- a section keeps the sum of its entries, which are so few that 128 bits hold it
+pub record IsSection (es : List Entry) (sum : ℤ) : Type 0 where
+  pub total : sum ≡ total_of (numbers es)
+  pub few : length es < 2 ^ 31
 
 -- the entries of all sections
 abbrev pub joined : List (List Entry) → List Entry
@@ -12,11 +19,11 @@ joined (es ∷ cs) = es ++ joined cs
 
 -- no pair of zone z ranks higher
 abbrev pub end_of : ℤ → ℤ
-end_of z = (z *ℤ pos 4294967296) +ℤ pos 2147483647
+end_of z = (z *ℤ pos 18446744073709551616) +ℤ pos 9223372036854775807
 
 -- below every zone
 abbrev pub lowest : ℤ
-lowest = negsuc 2147483648
+lowest = negsuc 9223372036854775808
 
 -- the zone of the last entry, z where there is none
 abbrev pub last_zone : ℤ → List Entry → ℤ

@@ -212,6 +212,7 @@ impl Book {
     fn zone_tile(&self, zone: Value, k: u32) -> Option<u32>
         ensures { (values zones : Cells) → IsBookOf self.now values zones → IsZoneTile self.now.size zones zone k result }
     {
+        let _size = self.extent.tiles();
         nth_tile(self.tiles.part(zone).entries, k)
     }
 
@@ -227,16 +228,16 @@ impl Book {
     }
 }
 
-/// The tile of the entry at a place, none past the last.
+/// The tile of the entry at a place, none past the last and where the key has more than 32 bits.
 fn nth_tile(part: &[Entry], k: u32) -> Option<u32>
     ensures { result ≡ tile_at (slice_get part.now k) }
 {
     if k as usize >= part.len() {
         return None;
     }
-    let entry = part[k as usize];
-    if entry.pair.key < 0 {
+    let tile = part[k as usize].pair.key as i64;
+    if tile < 0 || tile > u32::MAX as i64 {
         return None;
     }
-    Some(entry.pair.key as u32)
+    Some(tile as u32)
 }

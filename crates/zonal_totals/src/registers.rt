@@ -1,5 +1,5 @@
 //! The counts of one list of a book.
-ghost use Rattle.std.specs.Prelude.{◌≡◌, [], IfSome, IfOk};
+ghost use Rattle.std.specs.Prelude.{◌≡◌, ◌^◌, ◌<◌, [], length, IfSome, IfOk};
 ghost use Rattle.map_nums.specs.Stats.{total_of};
 ghost use Rattle.zonal_totals.specs.Pairs.{floor};
 ghost use Rattle.zonal_totals.specs.Numbers.{numbers, part_of, KeysClimb};
@@ -54,6 +54,7 @@ impl Register {
     /// The counts of a zone.
     pub(crate) fn part(&self, zone: Value) -> Part<'_>
         ensures part { result.entries.now ≡ part_of zone self.now }
+        ensures few { length result.entries.now < 2 ^ 31 }
         ensures order { KeysClimb floor result.entries.now }
         ensures known { IfSome result.known (λ sum. sum ≡ total_of (numbers result.entries.now)) }
     {

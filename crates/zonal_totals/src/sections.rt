@@ -1,5 +1,5 @@
 //! Counts in sections of whole zones, which registers share.
-ghost use Rattle.std.specs.Prelude.{◌≡◌, ◌≢◌, ℕ, ◌-◌, ◌<◌, ◌≤◌, ◌++◌, ◌≤ℤ◌, ◌<ℤ◌, ◌+ℤ◌, List, [], length, slice_index_or, IfSome, IfOk, OnOk, IsTrue};
+ghost use Rattle.std.specs.Prelude.{◌≡◌, ◌≢◌, ℕ, ◌-◌, ◌^◌, ◌<◌, ◌≤◌, ◌++◌, ◌≤ℤ◌, ◌<ℤ◌, ◌+ℤ◌, List, [], length, slice_index_or, IfSome, IfOk, OnOk, IsTrue};
 ghost use Rattle.map_nums.specs.Stats.{total_of};
 ghost use Rattle.zonal_totals.specs.declared.entries.Entry.{Entry};
 ghost use Rattle.zonal_totals.specs.declared.steps.Step.{Step};
@@ -14,7 +14,7 @@ ghost use Rattle.zonal_totals.specs.Sections.{joined, end_of, lowest, last_zone,
 use crate::entries::{Entry, zone_part};
 use crate::merges::merged;
 use crate::pairs::Pair;
-use crate::stats::{sum_of, total};
+use crate::stats::sum_of;
 use crate::steps::Step;
 use map_nums::{NoMemory, Value};
 use std::alloc::Global;
@@ -24,6 +24,9 @@ use std::sync::Arc;
 /// How many entries a section has at least, where another one was cut off behind it.
 const FULL: usize = 1024;
 
+/// How many entries a section has at most: 128 bits hold the sum of so many.
+const MOST: usize = 2_147_483_647;
+
 /// Entries of whole zones, with the sum of their numbers.
 #[derive(Drop)]
 pub(crate) struct Section {
@@ -32,17 +35,16 @@ pub(crate) struct Section {
 }
 
 impl Model for Section {
-    ghost use Rattle.std.specs.Prelude.{◌≡◌, List};
+    ghost use Rattle.std.specs.Prelude.{List};
     ghost use Rattle.std.specs.Arc.{arc_value};
-    ghost use Rattle.map_nums.specs.Stats.{total_of};
     ghost use Rattle.zonal_totals.specs.declared.entries.Entry.{Entry};
-    ghost use Rattle.zonal_totals.specs.Numbers.{numbers};
+    ghost use Rattle.zonal_totals.specs.Sections.{IsSection};
 
     ghost Value = { List Entry };
 
     ghost view = { λ s. (arc_value s.entries).items };
 
-    ghost invariant = { λ s. s.total ≡ total_of (numbers (arc_value s.entries).items) };
+    ghost invariant = { λ s. IsSection (arc_value s.entries).items s.total };
 }
 
 /// The entries of a zone, with the sum of its numbers where that is known.
@@ -53,17 +55,15 @@ pub(crate) struct Part<'a> {
 }
 
 impl Section {
-    fn of(alloc: Global, entries: Vec<Entry>) -> Result<Section, NoMemory>
+    /// A section of entries whose sum may be known. More than `MOST` are want of memory.
+    fn of(alloc: Global, entries: Vec<Entry>, known: Option<i128>) -> Result<Section, NoMemory>
+        requires { IfSome known (λ sum. sum ≡ total_of (numbers entries.items)) }
         ensures { IfOk result (λ section. section ≡ entries.items) }
     {
-        let sum = total(&entries);
-        Section::with_total(alloc, entries, sum)
-    }
-
-    fn with_total(alloc: Global, entries: Vec<Entry>, total: i128) -> Result<Section, NoMemory>
-        requires { total ≡ total_of (numbers entries.items) }
-        ensures { IfOk result (λ section. section ≡ entries.items) }
-    {
+        if entries.len() > MOST {
+            return Err(NoMemory);
+        }
+        let total = sum_of(&entries, known);
         Ok(Section {
             entries: Arc::new(alloc, entries)?,
             total,
@@ -81,7 +81,8 @@ impl Section {
     }
 
     fn entries(&self) -> &[Entry]
-        ensures { result.now ≡ self.now }
+        ensures entries { result.now ≡ self.now }
+        ensures few { length result.now < 2 ^ 31 }
     {
         self.entries.as_slice()
     }
@@ -182,7 +183,7 @@ fn cut(alloc: Global, sections: &mut Vec<Section>, entries: &[Entry]) -> Result<
     while from < entries.len() {
         let end = section_end(entries, from);
         let piece = Vec::from_slice(alloc, &entries[from..end])?;
-        sections.push(Section::of(alloc, piece)?)?;
+        sections.push(Section::of(alloc, piece, None)?)?;
         from = end;
     }
     Ok(())
@@ -235,9 +236,9 @@ fn renew(
     }
     let mut entries = merged(alloc, section.entries(), steps)?;
     if is_one_zone(&entries) {
-        let sum = sum_of(&entries, total_after(section, steps));
+        let known = total_after(section, steps);
         entries.shrink_to_fit();
-        sections.push(Section::with_total(alloc, entries, sum)?)?;
+        sections.push(Section::of(alloc, entries, known)?)?;
         return Ok(());
     }
     cut(alloc, sections, &entries)
@@ -283,6 +284,7 @@ pub(crate) fn shared(alloc: Global, base: &[Section]) -> Result<Vec<Section>, No
 pub(crate) fn zone_of(sections: &[Section], zone: Value) -> Part<'_>
     requires { AreSections lowest sections.now }
     ensures entries { result.entries.now ≡ part_of zone (joined sections.now) }
+    ensures few { length result.entries.now < 2 ^ 31 }
     ensures known { IfSome result.known (λ sum. sum ≡ total_of (numbers result.entries.now)) }
 {
     let pair = Pair { zone, key: 0 };

@@ -8,7 +8,7 @@ use Rattle.cell_kinds.specs.declared.combinations.Pair.{Pair}
 use Rattle.cell_kinds.specs.Counted.{combination_from, same_pair, rank, counted_pairs}
 use Rattle.cell_kinds.specs.Runs.{runs_of}
 use Rattle.cell_kinds.proofs.PairRuns.{sorted_pairs}
-use Rattle.cell_kinds.proofs.Looks.{both_rise, first_rise}
+use Rattle.layer_tiles.proofs.RowLooks.{both_rise, first_rise}
 use Rattle.cell_kinds.proofs.combinations.combinations_of.Goals as goal
 
 pub paired-requires : goal.paired-requires

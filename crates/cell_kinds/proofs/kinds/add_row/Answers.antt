@@ -1,8 +1,8 @@
 use Rattle.std.proofs.Common.{◌+◌, ◌*◌, ◌/◌, ◌%◌, ◌<◌, ◌++◌, take, drop, ap, sym, subst, ◌∙◌, arith}
 use Rattle.layer_tiles.specs.Tiles.{Block, tiles_across}
 use Rattle.cell_kinds.specs.Expanded.{expanded}
-use Rattle.cell_kinds.proofs.RowsOfTiles.{crosses, behind_more, row_whole}
-use Rattle.cell_kinds.proofs.Looks.{then_looks}
+use Rattle.layer_tiles.proofs.RowsOfTiles.{crosses, behind_more, row_whole}
+use Rattle.layer_tiles.proofs.RowLooks.{then_looks}
 use Rattle.cell_kinds.proofs.kinds.add_row.Goals as goal
 
 pub row-requires : goal.row-requires

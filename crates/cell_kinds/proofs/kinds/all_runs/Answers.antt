@@ -1,7 +1,7 @@
 use Rattle.std.proofs.Common.{◌+◌, ◌*◌, arith}
 use Rattle.layer_tiles.specs.Tiles.{tiles_across}
-use Rattle.cell_kinds.proofs.RowsOfTiles.{rows_more}
-use Rattle.cell_kinds.proofs.Looks.{then_rises}
+use Rattle.layer_tiles.proofs.RowsOfTiles.{rows_more}
+use Rattle.layer_tiles.proofs.RowLooks.{then_rises}
 use Rattle.cell_kinds.proofs.kinds.all_runs.Goals as goal
 
 pub add_row-requires-clause-filled : goal.add_row-requires-clause-filled

@@ -11,7 +11,7 @@ use Rattle.cell_kinds.specs.Counted.{kind_from, counted_kinds}
 use Rattle.cell_kinds.specs.Runs.{runs_of}
 use Rattle.cell_kinds.specs.Expanded.{expanded, AreFilled}
 use Rattle.cell_kinds.proofs.Expanded.{sorted_filled, sorted_few, sorted_runs}
-use Rattle.cell_kinds.proofs.Looks.{rows_rise}
+use Rattle.layer_tiles.proofs.RowLooks.{rows_rise}
 use Rattle.cell_kinds.proofs.kinds.kinds_of.Goals as goal
 
 pub joined-requires-clause-filled : goal.joined-requires-clause-filled

@@ -1,6 +1,6 @@
 use Rattle.std.proofs.Common.{◌+◌, ◌*◌, ◌/◌, ◌<◌, ◌∙◌, ap, subst, sym, arith}
 use Rattle.layer_tiles.specs.Tiles.{tiles_across, tiles_in}
-use Rattle.cell_kinds.proofs.RowsOfTiles.{few_tiles, crosses}
+use Rattle.layer_tiles.proofs.RowsOfTiles.{few_tiles, crosses}
 use Rattle.cell_kinds.proofs.rows.crossed_tile.Goals as goal
 
 pub overflow_mul-r : goal.overflow_mul-r

@@ -1,4 +1,5 @@
-use Rattle.std.proofs.Common.{◌≡◌, ℤ, Option, Some, rules, sym, ◌∙◌, ap, w32}
+use Rattle.std.proofs.Common.{◌≡◌, ℤ, Option, Some, rules, sym, ◌∙◌, ap}
+use Rattle.map_nums.specs.Widths.{value_width}
 use mir.Val.{SFits, to_z, of_z}
 use Rattle.std.proofs.lemmas.Int.{to_z-of_z}
 use Rattle.map_nums.specs.Grids.{cell_at}
@@ -10,6 +11,6 @@ returns-in_default c = direction_null c.args.extent c.args.window.now.cells c.ar
 
 pub returns : goal.returns
 returns c =
-    let fits : SFits w32 c.in-Some.here = search rules in
-    let e : Some (to_z w32 (of_z w32 c.in-Some.here)) ≡ cell_at c.args.window.now.cells c.args.at = ap (λ (z : ℤ). let o : Option ℤ = Some z in o) (to_z-of_z w32 c.in-Some.here fits) ∙ c.in-Some.ensures.value ∙ c.lent_cell.ensures in
-    direction_is c.args.extent c.args.window.now.cells c.args.at (to_z w32 (of_z w32 c.in-Some.here)) c.winner.result c.numbered.result e (c.winner.ensures.winner c.args.extent c.args.window.now.cells c.args.at (sym e) c.lent_around-around.ensures) c.numbered.ensures.number
+    let fits : SFits value_width c.in-Some.here = search rules in
+    let e : Some (to_z value_width (of_z value_width c.in-Some.here)) ≡ cell_at c.args.window.now.cells c.args.at = ap (λ (z : ℤ). let o : Option ℤ = Some z in o) (to_z-of_z value_width c.in-Some.here fits) ∙ c.in-Some.ensures.value ∙ c.lent_cell.ensures in
+    direction_is c.args.extent c.args.window.now.cells c.args.at (to_z value_width (of_z value_width c.in-Some.here)) c.winner.result c.numbered.result e (c.winner.ensures.winner c.args.extent c.args.window.now.cells c.args.at (sym e) c.lent_around-around.ensures) c.numbered.ensures.number

@@ -1,4 +1,5 @@
-use Rattle.std.proofs.Common.{◌≡◌, ◌<◌, ℤ, None, [], ◌∷◌, ◌++◌, length, rules, ◌∙◌, ap, arith, w64}
+use Rattle.std.proofs.Common.{◌≡◌, ◌<◌, ℤ, None, [], ◌∷◌, ◌++◌, length, rules, ◌∙◌, ap, arith}
+use mir.Syntax.{w128}
 use mir.Val.{SFits, to_z, of_z}
 use Rattle.std.proofs.lemmas.Int.{to_z-of_z}
 use Rattle.std.proofs.lemmas.List.{get_or_default}
@@ -12,10 +13,10 @@ loop-at-preserved c =
     let at = c.loop-at.at in
     let surface = c.args.surface.now in
     let weights = c.args.weights.now in
-    let fits : SFits w64 c.brought.result = search rules in
-    let same : to_z w64 (of_z w64 c.brought.result) ≡ c.brought.result = to_z-of_z w64 c.brought.result fits in
+    let fits : SFits w128 c.brought.result = search rules in
+    let same : to_z w128 (of_z w128 c.brought.result) ≡ c.brought.result = to_z-of_z w128 c.brought.result fits in
     let within : at < length surface = omega (arith, c.loop-at-test.true) in
     brought_more surface weights at c.loop-at.amounts.items c.push.new.self.items c.brought.result c.loop-at.invariant
     (c.brought.ensures.brought ∙ ap (λ o. brought o c.index-weights-at.result) (c.index-surface-at.is ∙ get_or_default surface at c.index-surface-at.result None within) ∙ ap (brought (cell_at surface at)) (c.index-weights-at.is ∙ get_or_default weights at c.index-weights-at.result None (omega (arith, within, c.requires))))
-    c.brought.ensures.high c.brought.ensures.low
+    c.brought.ensures.small
     (c.in_ok-push.ensures.items ∙ ap (λ (z : ℤ). c.loop-at.amounts.items ++ z ∷ []) same)

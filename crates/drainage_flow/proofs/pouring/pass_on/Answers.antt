@@ -1,4 +1,5 @@
-use Rattle.std.proofs.Common.{◌≡◌, length, get_or, set, Some, None, rules, sym, ◌∙◌, ap, arith, w64}
+use Rattle.std.proofs.Common.{◌≡◌, length, get_or, set, Some, None, rules, sym, ◌∙◌, ap, arith}
+use mir.Syntax.{w128}
 use mir.Val.{SFits, to_z, of_z}
 use Rattle.std.proofs.lemmas.Int.{ints, to_z-of_z}
 use Rattle.std.proofs.lemmas.List.{get_or_default, length-set}
@@ -65,8 +66,8 @@ to c = ap (λ (b : FlowBand). down_in b.downs.items c.seat-k.result.1) (get_or_d
 inside : (c : After-index-bands-m) → place_in c.args.first (length (all_downs c.args.bands.now)) c.in-Some.down ≡ Some c.in-Some-place_in.next
 inside c = ap (λ n. place_in c.args.first n c.in-Some.down) (sym c.requires.count) ∙ sym c.in-Some-place_in.ensures
 
-amount : (c : After-index-bands-m) → to_z w64 (of_z w64 c.leave-amount.result) ≡ flow_in (get_or c.args.bands.now c.seat-k.result.0 c.index-bands-k-2.result).flows.items c.seat-k.result.1
-amount c = let fits : SFits w64 c.leave-amount.result = search rules in to_z-of_z w64 c.leave-amount.result fits ∙ c.leave-amount.ensures.amount
+amount : (c : After-index-bands-m) → to_z w128 (of_z w128 c.leave-amount.result) ≡ flow_in (get_or c.args.bands.now c.seat-k.result.0 c.index-bands-k-2.result).flows.items c.seat-k.result.1
+amount c = let fits : SFits w128 c.leave-amount.result = search rules in to_z-of_z w128 c.leave-amount.result fits ∙ c.leave-amount.ensures.amount
 
 after : (c : After-index-bands-m) → AreEven (set c.args.bands.now c.seat-k.result.0 c.leave-amount.new.self)
 after c = let x = c.leave-amount.ensures in left_even c.args.bands.now c.requires.even c.args.first c.args.at c.seat-k.result.0 c.seat-k.result.1 c.index-bands-k-2.result c.seat-k.ensures.seat c.leave-amount.new.self c.in-Some.down (to c) x.downs x.waits x.flows
@@ -95,7 +96,7 @@ there c =
     flow_there c.args.bands.now c.requires.even c.args.first c.args.at c.seat-k.result.0 c.seat-k.result.1 c.index-bands-k-2.result c.seat-k.ensures.seat c.leave-amount.new.self c.in-Some.down (to c) x.downs x.waits x.flows
     c.in-Some-place_in.next c.seat-m.result.0 c.seat-m.result.1 c.index-bands-m.result (inside c) c.seat-m.ensures.seat
 
-here : (c : After-index-bands-m) → flow_in (all_flows c.args.bands.now) c.args.at ≡ to_z w64 (of_z w64 c.leave-amount.result)
+here : (c : After-index-bands-m) → flow_in (all_flows c.args.bands.now) c.args.at ≡ to_z w128 (of_z w128 c.leave-amount.result)
 here c = flow_here c.args.bands.now c.requires.even c.args.first c.args.at c.seat-k.result.0 c.seat-k.result.1 c.index-bands-k-2.result c.seat-k.ensures.seat ∙ sym (amount c)
 
 down : (c : After-index-bands-m) → down_in (all_downs c.args.bands.now) c.args.at ≡ Some c.in-Some.down
@@ -119,7 +120,7 @@ returns-then-take_in-clause-even c =
     let x = c.leave-amount.ensures in
     let y = c.take_in.ensures in
     taken_even c.args.bands.now c.requires.even c.args.first c.args.at c.seat-k.result.0 c.seat-k.result.1 c.index-bands-k-2.result c.seat-k.ensures.seat c.leave-amount.new.self c.in-Some.down (to d) x.downs x.waits x.flows
-    c.in-Some-place_in.next c.seat-m.result.0 c.seat-m.result.1 c.index-bands-m.result (inside d) c.seat-m.ensures.seat c.take_in.new.self c.take_in.result (to_z w64 (of_z w64 c.leave-amount.result)) (amount d) y.downs y.waits y.flows
+    c.in-Some-place_in.next c.seat-m.result.0 c.seat-m.result.1 c.index-bands-m.result (inside d) c.seat-m.ensures.seat c.take_in.new.self c.take_in.result (to_z w128 (of_z w128 c.leave-amount.result)) (amount d) y.downs y.waits y.flows
 
 pub returns-then-take_in-clause-counts : goal.returns-then-take_in-clause-counts
 returns-then-take_in-clause-counts c =
@@ -127,7 +128,7 @@ returns-then-take_in-clause-counts c =
     let x = c.leave-amount.ensures in
     let y = c.take_in.ensures in
     taken_counts c.args.bands.now c.requires.even c.args.first c.args.at c.seat-k.result.0 c.seat-k.result.1 c.index-bands-k-2.result c.seat-k.ensures.seat c.leave-amount.new.self c.in-Some.down (to d) x.downs x.waits x.flows
-    c.in-Some-place_in.next c.seat-m.result.0 c.seat-m.result.1 c.index-bands-m.result (inside d) c.seat-m.ensures.seat c.take_in.new.self c.take_in.result (to_z w64 (of_z w64 c.leave-amount.result)) (amount d) y.downs y.waits y.flows
+    c.in-Some-place_in.next c.seat-m.result.0 c.seat-m.result.1 c.index-bands-m.result (inside d) c.seat-m.ensures.seat c.take_in.new.self c.take_in.result (to_z w128 (of_z w128 c.leave-amount.result)) (amount d) y.downs y.waits y.flows
 
 pub returns-then-take_in-clause-passes : goal.returns-then-take_in-clause-passes
 returns-then-take_in-clause-passes c =
@@ -135,7 +136,7 @@ returns-then-take_in-clause-passes c =
     let x = c.leave-amount.ensures in
     let y = c.take_in.ensures in
     passes_ready c.args.bands.now c.requires.even c.args.first c.args.at c.seat-k.result.0 c.seat-k.result.1 c.index-bands-k-2.result c.seat-k.ensures.seat c.leave-amount.new.self c.in-Some.down (to d) x.downs x.waits x.flows
-    c.in-Some-place_in.next c.seat-m.result.0 c.seat-m.result.1 c.index-bands-m.result (inside d) c.seat-m.ensures.seat c.take_in.new.self c.take_in.result (to_z w64 (of_z w64 c.leave-amount.result)) (amount d) y.downs y.waits y.flows c.if-take_in.true
+    c.in-Some-place_in.next c.seat-m.result.0 c.seat-m.result.1 c.index-bands-m.result (inside d) c.seat-m.ensures.seat c.take_in.new.self c.take_in.result (to_z w128 (of_z w128 c.leave-amount.result)) (amount d) y.downs y.waits y.flows c.if-take_in.true
 
 pub returns-clause-even : goal.returns-clause-even
 returns-clause-even c =
@@ -143,7 +144,7 @@ returns-clause-even c =
     let x = c.leave-amount.ensures in
     let y = c.take_in.ensures in
     taken_even c.args.bands.now c.requires.even c.args.first c.args.at c.seat-k.result.0 c.seat-k.result.1 c.index-bands-k-2.result c.seat-k.ensures.seat c.leave-amount.new.self c.in-Some.down (to d) x.downs x.waits x.flows
-    c.in-Some-place_in.next c.seat-m.result.0 c.seat-m.result.1 c.index-bands-m.result (inside d) c.seat-m.ensures.seat c.take_in.new.self c.take_in.result (to_z w64 (of_z w64 c.leave-amount.result)) (amount d) y.downs y.waits y.flows
+    c.in-Some-place_in.next c.seat-m.result.0 c.seat-m.result.1 c.index-bands-m.result (inside d) c.seat-m.ensures.seat c.take_in.new.self c.take_in.result (to_z w128 (of_z w128 c.leave-amount.result)) (amount d) y.downs y.waits y.flows
 
 pub returns-clause-counts : goal.returns-clause-counts
 returns-clause-counts c =
@@ -151,7 +152,7 @@ returns-clause-counts c =
     let x = c.leave-amount.ensures in
     let y = c.take_in.ensures in
     taken_counts c.args.bands.now c.requires.even c.args.first c.args.at c.seat-k.result.0 c.seat-k.result.1 c.index-bands-k-2.result c.seat-k.ensures.seat c.leave-amount.new.self c.in-Some.down (to d) x.downs x.waits x.flows
-    c.in-Some-place_in.next c.seat-m.result.0 c.seat-m.result.1 c.index-bands-m.result (inside d) c.seat-m.ensures.seat c.take_in.new.self c.take_in.result (to_z w64 (of_z w64 c.leave-amount.result)) (amount d) y.downs y.waits y.flows
+    c.in-Some-place_in.next c.seat-m.result.0 c.seat-m.result.1 c.index-bands-m.result (inside d) c.seat-m.ensures.seat c.take_in.new.self c.take_in.result (to_z w128 (of_z w128 c.leave-amount.result)) (amount d) y.downs y.waits y.flows
 
 pub returns-clause-passes : goal.returns-clause-passes
 returns-clause-passes c =
@@ -159,4 +160,4 @@ returns-clause-passes c =
     let x = c.leave-amount.ensures in
     let y = c.take_in.ensures in
     passes_waits c.args.bands.now c.requires.even c.args.first c.args.at c.seat-k.result.0 c.seat-k.result.1 c.index-bands-k-2.result c.seat-k.ensures.seat c.leave-amount.new.self c.in-Some.down (to d) x.downs x.waits x.flows
-    c.in-Some-place_in.next c.seat-m.result.0 c.seat-m.result.1 c.index-bands-m.result (inside d) c.seat-m.ensures.seat c.take_in.new.self c.take_in.result (to_z w64 (of_z w64 c.leave-amount.result)) (amount d) y.downs y.waits y.flows c.if-take_in.false
+    c.in-Some-place_in.next c.seat-m.result.0 c.seat-m.result.1 c.index-bands-m.result (inside d) c.seat-m.ensures.seat c.take_in.new.self c.take_in.result (to_z w128 (of_z w128 c.leave-amount.result)) (amount d) y.downs y.waits y.flows c.if-take_in.false

@@ -1,4 +1,5 @@
-use Rattle.std.proofs.Common.{◌≡◌, ◌≢◌, ◌∙◌, sym, ap, true, false, List, Option, ℤ, w64}
+use Rattle.std.proofs.Common.{◌≡◌, ◌≢◌, ◌∙◌, sym, ap, true, false, List, Option, ℤ}
+use mir.Syntax.{w128}
 use Rattle.std.proofs.lemmas.Int.{to_z-of_z}
 use Rattle.map_nums.specs.Grids.{cell_at}
 use Rattle.tile_work.specs.Working.{base_of, written}
@@ -8,7 +9,7 @@ use Rattle.drainage_flow.proofs.showing.show.Goals as goal
 use Rattle.drainage_flow.proofs.showing.show.Goals.{After-one_more}
 
 cell_is : (g : _) (c : After-one_more g) → c.shown-cell.result ≡ shown (cell_at c.args.surface.now.cells c.args.at) c.args.amount
-cell_is g c = c.shown-cell.ensures ∙ ap (shown c.cell-height.result) (to_z-of_z w64 c.args.amount c.ranges.amount) ∙ ap (λ (o : Option ℤ). shown o c.args.amount) c.cell-height.ensures.cell
+cell_is g c = c.shown-cell.ensures ∙ ap (shown c.cell-height.result) (to_z-of_z w128 c.args.amount c.ranges.amount) ∙ ap (λ (o : Option ℤ). shown o c.args.amount) c.cell-height.ensures.cell
 
 other : (g : _) (c : After-one_more g) → cell_at c.args.flows.now.cells c.args.at ≢ shown (cell_at c.args.surface.now.cells c.args.at) c.args.amount
 other g c = λ e.

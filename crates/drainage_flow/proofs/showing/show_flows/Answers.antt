@@ -1,9 +1,10 @@
-use Rattle.std.proofs.Common.{◌≡◌, ◌+◌, ◌*◌, pos, get_or, arith, w64}
+use Rattle.std.proofs.Common.{◌≡◌, ◌+◌, ◌*◌, pos, get_or, arith}
+use mir.Syntax.{w128}
 use mir.Val.{to_z, of_z}
 use Rattle.std.proofs.lemmas.Int.{to_z-of_z}
 use Rattle.std.proofs.lemmas.Result.{err_from_is_err_and}
 use Rattle.tile_work.specs.Working.{copies}
-use Rattle.drainage_flow.proofs.Shown.{forward_put, flows_next, worked_few, same_then, rises_on, value_fits}
+use Rattle.drainage_flow.proofs.Shown.{forward_put, flows_next, worked_few, same_then, rises_on, value_wide}
 use Rattle.drainage_flow.proofs.showing.show_flows.Goals as goal
 
 pub show-requires-clause-few : goal.show-requires-clause-few
@@ -13,8 +14,8 @@ pub returns-in_err-worked-clause-copied : goal.returns-in_err-worked-clause-copi
 returns-in_err-worked-clause-copied g c = λ flow p h.
     let puts = c.args.puts.now in
     let k = c.loop-put.put-index in
-    let z = to_z w64 (of_z w64 (get_or puts k (0, pos 0)).1) in
-    let is : z ≡ (get_or puts k (0, pos 0)).1 = to_z-of_z w64 (get_or puts k (0, pos 0)).1 (value_fits (get_or puts k (0, pos 0)).1 (c.requires.in_range k (0, pos 0) c.loop-put-test.true)) in
+    let z = to_z w128 (of_z w128 (get_or puts k (0, pos 0)).1) in
+    let is : z ≡ (get_or puts k (0, pos 0)).1 = to_z-of_z w128 (get_or puts k (0, pos 0)).1 (value_wide (get_or puts k (0, pos 0)).1 (c.requires.in_range k (0, pos 0) c.loop-put-test.true)) in
     c.in_err-worked.ensures.copied c.args.old.now.cells flow (forward_put c.args.surface.now.size c.args.surface.now.cells c.args.old.now.cells puts k (0, pos 0) z c.loop-put.flows flow is c.loop-put.invariant.cells p c.loop-put-test.true) (c.loop-put.invariant.copied flow p h)
 
 pub returns-in_err-worked-clause-err : goal.returns-in_err-worked-clause-err
@@ -22,8 +23,8 @@ returns-in_err-worked-clause-err g c =
     let r = err_from_is_err_and c.from_residual.result c.from_residual.ensures.1 in
     let puts = c.args.puts.now in
     let k = c.loop-put.put-index in
-    let z = to_z w64 (of_z w64 (get_or puts k (0, pos 0)).1) in
-    let is : z ≡ (get_or puts k (0, pos 0)).1 = to_z-of_z w64 (get_or puts k (0, pos 0)).1 (value_fits (get_or puts k (0, pos 0)).1 (c.requires.in_range k (0, pos 0) c.loop-put-test.true)) in
+    let z = to_z w128 (of_z w128 (get_or puts k (0, pos 0)).1) in
+    let is : z ≡ (get_or puts k (0, pos 0)).1 = to_z-of_z w128 (get_or puts k (0, pos 0)).1 (value_wide (get_or puts k (0, pos 0)).1 (c.requires.in_range k (0, pos 0) c.loop-put-test.true)) in
     rw (r.1) (λ flow p. ((get_or puts k (0, pos 0)).0, c.requires.within k (0, pos 0) c.loop-put-test.true, (forward_put c.args.surface.now.size c.args.surface.now.cells c.args.old.now.cells puts k (0, pos 0) z c.loop-put.flows flow is c.loop-put.invariant.cells p c.loop-put-test.true).changes c.in_err-worked.ensures.err))
 
 pub loop-put-preserved : goal.loop-put-preserved
@@ -34,8 +35,8 @@ loop-put-preserved g c =
     let puts = c.args.puts.now in
     let k = c.loop-put.put-index in
     let i = c.loop-put.invariant in
-    let z = to_z w64 (of_z w64 (get_or puts k (0, pos 0)).1) in
-    let is : z ≡ (get_or puts k (0, pos 0)).1 = to_z-of_z w64 (get_or puts k (0, pos 0)).1 (value_fits (get_or puts k (0, pos 0)).1 (c.requires.in_range k (0, pos 0) c.loop-put-test.true)) in
+    let z = to_z w128 (of_z w128 (get_or puts k (0, pos 0)).1) in
+    let is : z ≡ (get_or puts k (0, pos 0)).1 = to_z-of_z w128 (get_or puts k (0, pos 0)).1 (value_wide (get_or puts k (0, pos 0)).1 (c.requires.in_range k (0, pos 0) c.loop-put-test.true)) in
     record {
       same = same_then c.args.flows.now c.loop-put.flows c.show.new.flows i.same c.in_ok-worked.ensures.same;
       worked = c.in_ok-worked.ensures.worked old c.requires.flow.0 (forward_put s surface old puts k (0, pos 0) z c.loop-put.flows c.requires.flow.0 is i.cells c.requires.flow.1 c.loop-put-test.true) i.worked;

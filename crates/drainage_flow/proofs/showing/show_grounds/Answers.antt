@@ -1,4 +1,6 @@
-use Rattle.std.proofs.Common.{◌≡◌, ◌+◌, ◌*◌, ◌∙◌, get_or, refl, ap, rules, arith, ℤ, w32, w64}
+use Rattle.std.proofs.Common.{◌≡◌, ◌+◌, ◌*◌, ◌∙◌, get_or, refl, ap, rules, arith, ℤ}
+use Rattle.map_nums.specs.Widths.{value_width}
+use mir.Syntax.{w128}
 use mir.Val.{SFits, to_z, of_z}
 use Rattle.std.proofs.lemmas.Int.{to_z-of_z}
 use Rattle.std.proofs.lemmas.Result.{err_from_is_err_and}
@@ -14,10 +16,10 @@ show-requires-clause-few g c = worked_few c.args.surface.now.size c.args.old.now
 pub returns-in_err-worked-clause-err : goal.returns-in_err-worked-clause-err
 returns-in_err-worked-clause-err g c =
     let r = err_from_is_err_and c.from_residual.result c.from_residual.ensures.1 in
-    let fits : SFits w64 c.number-amount.result = search rules in
-    let short : SFits w32 c.number-amount.result = search rules in
-    let z = to_z w64 (of_z w64 (to_z w32 (of_z w32 c.number-amount.result))) in
-    let same : z ≡ number_at c.args.old.now.cells (get_or c.args.changed.now c.loop-at.at-index 0) = ap (λ (y : ℤ). to_z w64 (of_z w64 y)) (to_z-of_z w32 c.number-amount.result short) ∙ to_z-of_z w64 c.number-amount.result fits ∙ c.number-amount.ensures ∙ ap number_of c.cell.ensures.cell in
+    let fits : SFits w128 c.number-amount.result = search rules in
+    let short : SFits value_width c.number-amount.result = search rules in
+    let z = to_z w128 (of_z w128 (to_z value_width (of_z value_width c.number-amount.result))) in
+    let same : z ≡ number_at c.args.old.now.cells (get_or c.args.changed.now c.loop-at.at-index 0) = ap (λ (y : ℤ). to_z w128 (of_z w128 y)) (to_z-of_z value_width c.number-amount.result short) ∙ to_z-of_z w128 c.number-amount.result fits ∙ c.number-amount.ensures.number ∙ ap number_of c.cell.ensures.cell in
     rw (r.1) (ground_at c.args.surface.now.size c.args.surface.now.cells c.args.old.now.cells c.args.changed.now c.loop-at.at-index c.loop-at.flows (get_or c.args.changed.now c.loop-at.at-index 0) z c.loop-at.invariant.grounded (c.requires.within c.loop-at.at-index 0 c.loop-at-test.true) same c.in_err-worked.ensures.err)
 
 pub loop-at-preserved : goal.loop-at-preserved
@@ -29,10 +31,10 @@ loop-at-preserved g c =
     let k = c.loop-at.at-index in
     let i = c.loop-at.invariant in
     let e = c.in_ok-worked.ensures in
-    let fits : SFits w64 c.number-amount.result = search rules in
-    let short : SFits w32 c.number-amount.result = search rules in
-    let z = to_z w64 (of_z w64 (to_z w32 (of_z w32 c.number-amount.result))) in
-    let same : z ≡ number_at old (get_or changed k 0) = ap (λ (y : ℤ). to_z w64 (of_z w64 y)) (to_z-of_z w32 c.number-amount.result short) ∙ to_z-of_z w64 c.number-amount.result fits ∙ c.number-amount.ensures ∙ ap number_of c.cell.ensures.cell in
+    let fits : SFits w128 c.number-amount.result = search rules in
+    let short : SFits value_width c.number-amount.result = search rules in
+    let z = to_z w128 (of_z w128 (to_z value_width (of_z value_width c.number-amount.result))) in
+    let same : z ≡ number_at old (get_or changed k 0) = ap (λ (y : ℤ). to_z w128 (of_z w128 y)) (to_z-of_z value_width c.number-amount.result short) ∙ to_z-of_z w128 c.number-amount.result fits ∙ c.number-amount.ensures.number ∙ ap number_of c.cell.ensures.cell in
     let within = c.requires.within k 0 c.loop-at-test.true in
     record {
       same = same_then c.args.flows.now c.loop-at.flows c.show.new.flows i.same e.same;

@@ -1,4 +1,5 @@
-use Rattle.std.proofs.Common.{rules, ◌≡◌, ◌+◌, ◌<◌, ◌≤◌, ℕ, List, length, get_or, ◌∙◌, ap, subst, arith, w64, SFits, to_z-of_z}
+use Rattle.std.proofs.Common.{rules, ◌≡◌, ◌+◌, ◌<◌, ◌≤◌, ℕ, List, length, get_or, ◌∙◌, ap, subst, arith, SFits, to_z-of_z}
+use mir.Syntax.{w128}
 use Rattle.drainage_flow.specs.FlowBands.{counts_of, IsSeat}
 use Rattle.drainage_flow.specs.declared.flow_band.FlowBand.{FlowBand}
 use Rattle.drainage_flow.proofs.FlowBands.{even_flows}
@@ -42,7 +43,7 @@ returns-then-place-count c =
     let bs = c.args.bands.now in
     let s = c.requires.seat in
     let there = near bs s.0 c.args.band c.args.first c.args.c c.args.at c.count.result c.index-bands-band.result s.1 s.2 c.index-bands-band.is c.count.ensures c.if-place-count.true in
-    let fits : SFits w64 c.flow.result = search rules in
+    let fits : SFits w128 c.flow.result = search rules in
     to_z-of_z fits ∙ c.flow.ensures ∙ (flow_found bs c.args.at c.args.band (c.args.first + c.args.c) c.index-bands-band-then-place-count.result c.requires.even there c.index-bands-band-then-place-count.is).1
 
 pub seat-k-requires : goal.seat-k-requires
@@ -53,5 +54,5 @@ flow-requires-2 c = (flow_found c.args.bands.now c.args.at c.seat-k.result.0 c.s
 
 pub returns : goal.returns
 returns c =
-    let fits : SFits w64 c.flow-2.result = search rules in
+    let fits : SFits w128 c.flow-2.result = search rules in
     to_z-of_z fits ∙ c.flow-2.ensures ∙ (flow_found c.args.bands.now c.args.at c.seat-k.result.0 c.seat-k.result.1 c.index-bands-k.result c.requires.even c.seat-k.ensures.seat c.index-bands-k.is).1

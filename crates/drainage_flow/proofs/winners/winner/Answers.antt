@@ -1,4 +1,5 @@
-use Rattle.std.proofs.Common.{None, rules, ◌∙◌, ap, arith, to_z, of_z, w32, w64}
+use Rattle.std.proofs.Common.{None, rules, ◌∙◌, ap, arith, to_z, of_z, w64}
+use Rattle.map_nums.specs.Widths.{value_width}
 use mir.Val.{SFits}
 use Rattle.std.proofs.lemmas.Int.{to_z-of_z}
 use Rattle.std.proofs.lemmas.List.{get_or_default}
@@ -13,7 +14,7 @@ loop-k-init c = mark_none _
 
 pub loop-k-preserved : goal.loop-k-preserved
 loop-k-preserved c =
-    let here = to_z w32 (of_z w32 c.args.here) in
+    let here = to_z value_width (of_z value_width c.args.here) in
     let around = c.args.around.now in
     let k = c.loop-k.k in
     let fits : SFits w64 c.mark.result = search rules in
@@ -24,4 +25,4 @@ loop-k-preserved c =
 
 pub returns-clause-winner : goal.returns-clause-winner
 returns-clause-winner c = λ s surface at e a.
-    mark_winner s surface at c.args.here (to_z w32 (of_z w32 c.args.here)) c.args.around.now c.loop-k.k _ c.led_to.result (to_z-of_z w32 c.args.here c.ranges.here) (omega (arith, c.loop-k-test.false, c.loop-k.auto.k-end)) c.loop-k.invariant c.led_to.ensures.level c.led_to.ensures.falls e a
+    mark_winner s surface at c.args.here (to_z value_width (of_z value_width c.args.here)) c.args.around.now c.loop-k.k _ c.led_to.result (to_z-of_z value_width c.args.here c.ranges.here) (omega (arith, c.loop-k-test.false, c.loop-k.auto.k-end)) c.loop-k.invariant c.led_to.ensures.level c.led_to.ensures.falls e a

@@ -1,14 +1,17 @@
-use Rattle.std.proofs.Common.{◌≡◌, ℤ, ◌+ℤ◌, pos, arith, rules, FitsSigned, to_z, of_z, w64}
+use Rattle.std.proofs.Common.{◌≡◌, ℕ, List, get_or, sym, ◌∙◌, ℤ, ◌+ℤ◌, ◌-ℤ◌, pos, arith, rules, FitsSigned, to_z, of_z, w64}
 use Rattle.std.proofs.lemmas.Int.{to_z-of_z}
 use Rattle.std.proofs.lemmas.List.{length-set}
 use Rattle.map_nums.specs.Stats.{total_of}
-use Rattle.focal_ops.specs.Totals.{count_of}
-use Rattle.focal_ops.proofs.FirstCells.{total_next, count_next, front_more, within_sum, fits_next}
+use Rattle.focal_ops.specs.Totals.{IsWithin, count_of}
+use Rattle.focal_ops.proofs.FirstCells.{total_next, count_next, front_more, just, within_sum, fits_next}
 use Rattle.focal_ops.proofs.fronts.fill_fronts.Goals as goal
 
 -- a sum is kept as it is
 kept : (x v : ℤ) → FitsSigned w64 v → FitsSigned w64 (x +ℤ v) → to_z w64 (of_z w64 (x +ℤ to_z w64 (of_z w64 v))) ≡ x +ℤ v
 kept x v f g = rw (to_z-of_z w64 v f) (to_z-of_z w64 (x +ℤ v) g)
+
+rise_here : (fronts : List ℤ) (m : ℕ) (x v : ℤ) → get_or fronts m (pos 0) ≡ x → IsWithin 1 v → IsWithin 1 ((x +ℤ v) -ℤ get_or fronts m (pos 0))
+rise_here fronts m x v e w = rw (e, just x v) w
 
 pub loop-m-preserved : goal.loop-m-preserved
 loop-m-preserved c =
@@ -33,6 +36,6 @@ loop-m-preserved c =
       found = found;
       sum_within = sum_within;
       found_within = found_within;
-      sums = front_more total_of square m c.loop-m.sums (x +ℤ v) i.sums (omega (arith, c.loop-m-test.true, c.requires.most, c.requires.sums_room, c.loop-m.auto.sums, length-set c.args.sums.now 0 (pos 0))) (omega (arith, c.loop-m-test.true, c.requires.most)) sum sum_within;
-      counts = front_more count_of square m c.loop-m.counts (y +ℤ n) i.counts (omega (arith, c.loop-m-test.true, c.requires.most, c.requires.counts_room, c.loop-m.auto.counts, length-set c.args.counts.now 0 (pos 0))) (omega (arith, c.loop-m-test.true, c.requires.most)) found found_within;
+      sums = front_more total_of square m c.loop-m.sums (x +ℤ v) i.sums (omega (arith, c.loop-m-test.true, c.requires.most, c.requires.sums_room, c.loop-m.auto.sums, length-set c.args.sums.now 0 (pos 0))) sum (rise_here c.loop-m.sums m x v (i.sums.is m (omega arith) ∙ sym i.sum) c.number_in-sum.ensures.within);
+      counts = front_more count_of square m c.loop-m.counts (y +ℤ n) i.counts (omega (arith, c.loop-m-test.true, c.requires.most, c.requires.counts_room, c.loop-m.auto.counts, length-set c.args.counts.now 0 (pos 0))) found (rise_here c.loop-m.counts m y n (i.counts.is m (omega arith) ∙ sym i.found) c.count_in-found.ensures.within);
     }

@@ -1,6 +1,7 @@
-use Rattle.std.proofs.Common.{◌≡◌, inl, inr, ℕ, ◌≤◌, ℤ, pos, get_or, below_more, subst, rules, arith, FitsSigned, to_z, of_z, w32}
+use Rattle.std.proofs.Common.{◌≡◌, inl, inr, ℕ, ◌≤◌, ℤ, pos, get_or, below_more, subst, rules, arith, FitsSigned, to_z, of_z}
 use Rattle.std.proofs.lemmas.Int.{to_z-of_z}
 use Rattle.std.proofs.lemmas.Bool.{cases_lt}
+use Rattle.map_nums.specs.Widths.{value_width}
 use Rattle.focal_ops.specs.Kinds.{IsKey}
 use Rattle.focal_ops.proofs.kinds.least_key.Goals as goal
 
@@ -12,8 +13,8 @@ loop-k-preserved c =
     let best = c.loop-k.best in
     let key = c.key_of.result in
     let least = c.min-best.result in
-    let fits : FitsSigned w32 (get_or values k (pos 0)) = search rules in
-    let same : to_z w32 (of_z w32 (get_or values k (pos 0))) ≡ get_or values k (pos 0) = to_z-of_z w32 (get_or values k (pos 0)) fits in
+    let fits : FitsSigned value_width (get_or values k (pos 0)) = search rules in
+    let same : to_z value_width (of_z value_width (get_or values k (pos 0))) ≡ get_or values k (pos 0) = to_z-of_z value_width (get_or values k (pos 0)) fits in
     let here : IsKey c.args.least (get_or values k (pos 0)) (get_or counts k 0) key = subst (λ (z : ℤ). IsKey c.args.least z (get_or counts k 0) key) same c.key_of.ensures in
     let under : least ≤ best = omega (arith, c.min-best.ensures) in
     let under_key : least ≤ key = omega (arith, c.min-best.ensures) in

@@ -1,5 +1,6 @@
-use Rattle.std.proofs.Common.{◌≡◌, ◌++◌, take, ap, sym, ◌∙◌, arith, rules, FitsSigned, to_z, of_z, w32}
+use Rattle.std.proofs.Common.{◌≡◌, ◌++◌, take, ap, sym, ◌∙◌, arith, rules, FitsSigned, to_z, of_z}
 use Rattle.std.proofs.lemmas.Int.{to_z-of_z}
+use Rattle.map_nums.specs.Widths.{value_width}
 use Rattle.focal_ops.proofs.Round.{put_some, put_none}
 use Rattle.focal_ops.proofs.numbers.collect_piece.Goals as goal
 use Rattle.focal_ops.proofs.numbers.collect_piece.Goals.{in-Some, in_default}
@@ -7,8 +8,8 @@ use Rattle.focal_ops.proofs.numbers.collect_piece.Goals.{in-Some, in_default}
 pub loop-cell-preserved : goal.loop-cell-preserved
 loop-cell-preserved c = elim c.match-get.branch [
   | in-Some w ↦ (
-      let fits : FitsSigned w32 w.in-Some.value = search rules in
-      let same : to_z w32 (of_z w32 w.in-Some.value) ≡ w.in-Some.value = to_z-of_z w32 w.in-Some.value fits in
+      let fits : FitsSigned value_width w.in-Some.value = search rules in
+      let same : to_z value_width (of_z value_width w.in-Some.value) ≡ w.in-Some.value = to_z-of_z value_width w.in-Some.value fits in
       rw (w.end-is, w.numbers-is, same)
       record {
         within = omega (arith, c.loop-cell.invariant.within);

@@ -6,5 +6,5 @@ abbrev pub invariant-loop-k : goal.invariant-loop-k
 invariant-loop-k l = record {
   room : length l.totals ≡ 32;
   totals : (c : ℕ) → c < l.columns → get_or l.totals c (pos 0) ≡ differences l.mask.reach l.mask.halves l.fronts l.near.width l.r c l.k;
-  within : (c : ℕ) → c < l.columns → IsWithin (18432 * l.k) (get_or l.totals c (pos 0));
+  within : (c : ℕ) → c < l.columns → IsWithin (65 * l.k) (get_or l.totals c (pos 0));
 }

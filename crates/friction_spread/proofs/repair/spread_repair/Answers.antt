@@ -1,8 +1,9 @@
-use Rattle.std.proofs.Common.{ℕ, ◌*◌, List, [], ◌∷◌, Option, Some, None, ap, sym, ◌∙◌, subst, arith, length, w32}
+use Rattle.std.proofs.Common.{ℕ, ◌*◌, List, [], ◌∷◌, Option, Some, None, ap, sym, ◌∙◌, subst, arith, length}
 use Rattle.std.specs.Prelude.{nat_abs}
 use Rattle.std.specs.Option.{option_copied}
 use Rattle.std.proofs.lemmas.Int.{to_z-of_z}
 use Rattle.map_nums.specs.Grids.{Size, Cells}
+use Rattle.map_nums.specs.Widths.{value_width}
 use Rattle.map_defs.specs.Damage.{op_damage}
 use Rattle.map_defs.specs.Ops.{Term, spread_op}
 use Rattle.map_defs.specs.Spread.{IsSpread}
@@ -30,7 +31,7 @@ returns-in_err-repair-in-Some-clause-reads g c = λ a b t u cells right.
     let fr = c.args.friction.now in
     let P : Option LayerState → Type 0 = Within so.size (nat_abs c.args.limit) (cells_before so ∷ cells_before fr ∷ []) (so.cells ∷ fr.cells ∷ []) t u cells (g.M.Tally.counts c.args.tally.now) (g.M.Tally.counts c.repair_layer.new.tally) in
     let R : ℕ → Type 0 = λ n. IsSpread so.size so.cells fr.cells n cells → Within so.size n (cells_before so ∷ cells_before fr ∷ []) (so.cells ∷ fr.cells ∷ []) t u cells (g.M.Tally.counts c.args.tally.now) (g.M.Tally.counts c.repair_layer.new.tally) (Some c.in-Some.layer.now) in
-    subst P (sym (ap option_copied c.in-Some.is)) (subst R (c.limit_of-limit.ensures.value ∙ ap nat_abs (to_z-of_z w32 c.args.limit c.ranges.limit)) (c.repair_layer.ensures.reads a b t u cells) right)
+    subst P (sym (ap option_copied c.in-Some.is)) (subst R (c.limit_of-limit.ensures.value ∙ ap nat_abs (to_z-of_z value_width c.args.limit c.ranges.limit)) (c.repair_layer.ensures.reads a b t u cells) right)
 
 pub returns-in_ok-repair-in-Some-clause-reads : goal.returns-in_ok-repair-in-Some-clause-reads
 returns-in_ok-repair-in-Some-clause-reads g c = λ a b t u cells right.
@@ -38,7 +39,7 @@ returns-in_ok-repair-in-Some-clause-reads g c = λ a b t u cells right.
     let fr = c.args.friction.now in
     let P : Option LayerState → Type 0 = Within so.size (nat_abs c.args.limit) (cells_before so ∷ cells_before fr ∷ []) (so.cells ∷ fr.cells ∷ []) t u cells (g.M.Tally.counts c.args.tally.now) (g.M.Tally.counts c.repair_layer.new.tally) in
     let R : ℕ → Type 0 = λ n. IsSpread so.size so.cells fr.cells n cells → Within so.size n (cells_before so ∷ cells_before fr ∷ []) (so.cells ∷ fr.cells ∷ []) t u cells (g.M.Tally.counts c.args.tally.now) (g.M.Tally.counts c.repair_layer.new.tally) (Some c.in-Some.layer.now) in
-    subst P (sym (ap option_copied c.in-Some.is)) (subst R (c.limit_of-limit.ensures.value ∙ ap nat_abs (to_z-of_z w32 c.args.limit c.ranges.limit)) (c.repair_layer.ensures.reads a b t u cells) right)
+    subst P (sym (ap option_copied c.in-Some.is)) (subst R (c.limit_of-limit.ensures.value ∙ ap nat_abs (to_z-of_z value_width c.args.limit c.ranges.limit)) (c.repair_layer.ensures.reads a b t u cells) right)
 
 pub returns-in_err-repair-in-None-clause-reads : goal.returns-in_err-repair-in-None-clause-reads
 returns-in_err-repair-in-None-clause-reads g c = λ a b t u cells right.

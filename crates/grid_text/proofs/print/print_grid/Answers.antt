@@ -2,7 +2,7 @@ use Rattle.std.proofs.Common.{sym, subst}
 use Rattle.grid_text.specs.ReadBack.{ReadsAs}
 use Rattle.grid_text.proofs.ReadingBack.{reads_back}
 use Rattle.grid_text.proofs.RowTexts.{whole_text}
-use Rattle.grid_text.proofs.Looks.{rows_rise}
+use Rattle.layer_tiles.proofs.RowLooks.{rows_rise}
 use Rattle.grid_text.proofs.print.print_grid.Goals as goal
 
 pub returns-in_err-put_rows-clause-looks : goal.returns-in_err-put_rows-clause-looks

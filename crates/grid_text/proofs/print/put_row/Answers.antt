@@ -1,8 +1,8 @@
 use Rattle.std.proofs.Common.{◌+◌, ◌*◌, ◌/◌, ◌%◌, ◌<◌, min, take, drop, refl, ap, sym, subst, ◌∙◌, ◌++◌, arith}
 use Rattle.layer_tiles.specs.Tiles.{Block, tiles_across}
 use Rattle.grid_text.specs.Blanks.{blanked}
-use Rattle.grid_text.proofs.RowsOfTiles.{few_tiles, crosses, row-more, row_whole, row_some}
-use Rattle.grid_text.proofs.Looks.{then_looks}
+use Rattle.layer_tiles.proofs.RowsOfTiles.{few_tiles, crosses_by, row-more, row_whole, row_some}
+use Rattle.layer_tiles.proofs.RowLooks.{then_looks}
 use Rattle.grid_text.proofs.Blanks.{next_piece, ended_line}
 use Rattle.grid_text.proofs.print.put_row.Goals as goal
 
@@ -18,19 +18,19 @@ overflow_add-first g c =
 
 pub view-tile-requires : goal.view-tile-requires
 view-tile-requires g c =
-    (crosses c.args.layer.now.size c.args.r c.loop-k.k c.tiles_across-across.result (c.tiles_across-across.ensures.across ∙ ap tiles_across c.extent.ensures.extent) c.requires c.loop-k-test.true).within
+    (crosses_by c.args.layer.now.size c.args.r c.loop-k.k c.tiles_across-across.result (c.tiles_across-across.ensures.across ∙ ap tiles_across c.extent.ensures.extent) c.requires c.loop-k-test.true).within
 
 pub row-requires : goal.row-requires
 row-requires g c =
     subst (λ (b : Block). c.args.r % 32 < b.height) (sym c.view-tile.ensures.tile)
-    (crosses c.args.layer.now.size c.args.r c.loop-k.k c.tiles_across-across.result (c.tiles_across-across.ensures.across ∙ ap tiles_across c.extent.ensures.extent) c.requires c.loop-k-test.true).row
+    (crosses_by c.args.layer.now.size c.args.r c.loop-k.k c.tiles_across-across.result (c.tiles_across-across.ensures.across ∙ ap tiles_across c.extent.ensures.extent) c.requires c.loop-k-test.true).row
 
 pub loop-k-preserved : goal.loop-k-preserved
 loop-k-preserved g c =
     let layer = c.args.layer.now in
     let before = take (min (32 * c.loop-k.k) layer.size.columns) (drop (c.args.r * layer.size.columns) layer.cells) in
     let after = take (min (32 * (c.loop-k.k + 1)) layer.size.columns) (drop (c.args.r * layer.size.columns) layer.cells) in
-    let tile = crosses layer.size c.args.r c.loop-k.k c.tiles_across-across.result (c.tiles_across-across.ensures.across ∙ ap tiles_across c.extent.ensures.extent) c.requires c.loop-k-test.true in
+    let tile = crosses_by layer.size c.args.r c.loop-k.k c.tiles_across-across.result (c.tiles_across-across.ensures.across ∙ ap tiles_across c.extent.ensures.extent) c.requires c.loop-k-test.true in
     record {
       row =
           next_piece c.args.text.now.items c.loop-k.text.items c.put_cells.new.text.items before c.row.result.now after c.loop-k.invariant.row c.in_ok-put_cells.ensures

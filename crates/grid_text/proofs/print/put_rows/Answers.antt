@@ -1,7 +1,7 @@
 use Rattle.std.proofs.Common.{◌+◌, ◌*◌, ◌∙◌, arith}
 use Rattle.layer_tiles.specs.Tiles.{tiles_across}
 use Rattle.grid_text.proofs.RowTexts.{next_row}
-use Rattle.grid_text.proofs.Looks.{then_rises}
+use Rattle.layer_tiles.proofs.RowLooks.{then_rises}
 use Rattle.grid_text.proofs.print.put_rows.Goals as goal
 
 pub loop-r-preserved : goal.loop-r-preserved

@@ -1,5 +1,6 @@
-use Rattle.std.proofs.Common.{◌≡◌, ℕ, nat_abs, refl, sym, subst, ap, w32}
+use Rattle.std.proofs.Common.{◌≡◌, ℕ, nat_abs, refl, sym, subst, ap}
 use Rattle.std.proofs.lemmas.Int.{to_z-of_z}
+use Rattle.map_nums.specs.Widths.{value_width}
 use Rattle.map_defs.specs.Spread.{IsSpread}
 use Rattle.layer_tiles.specs.Patches.{PatchState}
 use Rattle.layer_tiles.specs.Layers.{LayerState}
@@ -17,4 +18,4 @@ pub spread_repair-requires-clause-base : goal.spread_repair-requires-clause-base
 spread_repair-requires-clause-base c =
     let P : ℕ → Type 0 = λ n. IsRightBefore c.same-still.result c.patched-ground.result n c.args.base.now in
     let right : P (nat_abs c.args.limit) = right_before c.args.sources.now c.args.friction.now c.args.base.now c.args.patch.now (nat_abs c.args.limit) c.same-still.result c.patched-ground.result c.same-still.ensures c.patched-ground.ensures c.requires.base c.requires.right in
-    subst P (sym (ap nat_abs (to_z-of_z w32 c.args.limit c.ranges.limit))) right
+    subst P (sym (ap nat_abs (to_z-of_z value_width c.args.limit c.ranges.limit))) right

@@ -1,5 +1,6 @@
-use Rattle.std.proofs.Common.{◌≡◌, ℤ, w32, [], length, refl, sym, subst, ◌<◌, ◌∙◌}
+use Rattle.std.proofs.Common.{◌≡◌, ℤ, [], length, refl, sym, subst, ◌<◌, ◌∙◌}
 use Rattle.std.proofs.lemmas.Int.{to_z-of_z}
+use Rattle.map_nums.specs.Widths.{value_width}
 use Rattle.map_edits.specs.Marks.{put_mark}
 use Rattle.kept_map.specs.Maps.{seen}
 use Rattle.live_engine.proofs.Denied.{label_unknown, labels_full}
@@ -14,5 +15,5 @@ returns-then-not-has-clause-accepts g c =
 pub returns-then-count_with-gt-MOST_MARKS-clause-accepts : goal.returns-then-count_with-gt-MOST_MARKS-clause-accepts
 returns-then-count_with-gt-MOST_MARKS-clause-accepts g c =
     let s = seen c.args.map.now in
-    let count : c.count_with.result ≡ length (put_mark s.labels c.args.name c.args.value []) = subst (λ (z : ℤ). c.count_with.result ≡ length (put_mark s.labels c.args.name z [])) (to_z-of_z w32 c.args.value c.ranges.value) c.count_with.ensures in
+    let count : c.count_with.result ≡ length (put_mark s.labels c.args.name c.args.value []) = subst (λ (z : ℤ). c.count_with.result ≡ length (put_mark s.labels c.args.name z [])) (to_z-of_z value_width c.args.value c.ranges.value) c.count_with.ensures in
     (accept_refused s _ _ (labels_full s c.args.name c.args.value c.args.text (sym c.has.ensures ∙ c.if-not-has.false) (subst (λ n. 4096 < n) count c.if-count_with-gt-MOST_MARKS.true)), refl)

@@ -1,5 +1,6 @@
-use Rattle.std.proofs.Common.{◌≡◌, [], ◌∷◌, Some, sym, ◌∙◌, ap, subst, rules, FitsSigned, w32}
+use Rattle.std.proofs.Common.{◌≡◌, [], ◌∷◌, Some, sym, ◌∙◌, ap, subst, rules, FitsSigned}
 use Rattle.std.proofs.lemmas.Int.{to_z-of_z}
+use Rattle.map_nums.specs.Widths.{value_width}
 use Rattle.map_nums.specs.Exact.{IsExact}
 use Rattle.map_nums.specs.Stats.{minimum_of}
 use Rattle.local_ops.proofs.Numbers.{widened}
@@ -11,6 +12,6 @@ returns-in-Minimum c =
     let left = c.args.left in
     let right = c.args.right in
     let lesser = c.lesser.result in
-    let fits : FitsSigned w32 lesser = search rules in
-    let least : minimum_of (left ∷ right ∷ []) ≡ Some lesser = rw (to_z-of_z w32 left c.ranges.left, to_z-of_z w32 right c.ranges.right) at c.lesser.ensures in
+    let fits : FitsSigned value_width lesser = search rules in
+    let least : minimum_of (left ∷ right ∷ []) ≡ Some lesser = rw (to_z-of_z value_width left c.ranges.left, to_z-of_z value_width right c.ranges.right) at c.lesser.ensures in
     subst (λ s. IsExact s c.kept-in-Minimum.result) (ap Some (widened lesser fits) ∙ sym least ∙ sym (is_least c.args.stat left right c.in-Minimum.is)) c.kept-in-Minimum.ensures

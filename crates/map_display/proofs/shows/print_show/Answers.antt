@@ -1,6 +1,6 @@
 use Rattle.std.proofs.Common.{ap, ◌∙◌}
 use Rattle.map_nums.specs.Grids.{Size}
-use Rattle.cell_kinds.proofs.Looks.{rows_rise}
+use Rattle.layer_tiles.proofs.RowLooks.{rows_rise}
 use Rattle.map_display.proofs.Told.{whole_show}
 use Rattle.map_display.proofs.shows.print_show.Goals as goal
 

@@ -4,7 +4,7 @@ use Rattle.layer_tiles.specs.Tiles.{tiles_across}
 use Rattle.map_nums.specs.Grids.{Size, Cells}
 use Rattle.map_machine.specs.Displays.{row_in}
 use Rattle.map_machine.specs.Signs.{sign_of}
-use Rattle.cell_kinds.proofs.Looks.{then_rises}
+use Rattle.layer_tiles.proofs.RowLooks.{then_rises}
 use Rattle.map_display.proofs.Rows.{next_row}
 use Rattle.map_display.proofs.shows.put_rows.Goals as goal
 

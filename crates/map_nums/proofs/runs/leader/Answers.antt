@@ -1,6 +1,7 @@
-use Rattle.std.proofs.Common.{◌≡◌, ◌+◌, ◌∙◌, sym, ap, subst, option_map, get_or, pos, w32, FitsSigned, rules, arith}
+use Rattle.std.proofs.Common.{◌≡◌, ◌+◌, ◌∙◌, sym, ap, subst, option_map, get_or, pos, FitsSigned, rules, arith}
 use Rattle.std.proofs.lemmas.Int.{to_z-of_z}
 use Rattle.std.proofs.lemmas.Bool.{iff_false}
+use Rattle.map_nums.specs.Widths.{value_width}
 use Rattle.map_nums.specs.Leaders.{better_run}
 use Rattle.map_nums.proofs.Leading.{IsLeading, IsLeading-none, IsLeading-on, IsLeading-last, leader_is}
 use Rattle.map_nums.proofs.runs.leader.Goals as goal
@@ -17,8 +18,8 @@ loop-i-preserved c =
     let ys = c.args.sorted.now in
     let i = c.loop-i.i in
     let x = get_or ys i (pos 0) in
-    let f : FitsSigned w32 x = search rules in
-    let run = ap (λ v. better_run c.args.wanted c.loop-i.best (record { value = v; count = c.loop-i.count + 1 })) (to_z-of_z w32 x f) in
+    let f : FitsSigned value_width x = search rules in
+    let run = ap (λ v. better_run c.args.wanted c.loop-i.best (record { value = v; count = c.loop-i.count + 1 })) (to_z-of_z value_width x f) in
     subst (IsLeading c.args.wanted ys (i + 1) 0) (sym (c.better-best.ensures ∙ run))
     (IsLeading-last c.args.wanted ys i c.loop-i.count c.loop-i-test.true c.requires (iff_false c.goes_on.ensures c.if-goes_on.false) c.loop-i.best c.loop-i.invariant)
 

@@ -1,6 +1,7 @@
-use Rattle.std.proofs.Common.{ℕ, length, subst, IfOk, w32}
+use Rattle.std.proofs.Common.{ℕ, length, subst, IfOk}
 use Rattle.std.specs.Int.{cast_signed}
 use Rattle.std.specs.Prelude.{nat_abs}
+use Rattle.map_nums.specs.Widths.{value_width}
 use Rattle.map_nums.specs.Grids.{Cells}
 use Rattle.friction_spread.specs.Bands.{ground_of}
 use Rattle.friction_spread.specs.Lists.{IsCostList}
@@ -21,6 +22,6 @@ returns c =
     let P : Cells → Cells → ℕ → Type 0 = λ xs ys n. IfOk c.spread_of_bands.result (IsCostList (ground_of c.args.extent xs ys n)) in
     let a = c.args.ground.now.first.items in
     let b = c.args.ground.now.second.items in
-    let n = nat_abs (cast_signed w32 c.args.limit) in
+    let n = nat_abs (cast_signed value_width c.args.limit) in
     subst (P a b) (limit_fits c.args.limit c.requires.limit)
     (subst (λ (ys : Cells). P a ys n) c.deref-2.ensures.value (subst (λ (xs : Cells). P xs c.deref-2.result.now n) c.deref.ensures.value c.spread_of_bands.ensures))

@@ -19,20 +19,20 @@ returns-then-is_empty c =
     (c.in_ok-push.ensures.items ∙ ap (λ (x : List Entry). old ++ x ∷ []) c.in_ok-share.ensures)
 
 pub merged-requires-clause-fits : goal.merged-requires-clause-fits
-merged-requires-clause-fits c = subst (λ (l : List Entry). Fits l c.args.steps.now) (sym c.entries.ensures) c.requires.fits
+merged-requires-clause-fits c = subst (λ (l : List Entry). Fits l c.args.steps.now) (sym c.entries.ensures.entries) c.requires.fits
 
-pub sum_of-sum-requires : goal.sum_of-sum-requires
-sum_of-sum-requires c =
+pub of-requires : goal.of-requires
+of-requires c =
     let fs = c.in_ok-entries.entries.items in
-    let m : IsMerged c.args.section.now c.args.steps.now fs = subst (λ (l : List Entry). IsMerged l c.args.steps.now fs) c.entries.ensures c.in_ok-entries.ensures in
-    known_after c.total_after.result c.args.section.now c.deref-then-is_one_zone.result.now c.args.steps.now
-    (subst (λ (l : List Entry). IsMerged c.args.section.now c.args.steps.now l) (sym c.deref-then-is_one_zone.ensures.value) m) c.total_after.ensures
+    let m : IsMerged c.args.section.now c.args.steps.now fs = subst (λ (l : List Entry). IsMerged l c.args.steps.now fs) c.entries.ensures.entries c.in_ok-entries.ensures in
+    known_after c.total_after-known.result c.args.section.now c.shrink_to_fit.new.self.items c.args.steps.now
+    (subst (λ (l : List Entry). IsMerged c.args.section.now c.args.steps.now l) (sym c.shrink_to_fit.ensures.items) m) c.total_after-known.ensures
 
 pub returns-then-is_one_zone : goal.returns-then-is_one_zone
 returns-then-is_one_zone c =
     let old = c.args.sections.now.items in
     let fs = c.in_ok-entries.entries.items in
-    let m : IsMerged c.args.section.now c.args.steps.now fs = subst (λ (l : List Entry). IsMerged l c.args.steps.now fs) c.entries.ensures c.in_ok-entries.ensures in
+    let m : IsMerged c.args.section.now c.args.steps.now fs = subst (λ (l : List Entry). IsMerged l c.args.steps.now fs) c.entries.ensures.entries c.in_ok-entries.ensures in
     let some : 0 < length fs = omega (arith, c.is_one_zone.ensures c.if-is_one_zone.true, ap (λ (l : List Entry). length l) c.deref.ensures.value) in
     renewed_whole old c.push-then-is_one_zone.new.self.items c.args.section.now fs c.args.steps.now c.requires.sections m some (c.requires.behind fs m)
-    (c.in_ok-push-2.ensures.items ∙ ap (λ (x : List Entry). old ++ x ∷ []) (c.in_ok-with_total.ensures ∙ c.shrink_to_fit.ensures.items))
+    (c.in_ok-push-2.ensures.items ∙ ap (λ (x : List Entry). old ++ x ∷ []) (c.in_ok-of.ensures ∙ c.shrink_to_fit.ensures.items))

@@ -1,0 +1,214 @@
+"""What a person does at the page, and whether what is seen is what the program says."""
+
+import re
+
+from chromium import Chromium, wait
+from live_run import NULL, RELIEF, TILE, Case, Page, changed_tiles, grids_after, play
+
+from common import colours
+
+LAYERS = ['Elevation', 'Crater', 'Depth', 'Water', 'Lake', 'Slope']
+CLEAR = [0, 0, 0, 0]
+
+
+def colours_of(grid):
+    """How each value of a grid is drawn."""
+    values = colours.different(None if cell == NULL else cell for row in grid for cell in row)
+    colour = colours.usual(values) if values else None
+    return {NULL: CLEAR, **{value: [*colour(value), 255] for value in values}}
+
+
+def tile_of(grid, tile):
+    row, column = (TILE * place for place in tile)
+    return [cells[column:column + TILE] for cells in grid[row:row + TILE]]
+
+
+class Browsing(Case):
+    @classmethod
+    def setUpClass(cls):
+        cls.browser = cls.enterClassContext(Chromium())
+
+    def setUp(self):
+        super().setUp()
+        self.run_of_live = self.live()
+        self.page = Page(self.browser, self.run_of_live)
+
+    def grids(self, names=LAYERS):
+        """What the program prints after the lines so far, when it is run anew."""
+        return grids_after(self.run_of_live.words, self.run_of_live.get('live.session'), names)
+
+    def is_seen(self, grid, name, tiles):
+        drawn = colours_of(grid)
+        for tile in tiles:
+            wanted = [[drawn[cell] for cell in row] for row in tile_of(grid, tile)]
+            self.assertEqual(self.page.pixels(name, tile), wanted, (name, tile))
+
+    def paint(self, *cells, **brush):
+        self.page.hold('paint')
+        self.page.choose(**{'source': 'Crater', 'value': '1', 'null': False, 'size': 5, **brush})
+        self.page.stroke(*cells)
+
+
+class Strokes(Browsing):
+    def test_pixels_of_all_layers_are_those_of_the_printed_grids(self):
+        every = [(row, column) for row in range(3) for column in range(2)]
+        for name, grid in self.grids().items():
+            self.is_seen(grid, name, every)
+
+    def test_pixels_of_changed_tiles_are_those_of_the_printed_grids(self):
+        before = self.grids()
+        self.paint((57, 24), (62, 30), (55, 36))
+        after = self.grids()
+        changed = {name: changed_tiles(before[name], after[name]) for name in LAYERS}
+        self.assertTrue(changed['Crater'] and changed['Lake'])
+        for name, grid in after.items():
+            self.is_seen(grid, name, changed[name])
+            self.assertEqual(self.page.cells(name), grid, name)
+
+    def test_only_tiles_that_changed_are_ringed(self):
+        before = self.grids()
+        self.browser.run('''live.ringed = {};
+            const ring = live.panels.ring.bind(live.panels);
+            live.panels.ring = (layer, tiles) => { if (tiles.length) live.ringed[layer.name] = tiles; ring(layer, tiles); };''')
+        self.paint((57, 24), (62, 30))
+        after = self.grids()
+        changed = {name: [list(tile) for tile in changed_tiles(before[name], after[name])] for name in LAYERS}
+        self.assertEqual(self.browser.run('return live.ringed'), {name: tiles for name, tiles in changed.items() if tiles})
+        self.browser.wait('return live.panels.rings.length === 0', 'the rings to fade')
+
+    def test_cells_of_a_stroke_are_painted_and_no_others(self):
+        self.paint((40, 10), (40, 14), size=1)
+        self.assertEqual(self.run_of_live.lines(), ['paint Crater 40 10 40 14 1'])
+
+    def test_square_is_painted_round_the_cell_that_is_pointed_at(self):
+        self.paint((40, 10), size=3)
+        self.assertEqual(self.run_of_live.lines(), ['paint Crater 39 9 41 11 1'])
+
+    def test_stroke_over_the_edge_is_cut_there(self):
+        self.paint((2, 1), size=5)
+        self.assertEqual(self.run_of_live.lines(), ['paint Crater 1 1 4 3 1'])
+
+    def test_null_is_painted(self):
+        self.paint((57, 24), size=3)
+        self.paint((57, 24), size=1, null=True)
+        self.assertEqual(self.run_of_live.lines()[-1], 'paint Crater 57 24 57 24 null')
+        self.is_seen(self.grids(['Crater'])['Crater'], 'Crater', [(1, 0)])
+
+    def test_counts_and_time_stand_beside_it(self):
+        self.paint((57, 24), size=3)
+        reply = self.run_of_live.get('live.out').decode().splitlines()[-1]
+        told = self.browser.text('#told')
+        self.assertRegex(told, re.escape(reply) + r' \| program [0-9.]+ ms, drawn [0-9]+ ms')
+
+    def test_refused_value_changes_nothing(self):
+        before = self.grids(['Crater'])
+        self.paint((57, 24), value='much')
+        self.assertIn('refused syntax', self.browser.text('#told'))
+        self.assertEqual(self.grids(['Crater']), before)
+        self.assertEqual(self.page.cells('Crater'), before['Crater'])
+
+    def test_undo_is_offered_where_the_program_knows_it(self):
+        known = not play(self.run_of_live.words, b'undo\n').splitlines()[-1].startswith((b'refused syntax', b'refused operation'))
+        self.assertEqual(self.browser.run("return document.getElementById('undo').hidden"), not known)
+
+
+class Lines(Browsing):
+    def test_refused_line_is_explained_under_its_column(self):
+        self.page.type('Wet = LocalSum of Elevation')
+        line, caret, reply, sentence = self.browser.wait("const log = document.getElementById('log').children; return log.length > 3 && [...log].map(({textContent}) => textContent)", 'the log')
+        self.assertEqual(line, '> Wet = LocalSum of Elevation')
+        self.assertEqual(caret, ' ' * len(line) + '^')
+        self.assertEqual(reply, 'refused syntax 28')
+        self.assertIn('ends too early', sentence)
+
+    def test_session_replays_to_the_same_bytes(self):
+        self.page.type('Wet = LocalSum of Elevation')
+        self.page.type('# the floor of the crater')
+        self.page.type('grid Lake')
+        self.paint((57, 24), (62, 30))
+        self.page.type('paint Lake 1 1 1 1 0')
+        self.page.type('legend Lake')
+        self.assertEqual(len(self.run_of_live.lines()), 5 + sum(line.startswith('paint Crater') for line in self.run_of_live.lines()))
+        self.replays(self.run_of_live)
+
+    def test_new_statement_is_shown(self):
+        self.page.type('drop Slope')
+        self.page.type('Bands = LocalRatio of Elevation and 10')
+        self.browser.wait("return live.layers.get('Bands')?.cells && true", 'the new layer')
+        self.is_seen(self.grids(['Bands'])['Bands'], 'Bands', [(0, 0), (2, 1)])
+
+    def test_layer_that_lacks_one_says_so(self):
+        self.page.type('drop Crater')
+        self.assertIn('undefined Lake: Crater', self.browser.text('#panels'))
+        self.page.type('new Crater 1')
+        self.browser.wait("return live.layers.get('Lake').cells && true", 'the layer')
+        self.assertEqual(self.page.cells('Lake'), self.grids(['Lake'])['Lake'])
+
+    def test_legend_is_the_programs(self):
+        self.page.type('label Crater 1 filled')
+        self.page.type('symbol Crater 1 ~')
+        self.paint((57, 24))
+        rows = play(self.run_of_live.words, self.run_of_live.get('live.session') + b'legend Crater\n').decode().splitlines()[-2:]
+        self.assertEqual(rows[1].split()[2:], ['~', 'filled'])
+        wanted = [[sign if sign == '~' else '', value, count, ' '.join(text)] for value, count, sign, *text in map(str.split, rows)]
+        shown = '''return [...document.querySelectorAll('.legend div[data-layer=Crater] tr')].map((row) => [...row.children].map(({textContent}) => textContent))'''
+        wait(lambda: self.browser.run(shown) == wanted, f'the legend {wanted}')
+
+    def test_grid_is_saved_with_its_projection(self):
+        with open(RELIEF, 'rb') as file:
+            relief = self.write('relief.asc', file.read())
+        self.write('relief.prj', b'LOCAL_CS["here"]\n')
+        words = ['run', '1', '-', f'Relief={relief}']
+        live = self.live(words)
+        Page(self.browser, live)
+        links = self.browser.run("return [...document.querySelectorAll('#layers a')].map(({href, download}) => [href, download])")
+        self.assertEqual([name for _, name in links], ['Relief.asc', 'Relief.prj'])
+        grid, projection = (live.get(href.removeprefix(live.address)) for href, _ in links)
+        self.assertEqual(grid, play(words, b'grid Relief\n').partition(b'\n')[2])
+        self.assertEqual(projection, b'LOCAL_CS["here"]\n')
+
+    def test_end_of_the_program_is_shown(self):
+        self.page.type('quit')
+        self.browser.wait("return !document.getElementById('ended').hidden", 'the end to be shown')
+        self.assertEqual(self.browser.text('#ended'), 'the program ended with status 0')
+
+
+class Looks(Browsing):
+    def test_value_under_the_pointer(self):
+        with open(RELIEF) as file:
+            row = file.read().splitlines()[6 + 68 - 1]
+        self.browser.pointer(('to', *self.page.place(68, 31)))
+        self.assertIn(f'row 68 column 31  Elevation {row.split()[30]}  Crater null', self.browser.text('#place'))
+
+    def test_value_under_the_pointer_follows_an_edit(self):
+        self.paint((57, 24), size=1)
+        self.assertIn('row 57 column 24', self.browser.text('#place'))
+        self.assertIn('Crater 1', self.browser.text('#place'))
+
+    def test_pixels_hold_when_panned_and_zoomed(self):
+        first = self.browser.run('return live.panels.view')
+        x, y = self.page.place(57, 24)
+        self.browser.run('''const {marks} = live.panels.panels[0], {left, top} = marks.getBoundingClientRect();
+            marks.dispatchEvent(new WheelEvent('wheel', {deltaY: -200, clientX: arguments[0], clientY: arguments[1], cancelable: true}))''', x, y)
+        self.browser.pointer(('to', x, y), ('down',), ('to', x + 10, y - 14), ('up',))
+        self.browser.wait('return !live.panels.isPlanned', 'the picture')
+        self.assertGreater(self.browser.run('return live.panels.view.scale'), first['scale'])
+        moved = self.page.place(57, 24)
+        self.assertAlmostEqual(moved[0], x + 10, delta=1)
+        self.assertAlmostEqual(moved[1], y - 14, delta=1)
+        scale = self.browser.run('return live.panels.view.scale')
+        self.assertGreater(scale, 1)
+        grid = self.grids(['Slope'])['Slope']
+        seen = self.page.pixels('Slope', (1, 0))[24][24]
+        self.assertEqual(seen, colours_of(grid)[grid[56][24]])
+
+    def test_null_of_an_upper_layer_lets_the_lower_one_through(self):
+        for name in ('Crater', 'Depth', 'Lake', 'Slope'):
+            self.browser.click(f'input[data-layer={name}]')
+        self.page.choose(arranged='over')
+        grids = self.grids(['Elevation', 'Water'])
+        lower, upper = (colours_of(grids[name]) for name in grids)
+        wanted = [[upper[above] if above != NULL else lower[below] for below, above in zip(*rows)]
+                  for rows in zip(tile_of(grids['Elevation'], (1, 0)), tile_of(grids['Water'], (1, 0)))]
+        self.assertIn(NULL, [cell for row in grids['Water'] for cell in row])
+        wait(lambda: self.page.pixels('Water', (1, 0)) == wanted, 'one layer over another')

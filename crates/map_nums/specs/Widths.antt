@@ -1,0 +1,5 @@
+-- The machine word that holds a value.
+use mir.Syntax.{Width, w32}
+
+abbrev pub value_width : Width
+value_width = w32

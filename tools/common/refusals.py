@@ -1,0 +1,29 @@
+"""How a tool ends where it was given what it can't take: in one sentence, with status 2."""
+
+import os
+import sys
+
+
+class Refused(Exception):
+    """What is wrong, in a sentence."""
+
+
+def run(name, main):
+    """Calls main; the status is 0, or 2 after a sentence on standard error."""
+    try:
+        main()
+        sys.stdout.flush()
+    except Refused as refused:
+        fail(name, refused)
+    except BrokenPipeError:
+        os.dup2(os.open(os.devnull, os.O_WRONLY), sys.stdout.fileno())  # so that nothing is told as the interpreter ends
+        sys.exit(2)
+    except OSError as error:
+        fail(name, f'{error.filename}: {error.strerror}' if error.filename else error.strerror)
+    except KeyboardInterrupt:
+        sys.exit(130)
+
+
+def fail(name, text):
+    print(f'{name}: {text}', file=sys.stderr)
+    sys.exit(2)

@@ -1,0 +1,170 @@
+"""The program, between two pipes: lines go in, and each reply is read to its last line."""
+
+import contextlib
+import fcntl
+import os
+import select
+import subprocess
+import time
+
+from common.replies import COUNTED, HEADER
+
+WIDEST_PIPE = 1 << 20
+PIECE = 1 << 20
+MARK = b'all_was_answered_up_to_this_line'  # a layer that isn't there: the reply to its request ends the replies before it
+WIDEST_LINE = 4096
+BLANKS = b' \t'
+
+
+class Ended(Exception):
+    """The program ended before it answered all lines; `replies` are those that it gave."""
+
+    def __init__(self, replies):
+        super().__init__('the program has ended')
+        self.replies = replies
+
+
+class Reply:
+    """What was written to one line, and how many seconds it took, from the sending of the lines or from the reply before."""
+
+    def __init__(self, text, seconds):
+        self.text, self.seconds = text, seconds
+
+    def first_line(self):
+        return self.text[:self.text.find(b'\n')].decode('latin-1')
+
+
+def is_answered(line):
+    """Whether a line of bytes has a reply: it isn't empty and no comment, or is too long to be either."""
+    line = line.removesuffix(b'\r')
+    words = line.lstrip(BLANKS)
+    return len(line) > WIDEST_LINE or bool(words) and not words.startswith(b'#')
+
+
+def is_quit(line):
+    line = line.removesuffix(b'\r')
+    return len(line) <= WIDEST_LINE and line.strip(BLANKS) == b'quit'
+
+
+def lines_after(first, second):
+    """How many lines come after the first one of a reply; `second` gives the second line where it is needed."""
+    words = first.split()
+    if words[:1] == [b'ncols']:
+        return HEADER - 1 + int(second().split()[1])
+    word = words[0].decode('latin-1') if words else ''
+    return int(words[COUNTED[word]]) if word in COUNTED else 0
+
+
+class Program:
+    """One run. It isn't for several threads at a time: the session has turns."""
+
+    def __init__(self, path, words):
+        self.process = subprocess.Popen([path, *words], stdin=subprocess.PIPE, stdout=subprocess.PIPE, bufsize=0, start_new_session=True)
+        self.lines_in, self.text_out = self.process.stdin.fileno(), self.process.stdout.fileno()
+        for pipe in (self.lines_in, self.text_out):
+            widen(pipe)
+        os.set_blocking(self.lines_in, False)
+        self.unread, self.place, self.began = bytearray(), 0, 0.0
+
+    def beginning(self):
+        """The replies to the loads and the model file, as one text. Ended where the program ended over them."""
+        text = b''
+        try:
+            self.send(b'value ' + MARK + b' 1 1\n')
+            while not (line := self.line()).startswith(b'undefined ' + MARK):
+                text += line
+        except EOFError:
+            raise Ended([Reply(text, self.passed())]) from None
+        return text
+
+    def ask(self, lines, count):
+        """The replies to lines of bytes, of which so many are answered. All are sent before the first reply is waited for."""
+        replies = []
+        with self.to_the_end(replies):
+            self.send(b''.join(line + b'\n' for line in lines))
+            for _ in range(count):
+                replies.append(self.reply())
+        return replies
+
+    def ask_for_lines(self, lines):
+        """The same for many lines whose replies are one line each; answers these, without their line feeds."""
+        with self.to_the_end([]):
+            self.send(b''.join(line + b'\n' for line in lines))
+            while self.unread.count(b'\n', self.place) < len(lines):
+                self.take_in()
+        replies = bytes(self.unread[self.place:]).split(b'\n')[:-1]
+        self.unread, self.place = bytearray(), 0
+        return replies
+
+    @contextlib.contextmanager
+    def to_the_end(self, replies):
+        """Round an exchange, which is whole or the last one: after replies that weren't read, later ones would go to wrong lines."""
+        try:
+            yield
+        except EOFError:
+            raise Ended(replies) from None
+        except BaseException:
+            self.process.kill()
+            raise
+
+    def send(self, data):
+        """Sends bytes. What the program writes meanwhile is taken in, so that neither of both waits for the other."""
+        self.began = time.monotonic()
+        left, turns = memoryview(data), select.poll()
+        turns.register(self.lines_in, select.POLLOUT)
+        turns.register(self.text_out, select.POLLIN)
+        try:
+            while left:
+                for pipe, _ in turns.poll():
+                    if pipe == self.text_out:
+                        self.take_in()
+                    else:
+                        left = left[os.write(self.lines_in, left):]
+        except (BrokenPipeError, EOFError):
+            pass  # what it wrote before it ended is read all the same
+
+    def take_in(self):
+        piece = os.read(self.text_out, PIECE)
+        if not piece:
+            raise EOFError
+        self.unread += piece
+
+    def line(self):
+        """The next line that the program writes, with its line feed."""
+        looked = self.place
+        while (end := self.unread.find(b'\n', looked)) < 0:
+            looked = len(self.unread)
+            self.take_in()
+        line, self.place = bytes(self.unread[self.place:end + 1]), end + 1
+        if self.place == len(self.unread):
+            self.unread, self.place = bytearray(), 0
+        return line
+
+    def reply(self):
+        lines = [self.line()]
+        second = []
+        left = lines_after(lines[0], lambda: second.append(self.line()) or second[0])
+        lines += second
+        lines += [self.line() for _ in range(left - len(second))]
+        return Reply(b''.join(lines), self.passed())
+
+    def passed(self):
+        before, self.began = self.began, time.monotonic()
+        return self.began - before
+
+    def status(self):
+        """The status with which the program ended, negative for a signal; None while it runs."""
+        return self.process.poll()
+
+    def end(self):
+        """Ends the session; answers the status."""
+        self.process.stdin.close()
+        return self.process.wait()
+
+
+def widen(pipe):
+    """Gives a pipe room for a grid's rows, where the system lends it."""
+    try:
+        fcntl.fcntl(pipe, fcntl.F_SETPIPE_SZ, WIDEST_PIPE)
+    except OSError:
+        pass

@@ -1,0 +1,251 @@
+"""One session that several pages share: the lines and replies so far, and what has changed since a page last asked.
+
+Lines that pages hand on are kept with their replies, in order. What the pages ask of their own accord (stamps, cells, legends,
+the list) changes nothing, and isn't kept: a session of the lines that were answered has the same replies without it."""
+
+import os
+import re
+import tempfile
+import threading
+
+from common.grid_text import TILE
+from common.language import Names, explain, refused_column
+from common.replies import HEADER, split
+from program import Ended, is_answered, is_quit
+
+DEAR_AS_CELLS = 64  # asking for one cell takes about as long as printing so many of a grid
+HEAD_LINES, HEAD_BYTES = 40, 4000  # what a page is shown of a reply
+MOST_LEGEND = 200
+WIDEST_COMMENT = 4000
+MARKING = {b'label', b'symbol', b'undo'}  # first words of edits that may change what values mean
+QUIET = {b'paint', b'label', b'symbol'}  # of those that change no name
+NAME = re.compile(r'[A-Za-z][A-Za-z0-9_]*(\.[A-Za-z][A-Za-z0-9_]*)*')
+
+
+class NotSent(Exception):
+    """Why lines weren't sent, in a sentence."""
+
+
+class Entry:
+    """A line that was sent. `reply` is where its reply lies among all replies; None where it has none."""
+
+    def __init__(self, line):
+        self.line, self.reply, self.head, self.cut, self.seconds, self.sentence, self.is_answered = line, None, '', 0, 0.0, None, False
+
+    def told(self, number):
+        first = self.head.partition('\n')[0]
+        return {'number': number, 'line': self.line.decode(errors='replace'), 'reply': self.head, 'cut': self.cut, 'seconds': self.seconds,
+                'column': refused_column(first) if first else None, 'sentence': self.sentence, 'answered': self.is_answered}
+
+
+class Turns:
+    """A lock that is had in the order in which it was asked for, so that who asks often keeps nobody waiting for long."""
+
+    def __init__(self):
+        self.changed, self.given, self.served = threading.Condition(), 0, 0
+
+    def __enter__(self):
+        with self.changed:
+            mine, self.given = self.given, self.given + 1
+            self.changed.wait_for(lambda: self.served == mine)
+
+    def __exit__(self, *_):
+        with self.changed:
+            self.served += 1
+            self.changed.notify_all()
+
+    def is_taken(self):
+        return self.served != self.given
+
+
+class Session:
+    def __init__(self, program, words):
+        self.program, self.words = program, words
+        self.turns = Turns()
+        self.entries, self.replies, self.written = [], tempfile.TemporaryFile(), 0
+        self.names, self.edits, self.marks, self.knows_undo, self.size = Names(), 0, 0, False, None
+
+    def begin(self):
+        """Reads what is written before the first line of the session; answers it. Ended where no session comes about."""
+        text = self.program.beginning()
+        self.keep(text)
+        self.count_edits(reply[0] for reply in split(text.decode('latin-1').splitlines()))
+        self.learn_names()
+        # refused at once where no line begins with this word, and at the second one where it does
+        self.knows_undo = self.ask(b'undo undo')[0].first_line() not in ('refused syntax 1', 'refused operation 1')
+        return text
+
+    # What pages send
+
+    def say(self, lines, shown):
+        """Sends lines, and gathers what has changed of the shown layers since the edits that go with them. Answers the entries, the
+        changes with their texts, and the number of edits."""
+        with self.turns:
+            entries = self.send(lines) if lines else []
+            changes = {}
+            try:
+                if any(since < self.edits for since in shown.values()) and not self.has_ended():
+                    changes = self.changes(shown)
+            except Ended:
+                pass  # the pages are told of the end by the state
+            return entries, changes, self.edits
+
+    def send(self, lines):
+        """Sends lines up to a `quit`, and keeps them with their replies."""
+        self.refuse_the_ended()
+        quits = [is_quit(line) for line in lines]
+        lines = lines[:quits.index(True) + 1] if True in quits else lines
+        sent = [Entry(line) for line in lines]
+        answered = [entry for entry in sent if is_answered(entry.line) and not is_quit(entry.line)]
+        try:
+            replies = self.program.ask(lines, len(answered))
+        except Ended as ended:
+            replies = ended.replies
+        for entry, reply in zip(answered, replies):
+            self.keep_reply(entry, reply)
+        self.close(sent, answered, len(replies))
+        first = len(self.entries)
+        self.entries += sent
+        return list(enumerate(sent, first))
+
+    def close(self, sent, answered, count):
+        """What is to be done after replies: lines without one, counts, names, sentences."""
+        lost = answered[count] if count < len(answered) else None
+        for entry in sent:
+            if entry is lost:
+                break
+            entry.is_answered = True
+        self.count_edits(entry.head for entry in answered[:count])
+        accepted = {(entry.line.split() + [b''])[0] for entry in answered[:count] if entry.head.startswith('ok ')}
+        self.marks += len(accepted & MARKING)
+        if accepted - QUIET:
+            self.try_to_learn_names()
+        for entry in answered[:count]:
+            entry.sentence = explain(entry.head.partition('\n')[0], entry.line, self.names)
+        if lost or is_quit(sent[-1].line):
+            self.program.process.wait()
+
+    def keep_reply(self, entry, reply):
+        head = reply.text[:HEAD_BYTES].decode('latin-1').split('\n')[:HEAD_LINES]
+        entry.head = '\n'.join(head).removesuffix('\n')
+        entry.cut = max(0, reply.text.count(b'\n') - entry.head.count('\n') - 1)
+        entry.reply, entry.seconds = (self.written, len(reply.text)), reply.seconds
+        self.keep(reply.text)
+
+    def keep(self, text):
+        self.replies.seek(self.written)
+        self.replies.write(text)
+        self.replies.flush()
+        self.written += len(text)
+
+    def count_edits(self, replies):
+        for reply in replies:
+            words = reply.partition('\n')[0].split()
+            if words[:1] == ['ok']:
+                self.edits = int(words[1])
+
+    def try_to_learn_names(self):
+        try:
+            self.learn_names()
+        except Ended:
+            pass
+
+    def learn_names(self):
+        self.names = Names(self.ask(b'list')[0].text.decode('latin-1').splitlines()[1:])
+
+    # What pages ask
+
+    def ask(self, *lines):
+        """The replies to lines of our own, each of which has one."""
+        return self.program.ask(lines, len(lines))
+
+    def changes(self, shown):
+        """For each shown layer how it stands: a name for what is missing, or the tiles that changed and the text of their cells."""
+        layers = [name for name in shown if NAME.fullmatch(name)]
+        stamps = self.ask(*(b'stamps ' + name.encode() for name in layers))
+        return {name: self.change(name, reply, shown[name]) for name, reply in zip(layers, stamps)}
+
+    def change(self, name, reply, since):
+        first, *rows = reply.text.decode('latin-1').splitlines()
+        if not first.startswith('stamps '):
+            return {'missing': first}, b''
+        tiles = [(row, column) for row, stamps in enumerate(rows) for column, stamp in enumerate(map(int, stamps.split())) if stamp > since]
+        if not tiles:
+            return {'tiles': []}, b''
+        count = len(rows) * len(rows[0].split())
+        if since == 0 or len(tiles) == count:
+            return {'whole': True, 'tiles': tiles if since else []}, self.grid(name)
+        if self.size and len(tiles) * DEAR_AS_CELLS <= count:
+            return {'tiles': tiles}, self.cells_of(name, tiles)
+        return {'tiles': tiles, 'in_rows': True}, self.rows_of(name, tiles)
+
+    def grid(self, name):
+        """A layer's printed grid, or the reply that says why there is none."""
+        text = self.ask(b'grid ' + name.encode())[0].text
+        if text.startswith(b'ncols '):
+            columns, rows = (int(line.split()[1]) for line in text.split(b'\n', 2)[:2])
+            self.size = rows, columns
+        return text
+
+    def cells_of(self, name, tiles):
+        """The cells of tiles one after another, each row by row, asked for one by one."""
+        rows, columns = self.size
+        lines = [b'value %b %d %d' % (name.encode(), row, column)
+                 for tile_row, tile_column in tiles
+                 for row in range(TILE * tile_row + 1, min(TILE * (tile_row + 1), rows) + 1)
+                 for column in range(TILE * tile_column + 1, min(TILE * (tile_column + 1), columns) + 1)]
+        return b' '.join(reply.rpartition(b' ')[2] for reply in self.program.ask_for_lines(lines))
+
+    def rows_of(self, name, tiles):
+        """The rows in which tiles lie, whole, as the grid is printed: that is less work than cutting many tiles out."""
+        rows = self.grid(name).split(b'\n')[HEADER:-1]
+        return b'\n'.join(b'\n'.join(rows[TILE * row:TILE * (row + 1)]) for row in sorted({row for row, _ in tiles}))
+
+    def printed(self, name):
+        """A layer's grid for a page that saves it."""
+        with self.turns:
+            self.refuse_the_ended()
+            return self.grid(name)
+
+    def legend(self, name):
+        """The first lines of a layer's legend, and how many more there are; nothing where the layer is undefined."""
+        with self.turns:
+            self.refuse_the_ended()
+            lines = self.ask(b'legend ' + name.encode())[0].text.decode('latin-1').splitlines()
+        rows = [row.split(' ', 3) for row in lines[1:MOST_LEGEND + 1]] if lines[0].startswith('legend ') else []
+        return {'rows': rows, 'more': max(0, len(lines) - 1 - MOST_LEGEND)}
+
+    # What is told without asking the program, also while it is at work
+
+    def has_ended(self):
+        return self.program.status() is not None
+
+    def refuse_the_ended(self):
+        if self.has_ended():
+            raise NotSent('the program has ended')
+
+    def state(self):
+        status = self.program.status()
+        return {'edits': self.edits, 'marks': self.marks, 'lines': len(self.entries), 'working': self.turns.is_taken(), 'undo': self.knows_undo, 'ended': ending(status),
+                'sources': self.names.sources, 'statements': self.names.statements, 'dotted': self.names.dotted()}
+
+    def since(self, first):
+        """What a page is shown of the entries from a number on."""
+        entries = self.entries[first:]
+        return [entry.told(number) for number, entry in enumerate(entries, first)]
+
+    def as_session(self):
+        """The lines that were answered; their first line, a comment, says of which run they are."""
+        lines = [entry.line for entry in self.entries if entry.is_answered]
+        words = ' '.join(self.words).encode(errors='replace')[:WIDEST_COMMENT].replace(b'\n', b' ')
+        return b''.join(line + b'\n' for line in [b'# pilepumice ' + words, *lines])
+
+    def all_replies(self):
+        return os.pread(self.replies.fileno(), self.written, 0)
+
+
+def ending(status):
+    """How the program ended, in words; None while it runs."""
+    if status is None:
+        return None
+    return f'the program ended with status {status}' if status >= 0 else f'the program was ended by signal {-status}'
