@@ -1,9 +1,11 @@
 """Headless Chromium, driven through chromedriver by the WebDriver protocol."""
 
+import atexit
 import base64
 import json
 import os
 import shutil
+import signal
 import socket
 import subprocess
 import tempfile
@@ -28,10 +30,11 @@ def free_port():
 
 class Chromium:
     def __init__(self, width=1400, height=1000):
-        self.room = tempfile.TemporaryDirectory()
+        self.room = tempfile.TemporaryDirectory(ignore_cleanup_errors=True)
         port = free_port()
-        self.driver = subprocess.Popen(['chromedriver', f'--port={port}'], stdout=subprocess.DEVNULL, stderr=subprocess.DEVNULL,
-                                       env={**os.environ, 'HOME': self.room.name})
+        self.driver = subprocess.Popen(['chromedriver', f'--port={port}'], stdout=subprocess.DEVNULL, stderr=subprocess.DEVNULL, start_new_session=True,
+                                       env={**os.environ, 'HOME': self.room.name, 'TMPDIR': self.room.name})
+        atexit.register(self.end)  # where tests are broken off
         self.base = f'http://127.0.0.1:{port}'
         wait(lambda: self.is_ready(), 'chromedriver to be ready')
         words = ['--headless=new', '--disable-gpu', '--disable-dev-shm-usage', f'--window-size={width},{height}', f'--user-data-dir={self.room.name}/profile']
@@ -55,8 +58,17 @@ class Chromium:
             self.call('DELETE', '')
         except (OSError, AssertionError):
             pass  # it went away by itself
+        self.end()
+
+    def end(self):
+        """Ends all that was started, and takes its folder away."""
+        atexit.unregister(self.end)
         self.driver.terminate()
         self.driver.wait()
+        try:
+            os.killpg(self.driver.pid, signal.SIGKILL)
+        except ProcessLookupError:
+            pass  # all have ended
         self.room.cleanup()
 
     def call(self, method, path, body=None):
@@ -74,6 +86,21 @@ class Chromium:
     def run(self, script, *given):
         """What a function's body returns that is run in the page."""
         return self.call('POST', '/execute/sync', {'script': script, 'args': list(given)})
+
+    def run_until_told(self, script, *given):
+        """What a function's body hands to its last argument, a function, when it is done. The page isn't asked meanwhile."""
+        return self.call('POST', '/execute/async', {'script': script, 'args': list(given)})
+
+    def processes(self):
+        """The numbers of Chromium's processes, by what they do."""
+        kinds = {'--type=renderer': 'the page', '--type=gpu-process': 'the compositor', '--utility-sub-type=network': 'the network', '--type=': 'others'}
+        numbers = {name: [] for name in ('the page', 'the compositor', 'the network', 'the browser')}
+        for number in below(self.driver.pid)[1:]:
+            with open(f'/proc/{number}/cmdline') as file:
+                words = file.read()
+            name = next((name for word, name in kinds.items() if word in words), 'the browser')
+            numbers.setdefault(name, []).append(number)
+        return numbers
 
     def find(self, selector):
         return self.call('POST', '/element', {'using': 'css selector', 'value': selector})[ELEMENT]
@@ -93,10 +120,13 @@ class Chromium:
         steps = [{'type': kinds[kind], **({'x': round(place[0]), 'y': round(place[1]), 'duration': 0} if place else {'button': 0})} for kind, *place in actions]
         self.call('POST', '/actions', {'actions': [{'type': 'pointer', 'id': 'mouse', 'parameters': {'pointerType': 'mouse'}, 'actions': steps}]})
 
-    def screenshot(self, path):
+    def screenshot(self, path=None):
+        """The page as a PNG, which is written to a file where one is given."""
         picture = base64.b64decode(try_thrice(lambda: self.call('GET', '/screenshot')))
-        with open(path, 'wb') as file:
-            file.write(picture)
+        if path:
+            with open(path, 'wb') as file:
+                file.write(picture)
+        return picture
 
     def new_page(self):
         """Opens one more page, and goes to it; answers its handle."""
@@ -116,6 +146,16 @@ class Chromium:
     def wait(self, script, what, *given):
         """Waits until a function's body returns something true; answers it."""
         return wait(lambda: self.run(script, *given), what)
+
+
+def below(number):
+    """A process and all that it started, directly or not."""
+    numbers = [number]
+    for number in numbers:
+        for thread in os.listdir(f'/proc/{number}/task'):
+            with open(f'/proc/{number}/task/{thread}/children') as file:
+                numbers += map(int, file.read().split())
+    return numbers
 
 
 def try_thrice(act):

@@ -86,8 +86,9 @@ class Requests(Case):
 
     def test_lines_of_all_kinds_have_their_own_replies(self):
         """Each line is followed by one whose reply is known, so that a reply too many or too few would show."""
-        odd = ['', ' ', '\t', '\r', '#', ' \t# x', '# x\r', '\r\r', '\x00', 'caf\u00e9', 'quit x', 'list\r', 'show Crater', 'grid Crater', 'stamps Crater', 'legend Crater',
-               'table Crater Water', 'value Crater 1 1', 'grid Gone', 'ok 99 changed 0 evaluated 0 worked 0', 'x' * 4097, '#' * 4097, 'symbol Crater 1 k', 'label Crater 1 ok 50']
+        odd = ['', ' ', '\t', '\r', '#', ' \t# x', '# x\r', '\r\r', '\x00', 'caf\u00e9', 'quit x', 'list\r', 'show Crater', 'grid Crater', 'stamps Crater',
+               'legend Crater', 'table Crater Water', 'value Crater 1 1', 'grid Gone', 'ok 99 changed 0 evaluated 0 worked 0', 'x' * 4097, '#' * 4097,
+               'symbol Crater 1 k', 'label Crater 1 ok 50']
         status, answer = self.run_of_live.say([line for kind in odd for line in (kind, 'value Elevation 68 31')])
         replies = [entry['reply'] for entry in answer['entries']]
         self.assertEqual((status, replies[1::2]), (200, ['value Elevation 68 31 195'] * len(odd)))
@@ -97,10 +98,19 @@ class Requests(Case):
         wait(lambda: self.run_of_live.state()['ended'] == 'the program ended with status 0', 'the end')
 
     def test_bodies_that_no_page_makes_are_refused(self):
-        for body in ('', '[]', 'null', '{', '{"lines": 1, "shown": {}}', '{"lines": ["list"]}', '{"lines": [1], "shown": {}}', '{"lines": [], "shown": {"A": "x"}}',
-                     '{"lines": ["\\ud800"], "shown": {}}', '[' * 60_000, self.body('list\nquit')):
+        for body in ('', '[]', 'null', '{', '{"lines": 1, "shown": {}}', '{"lines": ["list"]}', '{"lines": [1], "shown": {}}',
+                     '{"lines": [], "shown": {"A": "x"}}', '{"lines": ["\\ud800"], "shown": {}}', '[' * 60_000, '{"lines": [], "shown": {"A": 1e999}}',
+                     '{"lines": [], "shown": {}, "sight": 1}', '{"lines": [], "shown": {}, "sight": {"rows": [1]}}', self.body('list\nquit')):
             self.is_refused(400, 'POST', 'say', body)
         self.is_untouched()
+
+    def test_sight_beyond_the_map_has_the_cells_of_the_map_alone(self):
+        wide = {'rows': [-5, 0, 57, 57, 1 << 70], 'columns': [24, 900]}
+        body = {'lines': [PAINT], 'shown': {'Crater': 5}, 'sight': wide}
+        self.assertEqual(self.run_of_live.request('GET', 'grid?layer=Crater')[0], 200)
+        status, answer = self.run_of_live.request('POST', 'say', json.dumps(body))
+        head, _, replies = answer.partition(b'\n')
+        self.assertEqual((status, json.loads(head)['layers']['Crater']['in_sight'], replies), (200, True, b'value Crater 57 24 1\n'))
 
     def test_names_that_are_none_ask_for_nothing(self):
         self.is_refused(400, 'GET', 'grid?layer=Crater%0Aquit')
@@ -142,7 +152,8 @@ class Requests(Case):
 
     def test_lines_of_many_at_once_are_one_after_another(self):
         live = self.run_of_live
-        threads = [threading.Thread(target=live.say, args=([f'paint Crater {row} {column} {row} {column} {row}' for column in range(1, 21)],)) for row in range(1, 7)]
+        paints = [[f'paint Crater {row} {column} {row} {column} {row}' for column in range(1, 21)] for row in range(1, 7)]
+        threads = [threading.Thread(target=live.say, args=(lines,)) for lines in paints]
         for thread in threads:
             thread.start()
         for thread in threads:

@@ -1,5 +1,6 @@
 """What the tests share: a run of tools/live, the program alone, and what is read in the page."""
 
+import atexit
 import http.client
 import json
 import os
@@ -50,6 +51,7 @@ class Live:
         self.words = words
         command = [sys.executable, os.path.join(TOP, 'tools', 'live'), *words]
         self.process = subprocess.Popen(command, stdout=subprocess.PIPE, stderr=subprocess.PIPE, preexec_fn=heed_control_c)
+        atexit.register(self.end)  # where tests are broken off
         self.beginning = b''
         while (line := self.process.stdout.readline()) and not line.startswith(b'http://'):
             self.beginning += line
@@ -94,6 +96,7 @@ class Live:
 
     def end(self):
         """Control-C; answers the status and what was told on standard error."""
+        atexit.unregister(self.end)
         if self.process.poll() is None:
             self.process.send_signal(signal.SIGINT)
         _, told = self.process.communicate()

@@ -1,6 +1,7 @@
 """What a person does at the page, and whether what is seen is what the program says."""
 
 import re
+import unittest
 
 from chromium import Chromium, wait
 from live_run import NULL, RELIEF, TILE, Case, Page, changed_tiles, grids_after, play
@@ -9,6 +10,7 @@ from common import colours
 
 LAYERS = ['Elevation', 'Crater', 'Depth', 'Water', 'Lake', 'Slope']
 CLEAR = [0, 0, 0, 0]
+SETTLED = 'return new Set([...live.layers.values()].map(({since}) => since)).size === 1'
 
 
 def colours_of(grid):
@@ -23,11 +25,11 @@ def tile_of(grid, tile):
     return [cells[column:column + TILE] for cells in grid[row:row + TILE]]
 
 
-class Browsing(Case):
-    @classmethod
-    def setUpClass(cls):
-        cls.browser = cls.enterClassContext(Chromium())
+def setUpModule():
+    Browsing.browser = unittest.enterModuleContext(Chromium())
 
+
+class Browsing(Case):
     def setUp(self):
         super().setUp()
         self.run_of_live = self.live()
@@ -112,10 +114,76 @@ class Strokes(Browsing):
         self.assertEqual(self.browser.run("return document.getElementById('undo').hidden"), not known)
 
 
+class LargeMaps(Browsing):
+    """A map of 70 tiles, of whose cells only those in sight are asked for first."""
+
+    NAMES = ['Relief', 'Around', 'Steep']
+
+    def live(self):
+        rows = '\n'.join(' '.join(str((7 * row + 13 * column) % 50) for column in range(300)) for row in range(200))
+        relief = self.write('relief.asc', f'ncols 300\nnrows 200\nxllcorner 0\nyllcorner 0\ncellsize 1\n{rows}\n'.encode())
+        model = self.write('model', b'Around = FocalSum of Relief at 9\nSteep = IncrementalGradient of Relief\n')
+        return super().live(['run', '2', model, f'Relief={relief}'])
+
+    def stroke_in_view(self, view, *cells, **brush):
+        """Paints, with a part of the map in sight. Answers of which layers the cells in sight came alone, and whether the cells in sight
+        that were drawn first are those that are there in the end."""
+        self.browser.run(f'''Object.assign(live.panels, {{view: {view}, isFitted: false}});
+            live.panels.draw();
+            const {{panels}} = live, redraw = panels.redraw.bind(panels);
+            live.inSight = [];
+            live.seen = () => {{
+                const {{rows, columns}} = panels.sight();
+                return JSON.stringify([...live.layers.values()].map((layer) => rows.map((row) => columns.map((column) => layer.cell(row - 1, column - 1)))));
+            }};
+            for (const layer of live.layers.values()) {{
+                const take = layer.take.bind(layer);
+                layer.take = (change, ...rest) => {{
+                    if (change.in_sight) live.inSight.push(layer.name);
+                    return take(change, ...rest);
+                }};
+            }}
+            panels.redraw = (layers) => {{
+                redraw(layers);
+                live.first ??= live.seen();
+            }}''')
+        self.paint(*cells, **{'source': 'Relief', **brush})
+        self.browser.wait(SETTLED, 'the rest of the cells')
+        return self.browser.run('return [live.inSight, live.first === live.seen()]')
+
+    def is_whole(self):
+        for name, grid in self.grids(self.NAMES).items():
+            self.assertEqual(self.page.cells(name), grid, name)
+
+    def test_cells_in_sight_come_first_and_then_the_rest(self):
+        in_sight, is_same = self.stroke_in_view('{scale: 16, x: 90, y: 60}', (70, 100), (72, 104), size=1, value=-300)
+        self.assertEqual(in_sight, self.NAMES)
+        self.assertTrue(is_same)
+        self.is_whole()
+
+    def test_cells_between_the_pixels_come_when_the_map_is_seen_small(self):
+        in_sight, is_same = self.stroke_in_view('{scale: 0.1, x: -400, y: -400}', (20, 30), (180, 280), size=9, value=7)
+        self.assertEqual(in_sight, self.NAMES)
+        self.assertTrue(is_same)
+        self.is_whole()
+
+    def test_one_tile_and_many_come_whole(self):
+        for cells in [(10, 10), (10, 12)], [(20, 30), (180, 280)]:
+            in_sight, _ = self.stroke_in_view('{scale: 1, x: -40, y: -20}', *cells, value=99)
+            self.assertEqual(in_sight, [])
+            self.is_whole()
+
+    def test_stroke_out_of_sight_is_taken_in(self):
+        self.browser.run('Object.assign(live.panels, {view: {scale: 16, x: 90, y: 60}, isFitted: false}); live.panels.draw()')
+        self.page.type('paint Relief 190 290 200 300 -40')
+        self.browser.wait(SETTLED, 'the rest of the cells')
+        self.is_whole()
+
+
 class Lines(Browsing):
     def test_refused_line_is_explained_under_its_column(self):
         self.page.type('Wet = LocalSum of Elevation')
-        line, caret, reply, sentence = self.browser.wait("const log = document.getElementById('log').children; return log.length > 3 && [...log].map(({textContent}) => textContent)", 'the log')
+        line, caret, reply, sentence = wait(self.page.log, 'the log')
         self.assertEqual(line, '> Wet = LocalSum of Elevation')
         self.assertEqual(caret, ' ' * len(line) + '^')
         self.assertEqual(reply, 'refused syntax 28')
@@ -151,7 +219,8 @@ class Lines(Browsing):
         rows = play(self.run_of_live.words, self.run_of_live.get('live.session') + b'legend Crater\n').decode().splitlines()[-2:]
         self.assertEqual(rows[1].split()[2:], ['~', 'filled'])
         wanted = [[sign if sign == '~' else '', value, count, ' '.join(text)] for value, count, sign, *text in map(str.split, rows)]
-        shown = '''return [...document.querySelectorAll('.legend div[data-layer=Crater] tr')].map((row) => [...row.children].map(({textContent}) => textContent))'''
+        shown = '''return [...document.querySelectorAll('.legend div[data-layer=Crater] tr')]
+            .map((row) => [...row.children].map(({textContent}) => textContent))'''
         wait(lambda: self.browser.run(shown) == wanted, f'the legend {wanted}')
 
     def test_grid_is_saved_with_its_projection(self):

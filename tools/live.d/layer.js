@@ -1,9 +1,10 @@
-// A layer's cells, as the program told them, and their picture: one pixel for each cell.
+// A layer's cells, as the program told them, and how they are coloured.
 
 export const TILE = 32;
 export const NULL = -2000000001; // as the program prints it
 const HEADER = 6; // lines before a printed grid's cells
 const MOST_CLASSES = 12;
+const MOST_TABLED = 1 << 20; // values between the least and the greatest for which colours are kept in a table
 
 let look; // the colours that all tools have
 
@@ -11,24 +12,39 @@ export const useLook = (given) => { look = given; };
 
 const [SPACE, MINUS, ZERO, NINE, LETTER_N, LINE_FEED] = [32, 45, 48, 57, 110, 10];
 
-// The numbers of a text of bytes, from a place on; `null` is one of them.
-function numbersFrom(text, place, count) {
+// The number that begins at a place of a text of bytes, or `null`.
+function numberAt(text, place) {
+  const isNegative = text[place] === MINUS;
+  if (text[place] === LETTER_N) return NULL;
+  let number = 0;
+  for (let next = isNegative ? place + 1 : place; text[next] >= ZERO && text[next] <= NINE; next++) number = number * 10 + text[next] - ZERO;
+  return isNegative ? -number : number;
+}
+
+// So many numbers of a printed grid's rows, from a place of a text of bytes on.
+function numbersOfRows(text, place, count) {
   const numbers = new Int32Array(count);
-  let index = 0;
-  while (index < count && place < text.length) {
+  for (let index = 0; index < count; index++) {
     while (text[place] <= SPACE) place++;
-    const isNegative = text[place] === MINUS;
-    if (isNegative) place++;
-    if (text[place] === LETTER_N) {
-      numbers[index++] = NULL;
-      place += 4;
-      continue;
-    }
-    let number = 0;
-    for (; text[place] >= ZERO && text[place] <= NINE; place++) number = number * 10 + text[place] - ZERO;
-    numbers[index++] = isNegative ? -number : number;
+    if (place >= text.length) throw new Error('a text has too few cells');
+    numbers[index] = numberAt(text, place);
+    while (text[place] > SPACE) place++;
   }
-  if (index < count) throw new Error('a text has too few cells');
+  return numbers;
+}
+
+// The last words of replies to `value` lines, of which there are so many.
+function numbersOfReplies(text, count) {
+  const numbers = new Int32Array(count);
+  let end = text.length - 1;
+  for (let index = count - 1; index >= 0; index--) {
+    if (end < 0) throw new Error('there are too few replies');
+    let place = end;
+    while (text[place - 1] > SPACE) place--;
+    numbers[index] = numberAt(text, place);
+    do place--; while (place >= 0 && text[place] !== LINE_FEED);
+    end = place;
+  }
   return numbers;
 }
 
@@ -51,6 +67,20 @@ function between(stops, value) {
 
 const packed = ([red, green, blue]) => (255 << 24 | blue << 16 | green << 8 | red) >>> 0;
 
+// The colours of values as numbers of four bytes, each worked out where it is met first; null is clear.
+function inkOf(colourOf, low, high) {
+  if (high - low < MOST_TABLED) {
+    const known = new Uint32Array(high - low + 1);
+    return (value) => value === NULL ? 0 : known[value - low] ||= packed(colourOf(value));
+  }
+  const known = new Map([[NULL, 0]]);
+  return (value) => {
+    let colour = known.get(value);
+    if (colour === undefined) known.set(value, colour = packed(colourOf(value)));
+    return colour;
+  };
+}
+
 export class Layer {
   constructor(name) {
     Object.assign(this, {name, kind: 'usual', opacity: 1, since: 0, asked: 0, missing: null, legend: null});
@@ -58,12 +88,19 @@ export class Layer {
   }
 
   forget() {
-    Object.assign(this, {rows: 0, columns: 0, cells: null, picture: null, classes: new Map(), low: Infinity, high: -Infinity, isRamp: false});
+    Object.assign(this, {rows: 0, columns: 0, cells: null, ink: null, classes: new Map(), low: Infinity, high: -Infinity, isRamp: false});
   }
 
-  // Takes in a change that the server told; answers the tiles that have other cells than before.
-  take(change, asOf) {
-    this.since = this.asked = asOf;
+  // Whether cells as of an edit are to be asked for: nothing was told of them yet, or only those in sight.
+  lacks(edits) {
+    return this.asked < edits || !this.missing && this.since < this.asked;
+  }
+
+  // Takes in a change that the server told, and that may have only the cells in a sight; answers the tiles that have other cells than
+  // before.
+  take(change, asOf, sight) {
+    this.asked = asOf;
+    if (!change.in_sight) this.since = asOf; // else the rest is still to be asked for
     this.missing = change.missing || null;
     if (this.missing) {
       this.forget();
@@ -72,52 +109,51 @@ export class Layer {
     }
     if (change.whole) this.takeWhole(change.text);
     else if (change.in_rows) this.takeRows(change.tiles, change.text);
-    else if (change.tiles.length) this.takeTiles(change.tiles, change.text);
+    else if (change.in_sight) this.takeParts(change.tiles.map((tile) => this.partInSight(tile, sight)), change.text);
+    else this.takeParts(change.tiles.map((tile) => this.wholeTile(tile)), change.text);
     return change.tiles;
   }
 
   takeWhole(text) {
     const {rows, columns, place} = headerOf(text);
-    Object.assign(this, {rows, columns, cells: numbersFrom(text, place, rows * columns)});
-    this.picture = document.createElement('canvas');
-    Object.assign(this.picture, {width: columns, height: rows});
-    this.context = this.picture.getContext('2d', {willReadFrequently: true});
-    this.pixels = this.context.createImageData(columns, rows);
-    this.words = new Uint32Array(this.pixels.data.buffer);
+    Object.assign(this, {rows, columns, cells: numbersOfRows(text, place, rows * columns)});
     this.meet(this.cells);
-    this.colourAll();
   }
 
-  takeTiles(tiles, text) {
-    const areas = tiles.map((tile) => this.area(tile));
-    const numbers = numbersFrom(text, 0, areas.reduce((sum, {width, height}) => sum + width * height, 0));
+  // Takes in replies that tell the cells of parts, each of which has its rows and columns.
+  takeParts(parts, text) {
+    const numbers = numbersOfReplies(text, parts.reduce((sum, {rows, columns}) => sum + rows.length * columns.length, 0));
     let place = 0;
-    for (const {left, top, width, height} of areas) {
-      for (let row = top; row < top + height; row++, place += width) {
-        this.cells.set(numbers.subarray(place, place + width), row * this.columns + left);
-      }
+    for (const {rows, columns} of parts) {
+      for (const row of rows) for (const column of columns) this.cells[row * this.columns + column] = numbers[place++];
     }
-    this.redraw(areas, numbers);
+    this.meet(numbers);
   }
 
-  // The same where the text has the whole rows in which the tiles lie.
+  wholeTile(tile) {
+    const {left, top, width, height} = this.area(tile);
+    return {rows: Array.from({length: height}, (_, row) => top + row), columns: Array.from({length: width}, (_, column) => left + column)};
+  }
+
+  // The cells of a tile in a sight, whose rows and columns count from 1 as in the language.
+  partInSight(tile, {rows, columns}) {
+    const {left, top, width, height} = this.area(tile);
+    const within = (places, first, count) => places.map((place) => place - 1).filter((place) => place >= first && place < first + count);
+    return {rows: within(rows, top, height), columns: within(columns, left, width)};
+  }
+
+  // The same where the text has the whole rows in which tiles lie, as the grid is printed.
   takeRows(tiles, text) {
-    const areas = tiles.map((tile) => this.area(tile));
-    const tops = [...new Set(areas.map(({top}) => top))];
+    const tops = [...new Set(tiles.map((tile) => this.area(tile).top))];
     const heightAt = (top) => Math.min(TILE, this.rows - top);
-    const numbers = numbersFrom(text, 0, tops.reduce((sum, top) => sum + heightAt(top), 0) * this.columns);
+    const numbers = numbersOfRows(text, 0, tops.reduce((sum, top) => sum + heightAt(top), 0) * this.columns);
     let place = 0;
     for (const top of tops) {
       const count = heightAt(top) * this.columns;
       this.cells.set(numbers.subarray(place, place + count), top * this.columns);
       place += count;
     }
-    this.redraw(areas, numbers);
-  }
-
-  redraw(areas, numbers) {
-    if (this.meet(numbers)) this.colourAll();
-    else areas.forEach((area) => this.colour(area));
+    this.meet(numbers);
   }
 
   // The cells of a tile, which is given by its row and column of tiles.
@@ -126,10 +162,10 @@ export class Layer {
     return {left, top, width: Math.min(TILE, this.columns - left), height: Math.min(TILE, this.rows - top)};
   }
 
-  // Takes note of values; answers whether cells that are there need other colours. A class keeps its colour.
+  // Takes note of values, and of how they are coloured. A class keeps its colour, and a ramp doesn't shrink.
   meet(numbers) {
     const {low, high, isRamp} = this;
-    const isFirst = this.classes.size === 0;
+    const before = this.classes.size;
     const found = new Set();
     let last = NULL;
     for (const number of numbers) {
@@ -143,8 +179,12 @@ export class Layer {
       }
     }
     if (!this.isRamp) [...found].sort((a, b) => a - b).forEach((number) => this.classes.set(number, this.classes.size));
-    const isDrawnAsRamp = this.isRamp || this.kind !== 'usual';
-    return isFirst || isRamp !== this.isRamp || isDrawnAsRamp && (low !== this.low || high !== this.high);
+    if (!this.ink || before !== this.classes.size || isRamp !== this.isRamp || low !== this.low || high !== this.high) this.mix();
+  }
+
+  // Mixes the colours anew.
+  mix() {
+    this.ink = this.low > this.high ? () => 0 : inkOf(this.colourOf(), this.low, this.high);
   }
 
   draws() {
@@ -163,34 +203,16 @@ export class Layer {
     return (value) => between(look.flow, most ? Math.log1p(value - low) / most : 0);
   }
 
-  // The same as a number of four bytes for a pixel; null is clear. Each different value is worked out once.
-  ink() {
-    const colourOf = this.colourOf();
-    const known = new Map([[NULL, 0]]);
-    return (value) => {
-      let colour = known.get(value);
-      if (colour === undefined) known.set(value, colour = packed(colourOf(value)));
-      return colour;
-    };
-  }
-
-  colourAll() {
-    if (!this.cells) return;
-    const ink = this.ink();
+  // Writes the colours of a row's cells at the columns given; `pixels` begins where the first of these is seen.
+  drawRow(pixels, row, columnsAt) {
+    const {cells, ink} = this;
+    const first = row * this.columns;
     let [last, colour] = [NULL, 0];
-    for (let index = 0; index < this.cells.length; index++) {
-      if (this.cells[index] !== last) colour = ink(last = this.cells[index]);
-      this.words[index] = colour;
+    for (let index = 0; index < columnsAt.length; index++) {
+      const cell = cells[first + columnsAt[index]];
+      if (cell !== last) colour = ink(last = cell);
+      pixels[index] = colour;
     }
-    this.context.putImageData(this.pixels, 0, 0);
-  }
-
-  colour({left, top, width, height}) {
-    const ink = this.ink();
-    for (let row = top; row < top + height; row++) {
-      for (let index = row * this.columns + left, end = index + width; index < end; index++) this.words[index] = ink(this.cells[index]);
-    }
-    this.context.putImageData(this.pixels, 0, 0, left, top, width, height);
   }
 
   // The cell of a row and a column from 0, as the language writes it; nothing off the map.

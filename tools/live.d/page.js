@@ -10,6 +10,7 @@ const MOST_SHOWN_UNASKED = 6;
 const MOST_LINES = 400; // of a stroke, that are sent at a time
 const MOST_ENTRIES = 500;
 const CALM = 200; // milliseconds without an edit after which legends are asked for
+const LONGEST_FRAME = 500; // milliseconds
 const KINDS = {usual: 'as it is', ramp: 'ramp', logarithm: 'by logarithm'};
 
 const at = (id) => document.getElementById(id);
@@ -21,7 +22,14 @@ let turn = Promise.resolve(); // one exchange after another
 const outdated = new Set(); // the layers whose legends are to be asked for again
 let legendTimer;
 
-const nextFrame = () => new Promise((done) => requestAnimationFrame(() => setTimeout(done)));
+// Resolves when the frame is through that is drawn next, or after some time where none is, as on a page that isn't seen.
+const afterFrame = () => new Promise((done) => {
+  const limit = setTimeout(done, LONGEST_FRAME);
+  requestAnimationFrame(() => setTimeout(() => {
+    clearTimeout(limit);
+    done();
+  }));
+});
 const names = () => [...state.sources, ...Object.keys(state.statements), ...state.dotted];
 const hand = () => document.querySelector('input[name=hand]:checked').value;
 
@@ -43,57 +51,88 @@ function send(lines, released = null) {
 
 async function exchange(lines, released) {
   const began = released ?? performance.now();
-  const answer = await say(lines, Object.fromEntries(shown.map((name) => [name, layers.get(name).since])));
-  const changed = take(answer);
+  const isFirst = new Set(shown.filter((name) => layers.get(name).since === 0));
+  const sight = lines.length ? panels.sight() : null;
+  const answer = await say(lines, edits(), sight);
+  const changed = take(answer, sight);
   useState(answer.state);
-  if (lines.length) tell(answer.entries, began, changed);
+  afterwards(lines, answer, began, changed, isFirst).catch(complain);
+  if (changed.some((layer) => layer.lacks(answer.as_of))) await askForTheRest();
+}
+
+// The edits up to which the page has the shown layers' cells.
+const edits = () => Object.fromEntries(shown.map((name) => [name, layers.get(name).since]));
+
+async function askForTheRest() {
+  await afterFrame();
+  askLegendsLater(take(await say([], edits())));
+}
+
+// What can wait until the pictures are seen: rings, replies, legends.
+async function afterwards(lines, answer, began, changed, isFirst) {
+  await afterFrame();
+  const drawn = performance.now() - began;
+  for (const [name, {tiles}] of Object.entries(answer.layers)) if (!isFirst.has(name)) panels.ring(layers.get(name), tiles || []);
+  panels.planMarks();
   askLegendsLater(changed);
-  await lookAtLog();
+  await logEntries(answer);
+  if (lines.length) tell(answer.entries, drawn, changed);
 }
 
 // Takes in and draws what changed; answers the layers that did.
-function take(answer) {
+function take(answer, sight = null) {
   const changed = [];
   for (const [name, change] of Object.entries(answer.layers)) {
     const layer = layers.get(name);
-    const wasMissing = layer.missing, isFirst = layer.since === 0;
-    const tiles = layer.take(change, answer.as_of);
+    const wasMissing = layer.missing;
+    const tiles = layer.take(change, answer.as_of, sight);
     if (tiles.length || change.whole || wasMissing !== layer.missing) changed.push(layer);
-    if (!isFirst) panels.ring(layer, tiles);
   }
-  if (changed.length) panels.draw();
+  if (changed.length) panels.redraw(changed);
   point(panels.pointed);
   changed.filter(({missing}) => missing).forEach(drawLegend);
   return changed;
 }
 
 // The counts of the replies and the time, beside the pictures.
-async function tell(entries, began, changed) {
+function tell(entries, drawn, changed) {
   const last = entries.length ? entries[entries.length - 1].reply.split('\n')[0] : '';
   const program = entries.reduce((sum, {seconds}) => sum + seconds, 0) * 1000;
-  await nextFrame();
-  const drawn = performance.now() - began;
   const count = entries.length > 1 ? `${entries.length} lines, the last: ` : '';
   at('told').textContent = `${count}${last.slice(0, 80)} | program ${program.toFixed(1)} ms, drawn ${drawn.toFixed(0)} ms`;
   Object.assign(at('told').dataset, {drawn, program, entries: entries.length, layers: changed.length, turns: Number(at('told').dataset.turns || 0) + 1});
 }
 
 function complain(error) {
+  panels.planMarks();
   if (!(error instanceof Refused)) console.error(error);
   at('told').textContent = error instanceof Refused ? error.message : 'the server is not there';
 }
 
+// Shows entries that aren't shown yet, if none is lacking before them.
+async function logEntries({entries}) {
+  if (entries.length && entries[0].number > seen) await lookAtLog();
+  else logNew(entries);
+}
+
+function logNew(entries) {
+  for (const entry of entries) {
+    if (entry.number < seen) continue;
+    log(entry);
+    seen = entry.number + 1;
+  }
+}
+
 async function lookAtLog() {
   const {state: told, entries} = await json(`state?from=${seen}`);
-  entries.filter(({number}) => number >= seen).forEach(log);
-  seen = Math.max(seen, told.lines);
+  logNew(entries);
   useState(told);
 }
 
 async function watch() {
   try {
     await lookAtLog();
-    if (!state.ended && shown.some((name) => layers.get(name).asked < state.edits)) await send([]);
+    if (!state.ended && shown.some((name) => layers.get(name).lacks(state.edits))) await send([]);
   } catch (error) {
     complain(error);
   }
@@ -159,7 +198,7 @@ function tune(row, layer) {
   kind.value = layer.kind;
   kind.addEventListener('change', () => {
     layer.kind = kind.value;
-    layer.colourAll();
+    layer.mix();
     panels.draw();
     askLegendsLater([layer]);
   });

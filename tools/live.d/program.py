@@ -86,15 +86,15 @@ class Program:
                 replies.append(self.reply())
         return replies
 
-    def ask_for_lines(self, lines):
-        """The same for many lines whose replies are one line each; answers these, without their line feeds."""
+    def ask_for_lines(self, text, count):
+        """The same for a text of so many lines, whose replies are one line each; answers these as one text."""
         with self.to_the_end([]):
-            self.send(b''.join(line + b'\n' for line in lines))
-            while self.unread.count(b'\n', self.place) < len(lines):
+            self.send(text)
+            counted, looked = 0, self.place
+            while (counted := counted + self.unread.count(b'\n', looked)) < count:
+                looked = len(self.unread)
                 self.take_in()
-        replies = bytes(self.unread[self.place:]).split(b'\n')[:-1]
-        self.unread, self.place = bytearray(), 0
-        return replies
+        return self.taken(len(self.unread))
 
     @contextlib.contextmanager
     def to_the_end(self, replies):
@@ -129,24 +129,31 @@ class Program:
             raise EOFError
         self.unread += piece
 
-    def line(self):
-        """The next line that the program writes, with its line feed."""
-        looked = self.place
+    def end_of_line(self, start):
+        """Where the line ends that starts at a place of what was taken in, with its line feed."""
+        looked = start
         while (end := self.unread.find(b'\n', looked)) < 0:
             looked = len(self.unread)
             self.take_in()
-        line, self.place = bytes(self.unread[self.place:end + 1]), end + 1
-        if self.place == len(self.unread):
+        return end + 1
+
+    def taken(self, end):
+        """What the program wrote up to a place, which counts as read."""
+        text, self.place = bytes(memoryview(self.unread)[self.place:end]), end
+        if end == len(self.unread):
             self.unread, self.place = bytearray(), 0
-        return line
+        return text
+
+    def line(self):
+        """The next line that the program writes, with its line feed."""
+        return self.taken(self.end_of_line(self.place))
 
     def reply(self):
-        lines = [self.line()]
-        second = []
-        left = lines_after(lines[0], lambda: second.append(self.line()) or second[0])
-        lines += second
-        lines += [self.line() for _ in range(left - len(second))]
-        return Reply(b''.join(lines), self.passed())
+        first = self.end_of_line(self.place)
+        end = first
+        for _ in range(lines_after(bytes(self.unread[self.place:first]), lambda: self.unread[first:self.end_of_line(first)])):
+            end = self.end_of_line(end)
+        return Reply(self.taken(end), self.passed())
 
     def passed(self):
         before, self.began = self.began, time.monotonic()

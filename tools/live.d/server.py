@@ -139,12 +139,14 @@ class Handler(BaseHTTPRequestHandler):
         while left > 0 and time.monotonic() < limit and (piece := self.connection.recv(65_536)):
             left -= len(piece)
 
-    def answer(self, data, kind, status=200, file=None):
+    def answer(self, data, kind, status=200, file=None, seconds=None):
         self.send_response(status)
         self.send_header('Content-Type', kind)
         self.send_header('Content-Length', str(len(data)))
         if file:
             self.send_header('Content-Disposition', f'attachment; filename="{file}"')
+        if seconds is not None:
+            self.send_header('Server-Timing', f'all;dur={1000 * seconds:.3f}')
         if self.close_connection:
             self.send_header('Connection', 'close')
         for name, value in SAFE.items():
@@ -163,11 +165,11 @@ class Handler(BaseHTTPRequestHandler):
 
     def say(self, body):
         """Lines to be sent, and what changed of the shown layers: a line of JSON, and the layers' texts one after another."""
-        lines, shown = said(body)
-        entries, changes, edits = self.server.session.say(lines, shown)
+        began = time.monotonic()
+        entries, changes, edits = self.server.session.say(*said(body))
         layers = {name: {**change, 'length': len(text)} for name, (change, text) in changes.items()}
         head = {'entries': [entry.told(number) for number, entry in entries], 'layers': layers, 'as_of': edits, 'state': self.server.session.state()}
-        self.answer(json.dumps(head).encode() + b'\n' + b''.join(text for _, text in changes.values()), BYTES)
+        self.answer(json.dumps(head).encode() + b'\n' + b''.join(text for _, text in changes.values()), BYTES, seconds=time.monotonic() - began)
 
     def state(self, query):
         first = query.get('from', ['0'])[0]
@@ -221,15 +223,16 @@ def layer(query):
 
 
 def said(body):
-    """The lines and the shown layers of a body, or why there are none."""
+    """The lines and the shown layers of a body, and the rows and columns in sight, or why there are none."""
     try:
         given = json.loads(body)
         lines = [line.encode() for line in given['lines']]
         shown = {str(name): int(since) for name, since in given['shown'].items()}
-    except (ValueError, TypeError, KeyError, AttributeError, RecursionError) as error:
+        sight = tuple(sorted(set(map(int, given['sight'][kind]))) for kind in ('rows', 'columns')) if given.get('sight') else None
+    except (ValueError, TypeError, KeyError, AttributeError, OverflowError, RecursionError) as error:
         raise Wrong(400, 'the body is not as a page of ours makes it') from error
     if len(lines) > MOST_LINES or len(shown) > MOST_LINES:
         raise Wrong(400, 'these are too many lines')
     if any(b'\n' in line for line in lines):
         raise Wrong(400, 'a line has no line feed within it')
-    return lines, shown
+    return lines, shown, sight

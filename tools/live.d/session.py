@@ -7,13 +7,15 @@ import os
 import re
 import tempfile
 import threading
+from bisect import bisect_left
 
 from common.grid_text import TILE
 from common.language import Names, explain, refused_column
 from common.replies import HEADER, split
 from program import Ended, is_answered, is_quit
 
-DEAR_AS_CELLS = 64  # asking for one cell takes about as long as printing so many of a grid
+DEAR_AS_CELLS = 40  # asking for one cell takes about as long as printing so many of a grid
+WORTH_A_SIGHT = 0.5  # the share of cells up to which those in sight are asked for first
 HEAD_LINES, HEAD_BYTES = 40, 4000  # what a page is shown of a reply
 MOST_LEGEND = 200
 WIDEST_COMMENT = 4000
@@ -77,36 +79,39 @@ class Session:
 
     # What pages send
 
-    def say(self, lines, shown):
-        """Sends lines, and gathers what has changed of the shown layers since the edits that go with them. Answers the entries, the
-        changes with their texts, and the number of edits."""
+    def say(self, lines, shown, sight=None):
+        """Sends lines, and gathers what has changed of the shown layers since the edits that go with them; of the cells of many
+        tiles only those in sight, where there is one. Answers the entries, the changes with their texts, and the number of edits."""
+        layers = [name for name in shown if NAME.fullmatch(name)]
         with self.turns:
-            entries = self.send(lines) if lines else []
+            entries, stamps = self.send(lines, layers) if lines else ([], [])
             changes = {}
             try:
                 if any(since < self.edits for since in shown.values()) and not self.has_ended():
-                    changes = self.changes(shown)
+                    changes = self.changes(dict(zip(layers, stamps or self.ask(*map(stamps_of, layers)))), shown, sight)
             except Ended:
                 pass  # the pages are told of the end by the state
             return entries, changes, self.edits
 
-    def send(self, lines):
-        """Sends lines up to a `quit`, and keeps them with their replies."""
+    def send(self, lines, layers):
+        """Sends lines up to a `quit`, and keeps them with their replies. Answers their entries, and the stamps of layers after them,
+        which are asked for at once, so that the program is waited for only once; none where it ended."""
         self.refuse_the_ended()
         quits = [is_quit(line) for line in lines]
         lines = lines[:quits.index(True) + 1] if True in quits else lines
         sent = [Entry(line) for line in lines]
         answered = [entry for entry in sent if is_answered(entry.line) and not is_quit(entry.line)]
+        questions = [] if True in quits else [stamps_of(layer) for layer in layers]
         try:
-            replies = self.program.ask(lines, len(answered))
+            replies = self.program.ask(lines + questions, len(answered) + len(questions))
         except Ended as ended:
-            replies = ended.replies
+            replies = ended.replies[:len(answered)]
         for entry, reply in zip(answered, replies):
             self.keep_reply(entry, reply)
-        self.close(sent, answered, len(replies))
+        self.close(sent, answered, min(len(answered), len(replies)))
         first = len(self.entries)
         self.entries += sent
-        return list(enumerate(sent, first))
+        return list(enumerate(sent, first)), replies[len(answered):]
 
     def close(self, sent, answered, count):
         """What is to be done after replies: lines without one, counts, names, sentences."""
@@ -159,25 +164,42 @@ class Session:
         """The replies to lines of our own, each of which has one."""
         return self.program.ask(lines, len(lines))
 
-    def changes(self, shown):
-        """For each shown layer how it stands: a name for what is missing, or the tiles that changed and the text of their cells."""
-        layers = [name for name in shown if NAME.fullmatch(name)]
-        stamps = self.ask(*(b'stamps ' + name.encode() for name in layers))
-        return {name: self.change(name, reply, shown[name]) for name, reply in zip(layers, stamps)}
+    def changes(self, stamps, shown, sight):
+        """For each layer with its stamps how it stands: a name for what is missing, or the tiles that changed and a text that has
+        their cells."""
+        changes = {name: self.change(name, reply, shown[name], sight) for name, reply in stamps.items()}
+        few = {name: [self.cells_in(tile, sight if change.get('in_sight') else None) for tile in change['tiles']]
+               for name, (change, text) in changes.items() if text is None}
+        for name, text in self.cells_of(few).items():
+            changes[name] = changes[name][0], text
+        return changes
 
-    def change(self, name, reply, since):
+    def change(self, name, reply, since, sight):
+        """How a layer stands; without the text where cells of its tiles are to be asked for one by one."""
         first, *rows = reply.text.decode('latin-1').splitlines()
         if not first.startswith('stamps '):
             return {'missing': first}, b''
-        tiles = [(row, column) for row, stamps in enumerate(rows) for column, stamp in enumerate(map(int, stamps.split())) if stamp > since]
+        tiles = later_than(since, rows)
         if not tiles:
             return {'tiles': []}, b''
-        count = len(rows) * len(rows[0].split())
-        if since == 0 or len(tiles) == count:
+        if since == 0 or not self.size:
             return {'whole': True, 'tiles': tiles if since else []}, self.grid(name)
-        if self.size and len(tiles) * DEAR_AS_CELLS <= count:
-            return {'tiles': tiles}, self.cells_of(name, tiles)
+        as_cells, as_grid = self.count_of(tiles, None), self.size[0] * self.size[1] // DEAR_AS_CELLS
+        if sight and self.count_of(tiles, sight) < min(as_cells, as_grid) * WORTH_A_SIGHT:
+            return {'tiles': tiles, 'in_sight': True}, None
+        if as_cells <= as_grid:
+            return {'tiles': tiles}, None
         return {'tiles': tiles, 'in_rows': True}, self.rows_of(name, tiles)
+
+    def cells_in(self, tile, sight):
+        """The rows and columns of a tile's cells, all or those in sight."""
+        of_tile = [range(TILE * place + 1, min(TILE * (place + 1), size) + 1) for place, size in zip(tile, self.size)]
+        if sight is None:
+            return of_tile
+        return [seen[bisect_left(seen, places[0]):bisect_left(seen, places[-1] + 1)] for seen, places in zip(sight, of_tile)]
+
+    def count_of(self, tiles, sight):
+        return sum(len(rows) * len(columns) for rows, columns in (self.cells_in(tile, sight) for tile in tiles))
 
     def grid(self, name):
         """A layer's printed grid, or the reply that says why there is none."""
@@ -187,14 +209,16 @@ class Session:
             self.size = rows, columns
         return text
 
-    def cells_of(self, name, tiles):
-        """The cells of tiles one after another, each row by row, asked for one by one."""
-        rows, columns = self.size
-        lines = [b'value %b %d %d' % (name.encode(), row, column)
-                 for tile_row, tile_column in tiles
-                 for row in range(TILE * tile_row + 1, min(TILE * (tile_row + 1), rows) + 1)
-                 for column in range(TILE * tile_column + 1, min(TILE * (tile_column + 1), columns) + 1)]
-        return b' '.join(reply.rpartition(b' ')[2] for reply in self.program.ask_for_lines(lines))
+    def cells_of(self, wanted):
+        """The replies that tell cells of layers, given as pairs of rows and columns, row by row. All are asked for at once."""
+        texts = {name: b''.join(lines_for(name.encode(), *part) for part in parts) for name, parts in wanted.items()}
+        text = b''.join(texts.values())
+        replies = self.program.ask_for_lines(text, text.count(b'\n')) if text else b''
+        answers, end = {}, len(replies)
+        for name in reversed(texts):
+            start = replies.index(b'value %b ' % name.encode()) if texts[name] else end
+            answers[name], end = replies[start:end], start
+        return answers
 
     def rows_of(self, name, tiles):
         """The rows in which tiles lie, whole, as the grid is printed: that is less work than cutting many tiles out."""
@@ -226,8 +250,9 @@ class Session:
 
     def state(self):
         status = self.program.status()
-        return {'edits': self.edits, 'marks': self.marks, 'lines': len(self.entries), 'working': self.turns.is_taken(), 'undo': self.knows_undo, 'ended': ending(status),
-                'sources': self.names.sources, 'statements': self.names.statements, 'dotted': self.names.dotted()}
+        return {'edits': self.edits, 'marks': self.marks, 'lines': len(self.entries), 'working': self.turns.is_taken(),
+                'undo': self.knows_undo, 'ended': ending(status), 'sources': self.names.sources,
+                'statements': self.names.statements, 'dotted': self.names.dotted()}
 
     def since(self, first):
         """What a page is shown of the entries from a number on."""
@@ -242,6 +267,23 @@ class Session:
 
     def all_replies(self):
         return os.pread(self.replies.fileno(), self.written, 0)
+
+
+def stamps_of(layer):
+    return b'stamps ' + layer.encode()
+
+
+def lines_for(name, rows, columns):
+    """The lines that ask for a layer's cells in rows and columns, as one text."""
+    ends = [b'%d\n' % column for column in columns]
+    heads = [b'value %b %d ' % (name, row) for row in rows] if ends else []
+    return b''.join(head + head.join(ends) for head in heads)
+
+
+def later_than(since, rows):
+    """The tiles, by row and column from 0, whose stamps in rows of text are later than an edit."""
+    stamps = [list(map(int, row.split())) for row in rows]
+    return [(row, column) for row, line in enumerate(stamps) if max(line) > since for column, stamp in enumerate(line) if stamp > since]
 
 
 def ending(status):
