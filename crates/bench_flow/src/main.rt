@@ -15,6 +15,7 @@ ghost use Rattle.layer_tiles.specs.Patches.{patched, HoldsAll};
 
 use drainage_flow::{Repair, direction_tile, flow_repair};
 use layer_tiles::{Cell, Change, Extent, KernelRefusal, Layer, NoMemory, Patch, Tile};
+use map_nums::Value;
 use map_outside::Counts;
 use std::alloc::Global;
 use std::process::ExitCode;
@@ -61,7 +62,7 @@ fn height(at: u32) -> u32 {
 }
 
 fn cell(number: u32) -> Cell {
-    Cell::of((number % 2_000_000) as i32).unwrap_or(Cell::null())
+    Cell::of((number % 2_000_000) as Value).unwrap_or(Cell::null())
 }
 
 fn layer(alloc: Global, extent: Extent, flat: bool) -> Result<Layer, NoMemory>

@@ -11,6 +11,7 @@ ghost use Rattle.layer_tiles.specs.Tiles.{tiles_in, IsBlockOf};
 
 use friction_spread::spread_repair;
 use layer_tiles::{Cell, Change, Extent, Layer, NoMemory, Patch, Tile};
+use map_nums::Value;
 use map_outside::Counts;
 use std::alloc::Global;
 use std::process::ExitCode;
@@ -29,7 +30,7 @@ enum Work {
 
 // The friction of a number.
 fn friction_cell(number: u32) -> Cell {
-    Cell::of((number.wrapping_mul(7919) % 1_500_007 % 9 + 1) as i32).unwrap_or(Cell::null())
+    Cell::of((number.wrapping_mul(7919) % 1_500_007 % 9 + 1) as Value).unwrap_or(Cell::null())
 }
 
 fn frictions(alloc: Global, extent: Extent, from: u32) -> Result<Layer, NoMemory>

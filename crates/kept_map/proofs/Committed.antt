@@ -52,7 +52,7 @@ use Rattle.kept_map.specs.Edits.{IsSetUp}
 use Rattle.kept_map.specs.Repairs.{IsUnder, AreMadeOf, IsPreparedFor}
 use Rattle.kept_map.specs.Commits.{IsAtRest, IsCommitted}
 use Rattle.kept_map.specs.declared.maps.KeptMap.{KeptMap}
-use Rattle.kept_map.specs.declared.preparing.Prepared.{Prepared}
+use Rattle.kept_map.specs.declared.repairing.Prepared.{Prepared}
 use Rattle.kept_map.proofs.Attempted.{attempt_counts}
 use Rattle.kept_map.proofs.LayersByName.{node_made, no_source, source_there, layer_kept, layer_source}
 use Rattle.kept_map.proofs.Resting.{rest_planned}

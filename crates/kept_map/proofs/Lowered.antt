@@ -5,7 +5,7 @@ use Rattle.std.proofs.lemmas.Option.{same_Some}
 use Rattle.statement_parser.specs.declared.op.Op.{Op as Given}
 use Rattle.map_waves.specs.declared.plans.Step.{Step}
 use Rattle.kept_map.specs.Lowering.{IsLowered}
-use Rattle.kept_map.proofs.SourceLayers.{slice_get-set_same, slice_get-set_other}
+use Rattle.map_waves.proofs.SetPlaces.{slice_get-set_same, slice_get-set_other}
 
 -- ---- the first elements of a list are changed
 

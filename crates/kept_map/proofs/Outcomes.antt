@@ -31,12 +31,11 @@ use Rattle.kept_map.specs.Keeps.{IsKept}
 use Rattle.kept_map.specs.Edits.{IsSetUp}
 use Rattle.kept_map.specs.Planning.{IsPlannedFor}
 use Rattle.kept_map.specs.Halts.{IsHaltOf}
-use Rattle.kept_map.specs.Rooms.{HasRoom}
 use Rattle.kept_map.specs.Told.{IsTold, IsReachedAt}
 use Rattle.kept_map.specs.Repairs.{plan_in, AreMadeOf, counts_view, IsPreparedFor, RisesByRest}
 use Rattle.kept_map.specs.declared.maps.KeptMap.{KeptMap}
 use Rattle.kept_map.specs.declared.halts.Halt.{Halt}
-use Rattle.kept_map.specs.declared.preparing.Prepared.{Prepared}
+use Rattle.kept_map.specs.declared.repairing.Prepared.{Prepared}
 use Rattle.kept_map.proofs.Bases.{IsBaseOf, kept_is, plan_is}
 use Rattle.kept_map.proofs.FaultNames as faults
 use Rattle.kept_map.proofs.Reached.{reached_at, within_at, rests_by_rest, rises_by_rest}
@@ -69,14 +68,13 @@ module _ (m : KeptMap) (kept : IsKept m) (e : WholeEdit) (t : WholeState) (shift
       (subst (λ o. IsPrepared suits the_plan k o r) (kept_is m shift base over x.kept) (prepared_at op_view suits base steps made prepared k x r at is))
 
   pub prepared_for : (prepared : Prepared) → length prepared.made.items ≡ length steps → ArePrepared op_view suits base steps 0 prepared.made.items → AreFaultless the_plan 0 (length steps) → AreSums the_plan (length steps) prepared.counts
-      → HasRoom (length m.kept.items) (length steps) prepared.room → IsPreparedFor m e t shift sources names steps prepared
-  prepared_for prepared count made none sums room = record {
+      → IsPreparedFor m e t shift sources names steps prepared
+  prepared_for prepared count made none sums = record {
     faultless = none_found none;
     under = under m kept e t shift sources names steps plan base over;
     count = count;
     made = made_of prepared.made.items made;
     counts = sums_are (plan_in m shift steps) (length steps) prepared.counts (subst (λ p. AreSums p (length steps) prepared.counts) (plan_is m shift base over steps) sums);
-    room = room;
   }
 
   pub halted_for : (halt : Halt) → IsTold base.extent the_plan names halt → IsHaltOf e t halt

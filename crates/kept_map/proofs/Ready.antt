@@ -65,7 +65,7 @@ module _ (m : KeptMap) (e : WholeEdit) (t : WholeState) (shift : Shift) (sources
     orderly = order_is_kept (seen m) t e kept.lawful set_up.said set_up.attempt
 
     -- each name stands at one place of the plan
-    one_place : (k : ℕ) (n : Name) → slice_get names k ≡ Some n → position (bytes_eq n) names ≡ Some k
+    pub one_place : (k : ℕ) (n : Name) → slice_get names k ≡ Some n → position (bytes_eq n) names ≡ Some k
     one_place k n at =
         let nodes = nodes_of t.names.entries in
         let listed = filter (λ (node : Node). not (is_some (lacks nodes node.name))) (by_depth nodes) in

@@ -5,7 +5,7 @@ use Rattle.std.proofs.lemmas.Option.{same_Some}
 use Rattle.statement_parser.specs.declared.op.Op.{Op as Given}
 use Rattle.map_waves.specs.declared.plans.Step.{Step}
 use Rattle.kept_map.specs.Commits.{IsAtRest}
-use Rattle.kept_map.proofs.SourceLayers.{slice_get-set_same, slice_get-set_other}
+use Rattle.map_waves.proofs.SetPlaces.{slice_get-set_same, slice_get-set_other}
 
 -- the first k are at rest, and the others are as they were
 pub record AreSettled (k : ℕ) (old now : List (Step Given)) : Type 0 where

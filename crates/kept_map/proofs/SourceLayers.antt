@@ -15,6 +15,7 @@ use Rattle.map_edits.specs.EngineStates.{EngineState}
 use Rattle.map_edits.specs.Laws.{IsApart}
 use Rattle.map_edits.proofs.Among.{same_name}
 use Rattle.map_waves.proofs.Making.{all_get}
+use Rattle.map_waves.proofs.SetPlaces.{slice_get-set_same, slice_get-set_other}
 use Rattle.edit_plans.proofs.Positions.{position_push, position_at, get_more}
 use Rattle.kept_map.specs.Maps.{at_place, source_in, source_grid, def_by, entry_by, entries_by}
 use Rattle.kept_map.specs.Keeps.{AreKeptSources}
@@ -23,18 +24,6 @@ use Rattle.kept_map.specs.declared.maps.Item.TheVariants.{Source}
 use Rattle.kept_map.specs.declared.maps.Sources.{Sources}
 
 -- ---- lists
-
-pub slice_get-set_same : {X : Type 0} (xs : List X) (i : ℕ) (x y : X) → slice_get xs i ≡ Some y → slice_get (set xs i x) i ≡ Some x
-slice_get-set_same [] i x y at = absurd (none-some y at)
-slice_get-set_same (z ∷ xs) zero x y at = refl
-slice_get-set_same (z ∷ xs) (suc i) x y at = slice_get-set_same xs i x y at
-
-pub slice_get-set_other : {X : Type 0} (xs : List X) (i j : ℕ) (x : X) → j ≢ i → slice_get (set xs i x) j ≡ slice_get xs j
-slice_get-set_other [] i j x other = refl
-slice_get-set_other (z ∷ xs) zero zero x other = absurd (other refl)
-slice_get-set_other (z ∷ xs) zero (suc j) x other = refl
-slice_get-set_other (z ∷ xs) (suc i) zero x other = refl
-slice_get-set_other (z ∷ xs) (suc i) (suc j) x other = slice_get-set_other xs i j x (λ same. other (ap suc same))
 
 get_last : {X : Type 0} (xs : List X) (x : X) → slice_get (xs ++ x ∷ []) (length xs) ≡ Some x
 get_last [] x = refl

@@ -29,8 +29,7 @@ use Rattle.edit_plans.specs.SourceCounts.{counts_of_touched, counts_to_place}
 use Rattle.kept_map.specs.Maps.{at_place, names_in, seen}
 use Rattle.kept_map.specs.Edits.{change_in}
 use Rattle.kept_map.specs.declared.maps.KeptMap.{KeptMap}
-use Rattle.kept_map.specs.declared.preparing.Prepared.{Prepared}
-use Rattle.kept_map.specs.Rooms.{HasRoom}
+use Rattle.kept_map.specs.declared.repairing.Prepared.{Prepared}
 
 -- ---- the plan of steps over a map
 
@@ -66,7 +65,6 @@ pub record IsPreparedFor (m : KeptMap) (e : WholeEdit) (t : WholeState) (shift :
   pub count : length prepared.made.items ≡ length steps
   pub made : AreMadeOf m shift steps prepared.made.items
   pub counts : counts_view prepared.counts ≡ counts_to_place (plan_in m shift steps) (length steps)
-  pub room : HasRoom (length m.kept.items) (length steps) prepared.room
 
 -- ---- what is read
 

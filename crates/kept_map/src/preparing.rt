@@ -1,6 +1,6 @@
 //! What an edit makes of all statements, with all memory that it wants, before anything is put in place.
 
-ghost use Rattle.std.specs.Prelude.{◌≡◌, ℕ, ◌<◌, ◌≤◌, false, List, IfOk, IfErr};
+ghost use Rattle.std.specs.Prelude.{◌≡◌, ℕ, ◌<◌, ◌≤◌, false, List, length, IfOk, IfErr};
 ghost use Rattle.layer_tiles.specs.Tallies.{IsUndivided};
 ghost use Rattle.map_edits.specs.WholeStates.{WholeState};
 ghost use Rattle.map_edits.specs.WholeEdits.{WholeEdit};
@@ -10,37 +10,33 @@ ghost use Rattle.kept_map.specs.Edits.{IsSetUp, IsReplanned, IsSamePlan};
 ghost use Rattle.kept_map.specs.Halts.{IsHaltOf};
 ghost use Rattle.kept_map.specs.Planning.{IsPlannedFor};
 ghost use Rattle.kept_map.specs.Repairs.{IsPreparedFor, RisesByRest};
+ghost use Rattle.kept_map.specs.Rooms.{HasRoom};
 
 use crate::flats::FlatsAfter;
 use crate::halts::Halt;
 use crate::maps::KeptMap;
-use crate::repairing::{Repaired, repair};
+use crate::repairing::{Prepared, repair};
 use crate::room::Room;
 use edit_plans::{Planned, SourceNames, make_plan};
 use layer_tiles::Tally;
-use map_waves::{Base, Counts, Made, Shift};
+use map_waves::{Base, Shift};
 use map_words::Name;
-use op_jobs::Beside;
 use procedure_expand::Flat;
 use statement_graph::Graph;
-use std::alloc::Global;
 use std::thread::Threads;
-use tile_workers::Gate;
+use tile_workers::{Crew, Gate};
 
-/// What was made of all statements, its counts, and room to put it in place.
+/// A plan of all statements, what was made of them, and room to put it in place.
 #[derive(Drop)]
-pub struct Prepared {
-    pub made: Vec<Option<Made<Beside>>>,
-    pub counts: Counts,
+pub struct Replanned {
+    pub planned: Planned,
+    pub prepared: Prepared,
     pub room: Room,
 }
 
-/// Repairs the statements of a plan over what is kept of a map, and takes room for what is made.
+/// Repairs the statements of a plan over what is kept of a map.
 fn repaired<M: Tally + Send, G: Gate + Sync, R: Threads + Sync>(
-    rt: &R,
-    alloc: Global,
-    workers: u32,
-    gate: &G,
+    crew: &Crew<'_, R, G>,
     map: &KeptMap,
     shift: Shift<'_>,
     planned: &Planned,
@@ -48,8 +44,7 @@ fn repaired<M: Tally + Send, G: Gate + Sync, R: Threads + Sync>(
 ) -> Result<Prepared, Halt>
     requires kept { IsKept map.now }
     requires planned { (e : WholeEdit) × (t : WholeState) × (sources : List (List ℕ)) × IsPlannedFor map.now e t shift sources planned.now.names.keys planned.now.steps.items }
-    requires workers { (0 < workers) × (workers ≤ 64) }
-    requires whole { 1 < workers → IsUndivided (M.counts tally.old) }
+    requires whole { 1 < crew.now.workers → IsUndivided (M.counts tally.old) }
     ensures prepared { (e : WholeEdit) (t : WholeState) (sources : List (List ℕ)) → IsPlannedFor map.now e t shift.entry sources planned.now.names.keys planned.now.steps.items
         → IfOk result (IsPreparedFor map.now e t shift.entry sources planned.now.names.keys planned.now.steps.items) }
     ensures halted { (e : WholeEdit) (t : WholeState) (sources : List (List ℕ)) → IsPlannedFor map.now e t shift.entry sources planned.now.names.keys planned.now.steps.items → IfErr result (IsHaltOf e t) }
@@ -62,9 +57,8 @@ fn repaired<M: Tally + Send, G: Gate + Sync, R: Threads + Sync>(
         shift,
         kept: map.kept.as_slice(),
     };
-    let Repaired { made, counts } = repair(rt, alloc, workers, gate, &base, planned, tally)?;
-    let room = Room::of(alloc, map.kept.len(), planned.steps.len())?;
-    Ok(Prepared { made, counts, room })
+    let prepared = repair(crew, &base, planned, tally)?;
+    Ok(prepared)
 }
 
 /// Repairs the statements of a map after an edit that leaves them as they are written.
@@ -73,37 +67,30 @@ fn repaired<M: Tally + Send, G: Gate + Sync, R: Threads + Sync>(
 ///
 /// The first statement with a fault, by depth, then in order of place, and which fault. `NoMemory`.
 pub fn prepare_kept<M: Tally + Send, G: Gate + Sync, R: Threads + Sync>(
-    rt: &R,
-    alloc: Global,
-    workers: u32,
-    gate: &G,
+    crew: &Crew<'_, R, G>,
     map: &KeptMap,
     shift: Shift<'_>,
     tally: &mut M,
 ) -> Result<Prepared, Halt>
     requires kept { IsKept map.now }
     requires set_up { (e : WholeEdit) × (t : WholeState) × IsSetUp map.now e t shift map.now.sources.names.keys × IsSamePlan map.now e t }
-    requires workers { (0 < workers) × (workers ≤ 64) }
-    requires whole { 1 < workers → IsUndivided (M.counts tally.old) }
+    requires whole { 1 < crew.now.workers → IsUndivided (M.counts tally.old) }
     ensures prepared { (e : WholeEdit) (t : WholeState) → IsSetUp map.now e t shift.entry map.now.sources.names.keys → IsSamePlan map.now e t
         → IfOk result (IsPreparedFor map.now e t shift.entry map.now.sources.names.keys map.now.planned.names.keys map.now.planned.steps.items) }
     ensures halted { (e : WholeEdit) (t : WholeState) → IsSetUp map.now e t shift.entry map.now.sources.names.keys → IsSamePlan map.now e t → IfErr result (IsHaltOf e t) }
     ensures tally { (e : WholeEdit) (t : WholeState) → IsSetUp map.now e t shift.entry map.now.sources.names.keys → IsSamePlan map.now e t → RisesByRest map.now e t (M.counts tally.old) (M.counts tally.new) }
 {
-    repaired(rt, alloc, workers, gate, map, shift, &map.planned, tally)
+    repaired(crew, map, shift, &map.planned, tally)
 }
 
-/// Plans the statements of a map after an edit, and repairs them. `written` are the flat statements that the edit wrote, `added` is
+/// Plans the statements of a map after an edit, repairs them, and takes room for what is made. `written` are the flat statements that the edit wrote, `added` is
 /// the name of a source that it adds.
 ///
 /// # Errors
 ///
 /// The first statement with a fault, by depth, then in order of place, and which fault. `NoMemory`.
 pub fn prepare<M: Tally + Send, G: Gate + Sync, R: Threads + Sync>(
-    rt: &R,
-    alloc: Global,
-    workers: u32,
-    gate: &G,
+    crew: &Crew<'_, R, G>,
     map: &KeptMap,
     shift: Shift<'_>,
     graph: &Graph,
@@ -111,13 +98,13 @@ pub fn prepare<M: Tally + Send, G: Gate + Sync, R: Threads + Sync>(
     edited: &Name,
     written: &[Flat],
     tally: &mut M,
-) -> Result<(Planned, Prepared), Halt>
+) -> Result<Replanned, Halt>
     requires kept { IsKept map.now }
     requires set_up { (e : WholeEdit) × (t : WholeState) × IsSetUp map.now e t shift (names_with map.now.sources added) × IsReplanned map.now e t (names_with map.now.sources added) graph.now edited.now written.now }
-    requires workers { (0 < workers) × (workers ≤ 64) }
-    requires whole { 1 < workers → IsUndivided (M.counts tally.old) }
+    requires whole { 1 < crew.now.workers → IsUndivided (M.counts tally.old) }
     ensures prepared { (e : WholeEdit) (t : WholeState) → IsSetUp map.now e t shift.entry (names_with map.now.sources added.entry) → IsReplanned map.now e t (names_with map.now.sources added.entry) graph.now edited.now written.now
-        → IfOk result (λ p. IsPreparedFor map.now e t shift.entry (names_with map.now.sources added.entry) p.0.names.keys p.0.steps.items p.1) }
+        → IfOk result (λ p. IsPreparedFor map.now e t shift.entry (names_with map.now.sources added.entry) p.planned.names.keys p.planned.steps.items p.prepared) }
+    ensures room { IfOk result (λ p. HasRoom (length map.now.kept.items) (length p.planned.steps.items) p.room) }
     ensures halted { (e : WholeEdit) (t : WholeState) → IsSetUp map.now e t shift.entry (names_with map.now.sources added.entry) → IsReplanned map.now e t (names_with map.now.sources added.entry) graph.now edited.now written.now → IfErr result (IsHaltOf e t) }
     ensures tally { (e : WholeEdit) (t : WholeState) → IsSetUp map.now e t shift.entry (names_with map.now.sources added.entry) → IsReplanned map.now e t (names_with map.now.sources added.entry) graph.now edited.now written.now → RisesByRest map.now e t (M.counts tally.old) (M.counts tally.new) }
 {
@@ -130,7 +117,12 @@ pub fn prepare<M: Tally + Send, G: Gate + Sync, R: Threads + Sync>(
         edited,
         written,
     };
-    let planned = make_plan(alloc, graph, sources, &flats, &map.planned.names)?;
-    let prepared = repaired(rt, alloc, workers, gate, map, shift, &planned, tally)?;
-    Ok((planned, prepared))
+    let planned = make_plan(crew.alloc, graph, sources, &flats, &map.planned.names)?;
+    let prepared = repaired(crew, map, shift, &planned, tally)?;
+    let room = Room::of(crew.alloc, map.kept.len(), planned.steps.len())?;
+    Ok(Replanned {
+        planned,
+        prepared,
+        room,
+    })
 }

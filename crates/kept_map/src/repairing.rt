@@ -21,36 +21,32 @@ use map_words::Name;
 use op_jobs::{Beside, Statements};
 use std::alloc::Global;
 use std::thread::Threads;
-use tile_workers::Gate;
+use tile_workers::{Crew, Gate};
 
 /// What was made of all statements, and the counts of it.
 #[derive(Drop)]
-pub struct Repaired {
+pub struct Prepared {
     pub made: Vec<Option<Made<Beside>>>,
     pub counts: Counts,
 }
 
-/// Repairs all statements of a plan by so many workers.
+/// Repairs all statements of a plan by the workers at hand.
 ///
 /// # Errors
 ///
 /// The first statement with a fault, by depth, then in order of place, and which fault. `NoMemory` where there is none.
 pub fn repair<M: Tally + Send, G: Gate + Sync, R: Threads + Sync>(
-    rt: &R,
-    alloc: Global,
-    workers: u32,
-    gate: &G,
+    crew: &Crew<'_, R, G>,
     base: &Base<'_, Beside>,
     planned: &Planned,
     tally: &mut M,
-) -> Result<Repaired, Halt>
+) -> Result<Prepared, Halt>
     requires base { IsBase base.now }
     requires planned { ArePlanned op_view (λ o. HasRanges (op_view o)) base.now planned.now.steps.items }
     requires right { AreRight op_view suits base.now planned.now.steps.items }
     requires named { length planned.now.names.keys ≡ length planned.now.steps.items }
     requires few { length planned.now.steps.items < 2 ^ 31 }
-    requires workers { (0 < workers) × (workers ≤ 64) }
-    requires whole { 1 < workers → IsUndivided (M.counts tally.old) }
+    requires whole { 1 < crew.now.workers → IsUndivided (M.counts tally.old) }
     ensures count { IfOk result (λ r. length r.made.items ≡ length planned.now.steps.items) }
     ensures made { IfOk result (λ r. ArePrepared op_view suits base.now planned.now.steps.items 0 r.made.items) }
     ensures changed { IfOk result (λ r. r.counts.changed ≡ changed_to (plan_of op_view base.now planned.now.steps.items) (length planned.now.steps.items)) }
@@ -61,20 +57,12 @@ pub fn repair<M: Tally + Send, G: Gate + Sync, R: Threads + Sync>(
     ensures tally { let plan = plan_of op_view base.now planned.now.steps.items in
         (end : ℕ) × IsReachedBy plan planned.now.names.keys planned.now.steps.items result end × RisesBy (62 * evaluated_to plan end) (1000 * worked_to plan end) (M.counts tally.old) (M.counts tally.new) }
 {
-    match repair_all::<Statements, M, G, R>(
-        rt,
-        alloc,
-        workers,
-        gate,
-        base,
-        planned.steps.as_slice(),
-        tally,
-    ) {
+    match repair_all::<Statements, M, G, R>(crew, base, planned.steps.as_slice(), tally) {
         Ok(made) => {
             let counts = count_all::<Statements>(base, planned.steps.as_slice(), made.as_slice());
-            Ok(Repaired { made, counts })
+            Ok(Prepared { made, counts })
         }
-        Err(stop) => Err(told(alloc, base.extent, &planned.names, stop)),
+        Err(stop) => Err(told(crew.alloc, base.extent, &planned.names, stop)),
     }
 }
 

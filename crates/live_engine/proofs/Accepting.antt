@@ -26,7 +26,7 @@ use Rattle.kept_map.specs.Keeps.{IsKept}
 use Rattle.kept_map.specs.Edits.{IsSetUp}
 use Rattle.kept_map.specs.Repairs.{plan_in, counts_view, IsPreparedFor, own_damage, RisesByRest}
 use Rattle.kept_map.specs.declared.maps.KeptMap.{KeptMap}
-use Rattle.kept_map.specs.declared.preparing.Prepared.{Prepared}
+use Rattle.kept_map.specs.declared.repairing.Prepared.{Prepared}
 use Rattle.kept_map.proofs.Allowed.{sources_allowed}
 use Rattle.live_engine.specs.Accepts.{ReadsWithin}
 

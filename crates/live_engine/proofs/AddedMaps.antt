@@ -42,7 +42,7 @@ use Rattle.kept_map.specs.declared.maps.Item.{Item}
 use Rattle.kept_map.specs.declared.maps.Item.TheVariants.{Source}
 use Rattle.kept_map.specs.declared.maps.Sources.{Sources}
 use Rattle.kept_map.specs.declared.maps.KeptMap.{KeptMap}
-use Rattle.kept_map.specs.declared.preparing.Prepared.{Prepared}
+use Rattle.kept_map.specs.declared.repairing.Prepared.{Prepared}
 use Rattle.kept_map.proofs.Given.{source_making}
 use Rattle.kept_map.proofs.Ready.{rests_after}
 use Rattle.kept_map.proofs.Committed.{committed_prepared}

@@ -28,7 +28,7 @@ use Rattle.kept_map.specs.Repairs.{IsUnder, IsPreparedFor, counts_view}
 use Rattle.kept_map.specs.declared.maps.Item.{Item}
 use Rattle.kept_map.specs.declared.maps.Sources.{Sources}
 use Rattle.kept_map.specs.declared.maps.KeptMap.{KeptMap}
-use Rattle.kept_map.specs.declared.preparing.Prepared.{Prepared}
+use Rattle.kept_map.specs.declared.repairing.Prepared.{Prepared}
 use Rattle.kept_map.proofs.Committed.{committed_prepared}
 use Rattle.kept_map.proofs.SourcesDropped.{IsWithout, without, dropped_sources, dropped_entries, dropped_stamps, rest_dropped}
 use Rattle.live_engine.specs.Accepts.{Accepts}

@@ -22,7 +22,7 @@ use Rattle.op_jobs.proofs.Hits.{tiles_few, damage_most}
 use Rattle.kept_map.specs.Keeps.{IsKept}
 use Rattle.kept_map.specs.Repairs.{plan_in, IsPreparedFor}
 use Rattle.kept_map.specs.declared.maps.KeptMap.{KeptMap}
-use Rattle.kept_map.specs.declared.preparing.Prepared.{Prepared}
+use Rattle.kept_map.specs.declared.repairing.Prepared.{Prepared}
 use Rattle.kept_map.proofs.Few.{few_nodes, few_whole}
 
 pub tiles_long : (s : Size) → length (tiles s) ≡ tiles_in s

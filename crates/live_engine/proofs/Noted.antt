@@ -26,7 +26,7 @@ use Rattle.kept_map.specs.Keeps.{IsKept}
 use Rattle.kept_map.specs.Edits.{IsSetUp, IsSamePlan}
 use Rattle.kept_map.specs.Repairs.{IsPreparedFor}
 use Rattle.kept_map.specs.declared.maps.KeptMap.{KeptMap}
-use Rattle.kept_map.specs.declared.preparing.Prepared.{Prepared}
+use Rattle.kept_map.specs.declared.repairing.Prepared.{Prepared}
 use Rattle.kept_map.proofs.Given.{source_value}
 use Rattle.kept_map.proofs.Naming.{source_def}
 use Rattle.kept_map.proofs.SettingUp.{nothing_operands, left_changes, stamps_stay}

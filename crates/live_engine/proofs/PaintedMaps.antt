@@ -49,7 +49,7 @@ use Rattle.kept_map.specs.Keeps.{IsKept}
 use Rattle.kept_map.specs.Edits.{change_in, IsSetUp, IsSamePlan}
 use Rattle.kept_map.specs.Repairs.{IsPreparedFor, own_damage}
 use Rattle.kept_map.specs.declared.maps.KeptMap.{KeptMap}
-use Rattle.kept_map.specs.declared.preparing.Prepared.{Prepared}
+use Rattle.kept_map.specs.declared.repairing.Prepared.{Prepared}
 use Rattle.kept_map.proofs.Given.{undotted, source_making, source_value}
 use Rattle.kept_map.proofs.Groupings.{nodes_in_groups, groups_repaint}
 use Rattle.kept_map.proofs.LayersByName.{layer_source, stamps_found}

@@ -1,5 +1,6 @@
 -- An edit that leaves the plan: what is prepared can be put in place, and the map is then that of the edit.
-use Rattle.std.proofs.Common.{◌≡◌, Bool, ℕ, ◌+◌, ◌≤◌, cond, List, [], ◌∷◌, length, count_by, position, Option, Some, is_some, bytes_eq, refl, sym, ap, subst, ◌∙◌}
+use Rattle.std.proofs.Common.{◌≡◌, Bool, ℕ, ◌+◌, ◌≤◌, cond, List, [], ◌∷◌, length, map, count_by, get_or, position, Option, Some, is_some, slice_get, bytes_eq, refl, sym, ap, subst, ◌∙◌, arith}
+use Rattle.std.proofs.lemmas.Option.{slice_get_within, slice_get-get_or}
 use Rattle.std.specs.List.{All, IsDistinct}
 use Rattle.map_nums.specs.Counts.{raised}
 use Rattle.map_nums.specs.Grids.{Size}
@@ -16,7 +17,12 @@ use Rattle.map_edits.specs.Limits.{is_source, is_flat, most_sources, most_flats}
 use Rattle.map_edits.specs.WholeStates.{WholeState}
 use Rattle.map_edits.specs.WholeEdits.{WholeEdit}
 use Rattle.map_edits.specs.StampsAfter.{stamps_at}
+use Rattle.map_waves.specs.Prepared.{IsReady}
+use Rattle.map_waves.proofs.Rowing.{some_at}
+use Rattle.map_waves.specs.Placing.{slot_of}
 use Rattle.map_waves.specs.declared.plans.Shift.{Shift}
+use Rattle.map_waves.specs.declared.plans.Step.{Step}
+use Rattle.statement_parser.specs.declared.op.Op.{Op as Given}
 use Rattle.edit_plans.specs.PlansFor.{AreRefsFor}
 use Rattle.edit_plans.specs.Planned.{is_source_node}
 use Rattle.kept_map.specs.Groups.{group_of, groups_of}
@@ -24,14 +30,14 @@ use Rattle.kept_map.specs.Maps.{source_in, def_by, entries_by, entries_in, names
 use Rattle.kept_map.specs.Keeps.{IsNamed, IsKept}
 use Rattle.kept_map.specs.Edits.{IsSetUp}
 use Rattle.kept_map.specs.Repairs.{IsPreparedFor}
-use Rattle.kept_map.specs.Commits.{IsCommitted}
+use Rattle.kept_map.specs.Commits.{IsAtRest, IsCommitted}
 use Rattle.kept_map.specs.declared.maps.Item.{Item}
 use Rattle.kept_map.specs.declared.maps.Item.TheVariants.{Source, Statement}
 use Rattle.kept_map.specs.declared.maps.KeptMap.{KeptMap}
-use Rattle.kept_map.specs.declared.preparing.Prepared.{Prepared}
+use Rattle.kept_map.specs.declared.repairing.Prepared.{Prepared}
 use Rattle.kept_map.proofs.Attempted.{attempt_counts}
 use Rattle.kept_map.proofs.Groupings.{nodes_in_groups}
-use Rattle.kept_map.proofs.Ready.{slots_within, own_slots, are_ready, rests_after}
+use Rattle.kept_map.proofs.Ready.{slot_kept, one_place, are_ready, rests_after}
 use Rattle.live_engine.specs.Settles.{CanSettle, HaveSettled}
 use Rattle.live_engine.proofs.Counted.{count_first, count_join}
 
@@ -80,13 +86,33 @@ module _ (size size' : Size) (ls ls' : Name → Option LayerState) where
 
 module _ (m : KeptMap) (e : WholeEdit) (t : WholeState) (shift : Shift) (prepared : Prepared) (kept : IsKept m) (set_up : IsSetUp m e t shift m.sources.names.keys)
     (is : IsPreparedFor m e t shift m.sources.names.keys m.planned.names.keys m.planned.steps.items prepared) where
+  -- the step of what is kept at a place, its name and that it rests there
+  rested : (k : ℕ) (x : Step Given) → slice_get m.planned.steps.items k ≡ Some x → IsAtRest k x x
+  rested k x here =
+      let within = slice_get_within m.planned.steps.items k x here in
+      let steps_count = kept.statements.planned_are.count in
+      let kept_count = kept.statements.count in
+      let n = get_or m.planned.names.keys k [] in
+      let named : slice_get m.planned.names.keys k ≡ Some n = slice_get-get_or m.planned.names.keys k [] (omega (arith, within, steps_count)) in
+      let own = some_at m.kept.items k (omega (arith, within, kept_count)) in
+      record {
+        op = refl;
+        depth = refl;
+        kept = is.under.kept k n x named here ∙ one_place m e t shift m.sources.names.keys m.planned.names.keys m.planned.steps.items kept is.under set_up k n named;
+        written = (kept.statements.each k n x own.0 named here own.1).written;
+      }
+
   pub can_settle : CanSettle m prepared
   can_settle = record {
-    own = own_slots m e t shift m.sources.names.keys m.planned.names.keys m.planned.steps.items kept is.under set_up;
-    slots = slots_within m e t shift m.sources.names.keys m.planned.names.keys m.planned.steps.items kept is.under;
-    all = is.count;
-    ready = are_ready m e t shift m.sources.names.keys m.planned.names.keys m.planned.steps.items kept is.under prepared.made.items is.made;
-    room = is.room;
+    rest = rested;
+    kept = kept.statements.count;
+    all = is.count ∙ sym kept.statements.count;
+    ready = λ k own r at made.
+        let within = slice_get_within m.kept.items k own at in
+        let kept_count = kept.statements.count in
+        let x = some_at m.planned.steps.items k (omega (arith, within, kept_count)) in
+        let ready = are_ready m e t shift m.sources.names.keys m.planned.names.keys m.planned.steps.items kept is.under prepared.made.items is.made k x.0 r x.1 made in
+        subst (λ o. IsReady m.extent o r) (ap (slot_of (map (λ l. Some l) m.kept.items)) (rested k x.0 x.1).kept ∙ slot_kept m.kept.items (Some k) ∙ at) ready;
   }
 
   -- the map after it

@@ -20,7 +20,7 @@ use Rattle.kept_map.specs.Maps.{grid_of, entries_in, names_in, seen}
 use Rattle.kept_map.specs.Edits.{IsSetUp}
 use Rattle.kept_map.specs.Repairs.{IsPreparedFor}
 use Rattle.kept_map.specs.declared.maps.KeptMap.{KeptMap}
-use Rattle.kept_map.specs.declared.preparing.Prepared.{Prepared}
+use Rattle.kept_map.specs.declared.repairing.Prepared.{Prepared}
 
 -- a load, or a new layer
 pub record IsAdding (s : WholeState) (edit : Edit) (n : Name) (grid : Grid) : Type 0 where

@@ -14,7 +14,7 @@ use Rattle.kept_map.specs.Commits.{Rests}
 use Rattle.kept_map.specs.Lowering.{IsTakenOut}
 use Rattle.kept_map.specs.declared.maps.Item.TheVariants.{Source}
 use Rattle.kept_map.specs.declared.maps.KeptMap.{KeptMap}
-use Rattle.kept_map.specs.declared.preparing.Prepared.{Prepared}
+use Rattle.kept_map.specs.declared.repairing.Prepared.{Prepared}
 
 -- the statements that were prepared, their plan and their graph; one more edit is counted
 pub record ArePut (old new : KeptMap) (graph : List Group) (planned : Planned) (prepared : Prepared) : Type 0 where

@@ -1,21 +1,23 @@
 -- An edit that leaves the plan is put in place.
-use Rattle.std.specs.Prelude.{◌≡◌, ℕ, ◌<◌, length, map, Some, slice_get}
+use Rattle.std.specs.Prelude.{◌≡◌, ℕ, length, map, Option, Some, slice_get}
 use Rattle.map_nums.specs.Counts.{raised}
-use Rattle.map_waves.specs.Placing.{HaveOwnSlots, AreReady, ArePlaced}
+use Rattle.map_waves.specs.Placing.{ArePlaced}
+use Rattle.map_waves.specs.Prepared.{IsReady}
+use Rattle.map_waves.specs.declared.keeping.Kept.{Kept}
+use Rattle.map_waves.specs.declared.keeping.Made.{Made}
 use Rattle.map_waves.specs.declared.plans.Step.{Step}
 use Rattle.statement_parser.specs.declared.op.Op.{Op as Given}
-use Rattle.kept_map.specs.Rooms.{HasRoom}
-use Rattle.kept_map.specs.Commits.{Rests}
+use Rattle.op_jobs.specs.declared.beside.Beside.{Beside}
+use Rattle.kept_map.specs.Commits.{IsAtRest, Rests}
 use Rattle.kept_map.specs.declared.maps.KeptMap.{KeptMap}
-use Rattle.kept_map.specs.declared.preparing.Prepared.{Prepared}
+use Rattle.kept_map.specs.declared.repairing.Prepared.{Prepared}
 
--- what was prepared of all statements fits what is kept of them
+-- the steps rest, and what was prepared of each statement fits what is kept of it
 pub record CanSettle (m : KeptMap) (prepared : Prepared) : Type 0 where
-  pub own : HaveOwnSlots m.planned.steps.items
-  pub slots : (k i : ℕ) (x : Step Given) → slice_get m.planned.steps.items k ≡ Some x → x.kept ≡ Some i → i < length m.kept.items
-  pub all : length prepared.made.items ≡ length m.planned.steps.items
-  pub ready : AreReady m.extent (map (λ k. Some k) m.kept.items) m.planned.steps.items prepared.made.items
-  pub room : HasRoom (length m.kept.items) (length m.planned.steps.items) prepared.room
+  pub rest : (k : ℕ) (x : Step Given) → slice_get m.planned.steps.items k ≡ Some x → IsAtRest k x x
+  pub kept : length m.kept.items ≡ length m.planned.steps.items
+  pub all : length prepared.made.items ≡ length m.kept.items
+  pub ready : (k : ℕ) (own : Kept Beside) (r : Option (Made Beside)) → slice_get m.kept.items k ≡ Some own → slice_get prepared.made.items k ≡ Some r → IsReady m.extent (Some own) r
 
 -- it is kept, and the steps rest
 pub record HaveSettled (old new : KeptMap) (prepared : Prepared) : Type 0 where

@@ -1,6 +1,6 @@
 //! Sources that are loaded or made new.
 
-ghost use Rattle.std.specs.Prelude.{◌≡◌, ◌<◌, ◌≤◌, ◌++◌, ◌∷◌, [], false, IsTrue, None, Ok, position, bytes_eq, count_by};
+ghost use Rattle.std.specs.Prelude.{◌≡◌, ◌<◌, ◌≤◌, ◌++◌, ◌∷◌, [], length, false, IsTrue, None, Ok, position, bytes_eq, count_by};
 ghost use Rattle.map_nums.specs.Counts.{raised};
 ghost use Rattle.map_words.specs.Names.{is_plain};
 ghost use Rattle.layer_tiles.specs.Layers.{IsLayer, layer_of};
@@ -13,7 +13,7 @@ ghost use Rattle.map_edits.specs.WholeEdits.{of_names};
 ghost use Rattle.statement_graph.specs.Puts.{source_node};
 ghost use Rattle.kept_map.specs.Maps.{grid_of, entries_in, seen};
 ghost use Rattle.kept_map.specs.Keeps.{IsKept};
-ghost use Rattle.kept_map.specs.Rooms.{HasNextRoom};
+ghost use Rattle.kept_map.specs.Rooms.{HasRoom, HasNextRoom};
 ghost use Rattle.live_engine.specs.Accepts.{Accepts, ReadsWithin};
 ghost use Rattle.live_engine.specs.Adding.{IsAdding, IsAddedFor};
 ghost use Rattle.live_engine.specs.Puts.{IsSourcePut};
@@ -24,15 +24,13 @@ use crate::graphs::with_source;
 use crate::halted::refused;
 use crate::limits::{MOST_SOURCES, has, sources};
 use crate::placing::{commit, insert};
-use edit_plans::Planned;
-use kept_map::{Item, KeptMap, Prepared, prepare};
+use kept_map::{Item, KeptMap, Replanned, prepare};
 use layer_tiles::{Cell, Extent, Layer, Tally};
 use map_waves::Shift;
 use map_words::Name;
 use statement_graph::Graph;
-use std::alloc::Global;
 use std::thread::Threads;
-use tile_workers::Gate;
+use tile_workers::{Crew, Gate};
 
 fn same_size(one: Extent, other: Extent) -> bool
     ensures { result ≡ is_same_size one other }
@@ -43,19 +41,14 @@ fn same_size(one: Extent, other: Extent) -> bool
 /// Loads a layer.
 pub(crate) fn load<M: Tally + Send, G: Gate + Sync, R: Threads + Sync>(
     map: &mut KeptMap,
-    rt: &R,
-    alloc: Global,
+    crew: &Crew<'_, R, G>,
     name: Name,
     mut layer: Layer,
-    workers: u32,
-    gate: &G,
     tally: &mut M,
 ) -> Result<Accepted, Refusal>
     requires kept { IsKept map.old }
     requires plain { IsTrue (is_plain name) }
-    requires some { 1 ≤ workers }
-    requires most { workers ≤ 64 }
-    requires whole { 1 < workers → IsUndivided (M.counts tally.old) }
+    requires whole { 1 < crew.now.workers → IsUndivided (M.counts tally.old) }
     ensures accepts { Accepts (seen map.old) (seen map.new) (of_names (edits.load name (grid_of layer))) result }
     ensures kept { IsKept map.new }
     ensures reads { ReadsWithin (seen map.old) (of_names (edits.load name (grid_of layer))) (M.counts tally.old) (M.counts tally.new) }
@@ -69,25 +62,20 @@ pub(crate) fn load<M: Tally + Send, G: Gate + Sync, R: Threads + Sync>(
     }
     layer.restamp(map.number.saturating_add(1));
     map.reserve()?;
-    add_source(map, rt, alloc, name, layer, workers, gate, tally)
+    add_source(map, crew, name, layer, tally)
 }
 
 /// Makes a layer that has a cell everywhere.
 pub(crate) fn new_layer<M: Tally + Send, G: Gate + Sync, R: Threads + Sync>(
     map: &mut KeptMap,
-    rt: &R,
-    alloc: Global,
+    crew: &Crew<'_, R, G>,
     name: Name,
     cell: Cell,
-    workers: u32,
-    gate: &G,
     tally: &mut M,
 ) -> Result<Accepted, Refusal>
     requires kept { IsKept map.old }
     requires plain { IsTrue (is_plain name) }
-    requires some { 1 ≤ workers }
-    requires most { workers ≤ 64 }
-    requires whole { 1 < workers → IsUndivided (M.counts tally.old) }
+    requires whole { 1 < crew.now.workers → IsUndivided (M.counts tally.old) }
     ensures accepts { Accepts (seen map.old) (seen map.new) (of_names (edits.new_layer name cell)) result }
     ensures kept { IsKept map.new }
     ensures reads { ReadsWithin (seen map.old) (of_names (edits.new_layer name cell)) (M.counts tally.old) (M.counts tally.new) }
@@ -95,20 +83,17 @@ pub(crate) fn new_layer<M: Tally + Send, G: Gate + Sync, R: Threads + Sync>(
     if has(map, &name) {
         return Err(Refusal::Exists(name));
     }
-    let layer = Layer::constant(alloc, map.extent, cell, map.number.saturating_add(1))?;
+    let layer = Layer::constant(crew.alloc, map.extent, cell, map.number.saturating_add(1))?;
     map.reserve()?;
-    add_source(map, rt, alloc, name, layer, workers, gate, tally)
+    add_source(map, crew, name, layer, tally)
 }
 
 /// Adds a source with a layer of the map's size. The name isn't there, and there is room for it.
 fn add_source<M: Tally + Send, G: Gate + Sync, R: Threads + Sync>(
     map: &mut KeptMap,
-    rt: &R,
-    alloc: Global,
+    crew: &Crew<'_, R, G>,
     name: Name,
     layer: Layer,
-    workers: u32,
-    gate: &G,
     tally: &mut M,
 ) -> Result<Accepted, Refusal>
     requires kept { IsKept map.old }
@@ -116,9 +101,7 @@ fn add_source<M: Tally + Send, G: Gate + Sync, R: Threads + Sync>(
     requires plain { IsTrue (is_plain name) }
     requires new { find_def (entries_in map.old) name ≡ None }
     requires layer { layer ≡ layer_of map.old.extent layer.cells (raised map.old.number 1) }
-    requires some { 1 ≤ workers }
-    requires most { workers ≤ 64 }
-    requires whole { 1 < workers → IsUndivided (M.counts tally.old) }
+    requires whole { 1 < crew.now.workers → IsUndivided (M.counts tally.old) }
     ensures accepts { (edit : edits.Edit) → IsAdding (seen map.old) edit name (grid_of layer) → Accepts (seen map.old) (seen map.new) (of_names edit) result }
     ensures kept { IsKept map.new }
     ensures reads { (edit : edits.Edit) → IsAdding (seen map.old) edit name (grid_of layer) → ReadsWithin (seen map.old) (of_names edit) (M.counts tally.old) (M.counts tally.new) }
@@ -126,15 +109,12 @@ fn add_source<M: Tally + Send, G: Gate + Sync, R: Threads + Sync>(
     if sources(map) >= MOST_SOURCES {
         return Err(Refusal::Limit(Which::Sources));
     }
-    let graph = with_source(&map.graph, alloc, &name)?;
-    let key = name.copy(alloc)?;
+    let graph = with_source(&map.graph, crew.alloc, &name)?;
+    let key = name.copy(crew.alloc)?;
     // Tells the proof that it is a layer.
     let _extent = layer.extent();
     match prepare(
-        rt,
-        alloc,
-        workers,
-        gate,
+        crew,
         map,
         Shift::Loaded(&layer),
         &graph,
@@ -143,7 +123,7 @@ fn add_source<M: Tally + Send, G: Gate + Sync, R: Threads + Sync>(
         &[],
         tally,
     ) {
-        Ok((planned, prepared)) => Ok(put_source(map, name, key, layer, graph, planned, prepared)),
+        Ok(replanned) => Ok(put_source(map, name, key, layer, graph, replanned)),
         Err(halt) => Err(refused(halt)),
     }
 }
@@ -155,8 +135,7 @@ fn put_source(
     key: Name,
     layer: Layer,
     graph: Graph,
-    planned: Planned,
-    prepared: Prepared,
+    replanned: Replanned,
 ) -> Accepted
     requires kept { IsKept map.old }
     requires room { HasNextRoom map.old }
@@ -167,13 +146,14 @@ fn put_source(
     requires layer { layer ≡ layer_of map.old.extent layer.cells (raised map.old.number 1) }
     requires whole { IsLayer layer }
     requires graph { graph ≡ map.old.graph ++ record { name = name; nodes = source_node name ∷ [] } ∷ [] }
-    requires ready { (edit : edits.Edit) × IsAdding (seen map.old) edit name (grid_of layer) × IsAddedFor map.old name layer edit planned prepared }
-    ensures accepts { (edit : edits.Edit) → IsAdding (seen map.old) edit name (grid_of layer) → IsAddedFor map.old name layer edit planned prepared → Accepts (seen map.old) (seen map.new) (of_names edit) (Ok result) }
+    requires ready { (edit : edits.Edit) × IsAdding (seen map.old) edit name (grid_of layer) × IsAddedFor map.old name layer edit replanned.planned replanned.prepared }
+    requires kept_room { HasRoom (length map.old.kept.items) (length replanned.planned.steps.items) replanned.room }
+    ensures accepts { (edit : edits.Edit) → IsAdding (seen map.old) edit name (grid_of layer) → IsAddedFor map.old name layer edit replanned.planned replanned.prepared → Accepts (seen map.old) (seen map.new) (of_names edit) (Ok result) }
     ensures kept { IsKept map.new }
 {
     let tiles = map.extent.tiles();
-    let counts = joined(tiles, tiles, prepared.counts);
-    commit(map, graph, planned, prepared);
+    let counts = joined(tiles, tiles, replanned.prepared.counts);
+    commit(map, graph, replanned);
     enter(map, name, key, layer);
     Accepted {
         number: map.number,

@@ -1,6 +1,6 @@
 //! Statements that are written or rewritten.
 
-ghost use Rattle.std.specs.Prelude.{◌≡◌, ◌<◌, ◌≤◌, false, IsTrue, None, Ok};
+ghost use Rattle.std.specs.Prelude.{◌≡◌, ◌<◌, ◌≤◌, length, false, IsTrue, None, Ok};
 ghost use Rattle.layer_tiles.specs.Tallies.{IsUndivided};
 ghost use Rattle.indexmap.specs.IndexMap.{spare};
 ghost use Rattle.map_words.specs.Names.{is_plain};
@@ -11,6 +11,7 @@ ghost use Rattle.kept_map.specs.Keeps.{IsKept};
 ghost use Rattle.kept_map.specs.Maps.{names_with};
 ghost use Rattle.map_waves.specs.declared.plans.Shift.TheVariants.{Nothing};
 ghost use Rattle.kept_map.specs.Repairs.{IsPreparedFor};
+ghost use Rattle.kept_map.specs.Rooms.{HasRoom};
 ghost use Rattle.live_engine.specs.Accepts.{Accepts, ReadsWithin};
 ghost use Rattle.live_engine.specs.Drafts.{defines, state_with_it, IsDraft, IsDrafted};
 
@@ -21,8 +22,7 @@ use crate::limits::{Kind, kind_of};
 use crate::placing::{commit, insert};
 use crate::statement_graphs::with_statement;
 use crate::statement_limits::beyond;
-use edit_plans::Planned;
-use kept_map::{Item, KeptMap, Prepared, prepare};
+use kept_map::{Item, KeptMap, Replanned, prepare};
 use layer_tiles::Tally;
 use map_waves::Shift;
 use map_words::Name;
@@ -31,31 +31,26 @@ use statement_graph::{Graph, GraphRefusal};
 use statement_parser::Written;
 use std::alloc::Global;
 use std::thread::Threads;
-use tile_workers::Gate;
+use tile_workers::{Crew, Gate};
 
 /// Writes a statement, in its place where the name is there.
 pub(crate) fn define<M: Tally + Send, G: Gate + Sync, R: Threads + Sync>(
     map: &mut KeptMap,
-    rt: &R,
-    alloc: Global,
+    crew: &Crew<'_, R, G>,
     name: Name,
     written: Written,
-    workers: u32,
-    gate: &G,
     tally: &mut M,
 ) -> Result<Accepted, Refusal>
     requires kept { IsKept map.old }
     requires plain { IsTrue (is_plain name) }
     requires formed { IsWritten (written_view written) }
-    requires some { 1 ≤ workers }
-    requires most { workers ≤ 64 }
-    requires whole { 1 < workers → IsUndivided (M.counts tally.old) }
+    requires whole { 1 < crew.now.workers → IsUndivided (M.counts tally.old) }
     ensures accepts { Accepts (seen map.old) (seen map.new) (defines name written) result }
     ensures kept { IsKept map.new }
     ensures reads { ReadsWithin (seen map.old) (defines name written) (M.counts tally.old) (M.counts tally.new) }
 {
     map.reserve()?;
-    put(map, rt, alloc, name, written, workers, gate, tally)
+    put(map, crew, name, written, tally)
 }
 
 /// What a statement stands for, and the graph with it.
@@ -95,21 +90,21 @@ fn place(
     name: Name,
     written: Written,
     draft: Draft,
-    planned: Planned,
-    prepared: Prepared,
+    replanned: Replanned,
 ) -> Accepted
     requires kept { IsKept map.old }
     requires room { 0 < spare map.old.names }
     requires plain { IsTrue (is_plain name) }
     requires formed { IsWritten (written_view written) }
     requires draft { IsDraft map.old name written draft.flats.items draft.graph }
-    requires prepared { IsPreparedFor map.old (defines name written) (state_with_it map.old name written draft.flats.items) Nothing (names_with map.old.sources None) planned.names.keys planned.steps.items prepared }
+    requires prepared { IsPreparedFor map.old (defines name written) (state_with_it map.old name written draft.flats.items) Nothing (names_with map.old.sources None) replanned.planned.names.keys replanned.planned.steps.items replanned.prepared }
+    requires kept_room { HasRoom (length map.old.kept.items) (length replanned.planned.steps.items) replanned.room }
     ensures accepts { Accepts (seen map.old) (seen map.new) (defines name written) (Ok result) }
     ensures kept { IsKept map.new }
 {
-    let counts = prepared.counts;
+    let counts = replanned.prepared.counts;
     let Draft { flats, graph } = draft;
-    commit(map, graph, planned, prepared);
+    commit(map, graph, replanned);
     insert(&mut map.names, name, Item::Statement { written, flats });
     Accepted {
         number: map.number,
@@ -120,34 +115,26 @@ fn place(
 /// Writes a statement. There is room for its name.
 fn put<M: Tally + Send, G: Gate + Sync, R: Threads + Sync>(
     map: &mut KeptMap,
-    rt: &R,
-    alloc: Global,
+    crew: &Crew<'_, R, G>,
     name: Name,
     written: Written,
-    workers: u32,
-    gate: &G,
     tally: &mut M,
 ) -> Result<Accepted, Refusal>
     requires kept { IsKept map.old }
     requires room { 0 < spare map.old.names }
     requires plain { IsTrue (is_plain name) }
     requires formed { IsWritten (written_view written) }
-    requires some { 1 ≤ workers }
-    requires most { workers ≤ 64 }
-    requires whole { 1 < workers → IsUndivided (M.counts tally.old) }
+    requires whole { 1 < crew.now.workers → IsUndivided (M.counts tally.old) }
     ensures accepts { Accepts (seen map.old) (seen map.new) (defines name written) result }
     ensures kept { IsKept map.new }
     ensures reads { ReadsWithin (seen map.old) (defines name written) (M.counts tally.old) (M.counts tally.new) }
 {
-    let draft = match drafted(map, alloc, &name, &written) {
+    let draft = match drafted(map, crew.alloc, &name, &written) {
         Ok(draft) => draft,
         Err(refusal) => return Err(refusal),
     };
     match prepare(
-        rt,
-        alloc,
-        workers,
-        gate,
+        crew,
         map,
         Shift::Nothing,
         &draft.graph,
@@ -156,7 +143,7 @@ fn put<M: Tally + Send, G: Gate + Sync, R: Threads + Sync>(
         draft.flats.as_slice(),
         tally,
     ) {
-        Ok((planned, prepared)) => Ok(place(map, name, written, draft, planned, prepared)),
+        Ok(replanned) => Ok(place(map, name, written, draft, replanned)),
         Err(halt) => Err(refused(halt)),
     }
 }

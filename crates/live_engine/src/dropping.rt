@@ -10,6 +10,7 @@ ghost use Rattle.map_edits.specs.Entries.{find_def};
 ghost use Rattle.kept_map.specs.Maps.{entries_in, names_with, seen};
 ghost use Rattle.kept_map.specs.Keeps.{IsKept};
 ghost use Rattle.kept_map.specs.Repairs.{IsPreparedFor};
+ghost use Rattle.kept_map.specs.Rooms.{HasRoom};
 ghost use Rattle.live_engine.specs.Accepts.{Accepts, ReadsWithin};
 ghost use Rattle.live_engine.specs.Dropping.{drops, dropped_from};
 ghost use Rattle.live_engine.specs.Puts.{IsNameOut};
@@ -19,31 +20,24 @@ use crate::graphs::without;
 use crate::halted::refused;
 use crate::limits::has;
 use crate::placing::commit;
-use edit_plans::Planned;
-use kept_map::{KeptMap, Prepared, prepare, take_source};
+use kept_map::{KeptMap, Replanned, prepare, take_source};
 use layer_tiles::Tally;
 use map_waves::Shift;
 use map_words::Name;
 use statement_graph::Graph;
-use std::alloc::Global;
 use std::thread::Threads;
-use tile_workers::Gate;
+use tile_workers::{Crew, Gate};
 
 /// Takes a source or a statement out. What lacks it becomes undefined, and none gets a fault.
 pub(crate) fn drop_name<M: Tally + Send, G: Gate + Sync, R: Threads + Sync>(
     map: &mut KeptMap,
-    rt: &R,
-    alloc: Global,
+    crew: &Crew<'_, R, G>,
     name: Name,
-    workers: u32,
-    gate: &G,
     tally: &mut M,
 ) -> Result<Accepted, Refusal>
     requires kept { IsKept map.old }
     requires plain { IsTrue (is_plain name) }
-    requires some { 1 ≤ workers }
-    requires most { workers ≤ 64 }
-    requires whole { 1 < workers → IsUndivided (M.counts tally.old) }
+    requires whole { 1 < crew.now.workers → IsUndivided (M.counts tally.old) }
     ensures accepts { Accepts (seen map.old) (seen map.new) (drops name) result }
     ensures kept { IsKept map.new }
     ensures reads { ReadsWithin (seen map.old) (drops name) (M.counts tally.old) (M.counts tally.new) }
@@ -51,43 +45,26 @@ pub(crate) fn drop_name<M: Tally + Send, G: Gate + Sync, R: Threads + Sync>(
     if !has(map, &name) {
         return Err(Refusal::Unknown(name));
     }
-    let graph = without(&map.graph, alloc, &name)?;
-    match prepare(
-        rt,
-        alloc,
-        workers,
-        gate,
-        map,
-        Shift::Nothing,
-        &graph,
-        None,
-        &name,
-        &[],
-        tally,
-    ) {
-        Ok((planned, prepared)) => Ok(take_out(map, &name, graph, planned, prepared)),
+    let graph = without(&map.graph, crew.alloc, &name)?;
+    match prepare(crew, map, Shift::Nothing, &graph, None, &name, &[], tally) {
+        Ok(replanned) => Ok(take_out(map, &name, graph, replanned)),
         Err(halt) => Err(refused(halt)),
     }
 }
 
 /// Takes a name out, and puts what was prepared of the statements in place.
-fn take_out(
-    map: &mut KeptMap,
-    name: &Name,
-    graph: Graph,
-    planned: Planned,
-    prepared: Prepared,
-) -> Accepted
+fn take_out(map: &mut KeptMap, name: &Name, graph: Graph, replanned: Replanned) -> Accepted
     requires kept { IsKept map.old }
     requires plain { IsTrue (is_plain name.now) }
     requires there { is_some (find_def (entries_in map.old) name.now) ≡ true }
     requires graph { graph ≡ drop_group map.old.graph name.now }
-    requires ready { IsPreparedFor map.old (drops name.now) (dropped_from map.old name.now) Nothing (names_with map.old.sources None) planned.names.keys planned.steps.items prepared }
+    requires ready { IsPreparedFor map.old (drops name.now) (dropped_from map.old name.now) Nothing (names_with map.old.sources None) replanned.planned.names.keys replanned.planned.steps.items replanned.prepared }
+    requires room { HasRoom (length map.old.kept.items) (length replanned.planned.steps.items) replanned.room }
     ensures accepts { Accepts (seen map.old) (seen map.new) (drops name.now) (Ok result) }
     ensures kept { IsKept map.new }
 {
-    let counts = prepared.counts;
-    commit(map, graph, planned, prepared);
+    let counts = replanned.prepared.counts;
+    commit(map, graph, replanned);
     leave(map, name);
     Accepted {
         number: map.number,

@@ -31,7 +31,7 @@ use statement_parser::{LineEdit, Procedure, Written};
 use std::alloc::Global;
 use std::marker::Model;
 use std::thread::Threads;
-use tile_workers::Gate;
+use tile_workers::{Crew, Gate};
 
 /// A map, seen as the whole state of the map machine.
 #[derive(Drop)]
@@ -61,29 +61,20 @@ pub enum Entry<'a> {
 /// Makes the edit of a line.
 fn apply_line<M: Tally + Send, G: Gate + Sync, R: Threads + Sync>(
     map: &mut KeptMap,
-    rt: &R,
-    alloc: Global,
+    crew: &Crew<'_, R, G>,
     line: LineEdit,
-    workers: u32,
-    gate: &G,
     tally: &mut M,
 ) -> Result<Accepted, Refusal>
     requires kept { IsKept map.old }
     requires formed { IsEdit (edit_view line) }
-    requires some { 1 ≤ workers }
-    requires most { workers ≤ 64 }
-    requires whole { 1 < workers → IsUndivided (M.counts tally.old) }
+    requires whole { 1 < crew.now.workers → IsUndivided (M.counts tally.old) }
     ensures accepts { Accepts (seen map.old) (seen map.new) (line_edit (edit_view line)) result }
     ensures kept { IsKept map.new }
     ensures reads { ReadsWithin (seen map.old) (line_edit (edit_view line)) (M.counts tally.old) (M.counts tally.new) }
 {
     match line {
-        LineEdit::Define { name, written } => {
-            define(map, rt, alloc, name, written, workers, gate, tally)
-        }
-        LineEdit::Procedure(procedure) => {
-            define_procedure(map, rt, alloc, procedure, workers, gate, tally)
-        }
+        LineEdit::Define { name, written } => { define(map, crew, name, written, tally) }
+        LineEdit::Procedure(procedure) => { define_procedure(map, crew, procedure, tally) }
         LineEdit::Paint {
             name,
             r1,
@@ -98,43 +89,32 @@ fn apply_line<M: Tally + Send, G: Gate + Sync, R: Threads + Sync>(
                 bottom: r2,
                 right: c2,
             };
-            paint(map, rt, alloc, name, rectangle, cell, workers, gate, tally)
+            paint(map, crew, name, rectangle, cell, tally)
         }
-        LineEdit::New { name, cell } => {
-            new_layer(map, rt, alloc, name, cell, workers, gate, tally)
-        }
-        LineEdit::Drop { name } => drop_name(map, rt, alloc, name, workers, gate, tally),
-        LineEdit::Label { name, value, text } => {
-            label(map, rt, alloc, name, value, text, workers, gate, tally)
-        }
-        LineEdit::Symbol { name, value, sign } => {
-            symbol(map, rt, alloc, name, value, sign, workers, gate, tally)
-        }
+        LineEdit::New { name, cell } => { new_layer(map, crew, name, cell, tally) }
+        LineEdit::Drop { name } => drop_name(map, crew, name, tally),
+        LineEdit::Label { name, value, text } => { label(map, crew, name, value, text, tally) }
+        LineEdit::Symbol { name, value, sign } => { symbol(map, crew, name, value, sign, tally) }
     }
 }
 
 /// Makes an edit.
 fn apply<M: Tally + Send, G: Gate + Sync, R: Threads + Sync>(
     map: &mut KeptMap,
-    rt: &R,
-    alloc: Global,
+    crew: &Crew<'_, R, G>,
     cmd: Edit,
-    workers: u32,
-    gate: &G,
     tally: &mut M,
 ) -> Result<Accepted, Refusal>
     requires kept { IsKept map.old }
     requires formed { IsFormedEdit cmd }
-    requires some { 1 ≤ workers }
-    requires most { workers ≤ 64 }
-    requires whole { 1 < workers → IsUndivided (M.counts tally.old) }
+    requires whole { 1 < crew.now.workers → IsUndivided (M.counts tally.old) }
     ensures accepts { Accepts (seen map.old) (seen map.new) (edit_of cmd) result }
     ensures kept { IsKept map.new }
     ensures reads { ReadsWithin (seen map.old) (edit_of cmd) (M.counts tally.old) (M.counts tally.new) }
 {
     match cmd {
-        Edit::Load { name, layer } => load(map, rt, alloc, name, layer, workers, gate, tally),
-        Edit::Line(line) => apply_line(map, rt, alloc, line, workers, gate, tally),
+        Edit::Load { name, layer } => load(map, crew, name, layer, tally),
+        Edit::Line(line) => apply_line(map, crew, line, tally),
     }
 }
 
@@ -148,7 +128,7 @@ impl Engine {
         }
     }
 
-    /// Makes an edit by so many workers, and answers its number and its counts; or refuses it and changes nothing.
+    /// Makes an edit by so many workers, 1 to 64, and answers its number and its counts; or refuses it and changes nothing.
     pub fn edit<M: Tally + Send, G: Gate + Sync, R: Threads + Sync>(
         &mut self,
         rt: &R,
@@ -165,7 +145,23 @@ impl Engine {
         ensures accepts { Accepts self.old self.new (edit_of cmd) result }
         ensures reads { ReadsWithin self.old (edit_of cmd) (M.counts tally.old) (M.counts tally.new) }
     {
-        apply(&mut self.map, rt, alloc, cmd, workers, gate, tally)
+        let crew = Crew::new(rt, alloc, gate, workers);
+        self.edit_by(&crew, cmd, tally)
+    }
+
+    /// Makes an edit by the workers at hand, as [`Engine::edit`] does.
+    pub fn edit_by<M: Tally + Send, G: Gate + Sync, R: Threads + Sync>(
+        &mut self,
+        crew: &Crew<'_, R, G>,
+        cmd: Edit,
+        tally: &mut M,
+    ) -> Result<Accepted, Refusal>
+        requires formed { IsFormedEdit cmd }
+        requires whole { 1 < crew.now.workers → IsUndivided (M.counts tally.old) }
+        ensures accepts { Accepts self.old self.new (edit_of cmd) result }
+        ensures reads { ReadsWithin self.old (edit_of cmd) (M.counts tally.old) (M.counts tally.new) }
+    {
+        apply(&mut self.map, crew, cmd, tally)
     }
 
     /// How many edits were accepted; at most 2^64-1. No state that is reached has a cycle, or a fault.

@@ -14,9 +14,8 @@ use kept_map::KeptMap;
 use layer_tiles::{Tally, Text};
 use map_nums::Value;
 use map_words::Name;
-use std::alloc::Global;
 use std::thread::Threads;
-use tile_workers::Gate;
+use tile_workers::{Crew, Gate};
 
 /// The most labels, and the most symbols.
 const MOST_MARKS: usize = 4096;
@@ -24,19 +23,14 @@ const MOST_MARKS: usize = 4096;
 /// Puts a label for a value of a layer.
 pub(crate) fn label<M: Tally + Send, G: Gate + Sync, R: Threads + Sync>(
     map: &mut KeptMap,
-    rt: &R,
-    alloc: Global,
+    crew: &Crew<'_, R, G>,
     name: Name,
     value: Value,
     text: Text,
-    workers: u32,
-    gate: &G,
     tally: &mut M,
 ) -> Result<Accepted, Refusal>
     requires kept { IsKept map.old }
-    requires some { 1 ≤ workers }
-    requires most { workers ≤ 64 }
-    requires whole { 1 < workers → IsUndivided (M.counts tally.old) }
+    requires whole { 1 < crew.now.workers → IsUndivided (M.counts tally.old) }
     ensures accepts { Accepts (seen map.old) (seen map.new) (labels name value text) result }
     ensures kept { IsKept map.new }
     ensures reads { ReadsWithin (seen map.old) (labels name value text) (M.counts tally.old) (M.counts tally.new) }
@@ -47,33 +41,20 @@ pub(crate) fn label<M: Tally + Send, G: Gate + Sync, R: Threads + Sync>(
     if map.labels.count_with(&name, value) > MOST_MARKS {
         return Err(Refusal::Limit(Which::Labels));
     }
-    take_note(
-        map,
-        rt,
-        alloc,
-        Note::Label(name, value, text),
-        workers,
-        gate,
-        tally,
-    )
+    take_note(map, crew, Note::Label(name, value, text), tally)
 }
 
 /// Puts a symbol for a value of a layer.
 pub(crate) fn symbol<M: Tally + Send, G: Gate + Sync, R: Threads + Sync>(
     map: &mut KeptMap,
-    rt: &R,
-    alloc: Global,
+    crew: &Crew<'_, R, G>,
     name: Name,
     value: Value,
     sign: u8,
-    workers: u32,
-    gate: &G,
     tally: &mut M,
 ) -> Result<Accepted, Refusal>
     requires kept { IsKept map.old }
-    requires some { 1 ≤ workers }
-    requires most { workers ≤ 64 }
-    requires whole { 1 < workers → IsUndivided (M.counts tally.old) }
+    requires whole { 1 < crew.now.workers → IsUndivided (M.counts tally.old) }
     ensures accepts { Accepts (seen map.old) (seen map.new) (symbols name value sign) result }
     ensures kept { IsKept map.new }
     ensures reads { ReadsWithin (seen map.old) (symbols name value sign) (M.counts tally.old) (M.counts tally.new) }
@@ -84,13 +65,5 @@ pub(crate) fn symbol<M: Tally + Send, G: Gate + Sync, R: Threads + Sync>(
     if map.symbols.count_with(&name, value) > MOST_MARKS {
         return Err(Refusal::Limit(Which::Symbols));
     }
-    take_note(
-        map,
-        rt,
-        alloc,
-        Note::Symbol(name, value, sign),
-        workers,
-        gate,
-        tally,
-    )
+    take_note(map, crew, Note::Symbol(name, value, sign), tally)
 }

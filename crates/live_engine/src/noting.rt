@@ -19,7 +19,7 @@ use map_words::Name;
 use statement_parser::Procedure as Given;
 use std::alloc::Global;
 use std::thread::Threads;
-use tile_workers::Gate;
+use tile_workers::{Crew, Gate};
 
 /// A procedure, a label or a symbol.
 #[derive(Drop)]
@@ -47,28 +47,23 @@ fn put(map: &mut KeptMap, alloc: Global, note: Note) -> Result<(), NoMemory>
 /// Makes an edit that only notes something.
 pub(crate) fn take_note<M: Tally + Send, G: Gate + Sync, R: Threads + Sync>(
     map: &mut KeptMap,
-    rt: &R,
-    alloc: Global,
+    crew: &Crew<'_, R, G>,
     note: Note,
-    workers: u32,
-    gate: &G,
     tally: &mut M,
 ) -> Result<Accepted, Refusal>
     requires kept { IsKept map.old }
     requires may { MayNote (seen map.old) note }
-    requires some { 1 ≤ workers }
-    requires most { workers ≤ 64 }
-    requires whole { 1 < workers → IsUndivided (M.counts tally.old) }
+    requires whole { 1 < crew.now.workers → IsUndivided (M.counts tally.old) }
     ensures accepts { Accepts (seen map.old) (seen map.new) (edit_of_note note) result }
     ensures kept { IsKept map.new }
     ensures reads { ReadsWithin (seen map.old) (edit_of_note note) (M.counts tally.old) (M.counts tally.new) }
 {
-    let prepared = match prepare_kept(rt, alloc, workers, gate, map, Shift::Nothing, tally) {
+    let prepared = match prepare_kept(crew, map, Shift::Nothing, tally) {
         Ok(prepared) => prepared,
         Err(halt) => return Err(refused(halt)),
     };
     let counts = prepared.counts;
-    put(map, alloc, note)?;
+    put(map, crew.alloc, note)?;
     settle(map, prepared);
     Ok(Accepted {
         number: map.number,

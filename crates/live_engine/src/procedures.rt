@@ -21,7 +21,7 @@ use procedure_expand::{ExpandRefusal, Procs};
 use statement_parser::Procedure;
 use std::alloc::Global;
 use std::thread::Threads;
-use tile_workers::Gate;
+use tile_workers::{Crew, Gate};
 
 /// The most procedures.
 const MOST_PROCEDURES: usize = 32;
@@ -48,18 +48,13 @@ fn check(alloc: Global, procedures: &Procs, procedure: &Procedure) -> Result<(),
 /// Defines a procedure, after all others.
 pub(crate) fn define_procedure<M: Tally + Send, G: Gate + Sync, R: Threads + Sync>(
     map: &mut KeptMap,
-    rt: &R,
-    alloc: Global,
+    crew: &Crew<'_, R, G>,
     procedure: Procedure,
-    workers: u32,
-    gate: &G,
     tally: &mut M,
 ) -> Result<Accepted, Refusal>
     requires kept { IsKept map.old }
     requires formed { IsProcedure (procedure_view procedure) }
-    requires some { 1 ≤ workers }
-    requires most { workers ≤ 64 }
-    requires whole { 1 < workers → IsUndivided (M.counts tally.old) }
+    requires whole { 1 < crew.now.workers → IsUndivided (M.counts tally.old) }
     ensures accepts { Accepts (seen map.old) (seen map.new) (defines (procedure_view procedure)) result }
     ensures kept { IsKept map.new }
     ensures reads { ReadsWithin (seen map.old) (defines (procedure_view procedure)) (M.counts tally.old) (M.counts tally.new) }
@@ -67,17 +62,9 @@ pub(crate) fn define_procedure<M: Tally + Send, G: Gate + Sync, R: Threads + Syn
     if map.procedures.find(&procedure.name).is_some() {
         return Err(Refusal::Exists(procedure.name));
     }
-    match check(alloc, &map.procedures, &procedure) {
+    match check(crew.alloc, &map.procedures, &procedure) {
         Ok(()) => {}
         Err(refusal) => return Err(refusal),
     }
-    take_note(
-        map,
-        rt,
-        alloc,
-        Note::Procedure(procedure),
-        workers,
-        gate,
-        tally,
-    )
+    take_note(map, crew, Note::Procedure(procedure), tally)
 }

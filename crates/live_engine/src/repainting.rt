@@ -23,9 +23,8 @@ use kept_map::{KeptMap, prepare_kept};
 use layer_tiles::{Cell, Extent, Patch, Tally};
 use map_waves::Shift;
 use map_words::Name;
-use std::alloc::Global;
 use std::thread::Threads;
-use tile_workers::Gate;
+use tile_workers::{Crew, Gate};
 
 /// Whether a rectangle lies on the map.
 fn is_within(extent: Extent, rectangle: Rectangle) -> bool
@@ -68,20 +67,15 @@ fn repaint(map: &mut KeptMap, place: usize, patch: Patch)
 /// Puts a cell into a rectangle of a source.
 pub(crate) fn paint<M: Tally + Send, G: Gate + Sync, R: Threads + Sync>(
     map: &mut KeptMap,
-    rt: &R,
-    alloc: Global,
+    crew: &Crew<'_, R, G>,
     name: Name,
     rectangle: Rectangle,
     cell: Cell,
-    workers: u32,
-    gate: &G,
     tally: &mut M,
 ) -> Result<Accepted, Refusal>
     requires kept { IsKept map.old }
     requires formed { IsEdit (paints name rectangle.top rectangle.left rectangle.bottom rectangle.right cell) }
-    requires some { 1 ≤ workers }
-    requires most { workers ≤ 64 }
-    requires whole { 1 < workers → IsUndivided (M.counts tally.old) }
+    requires whole { 1 < crew.now.workers → IsUndivided (M.counts tally.old) }
     ensures accepts { Accepts (seen map.old) (seen map.new) (of_names (any_paint name (rectangle_of rectangle) cell)) result }
     ensures kept { IsKept map.new }
     ensures reads { ReadsWithin (seen map.old) (of_names (any_paint name (rectangle_of rectangle) cell)) (M.counts tally.old) (M.counts tally.new) }
@@ -95,9 +89,9 @@ pub(crate) fn paint<M: Tally + Send, G: Gate + Sync, R: Threads + Sync>(
         return Err(Refusal::Size(extent.rows() as u64, extent.columns() as u64));
     }
     let layer = &map.sources.layers[place];
-    let Painted { patch, met } = changed_by_paint(alloc, layer, rectangle, cell, tally)?;
+    let Painted { patch, met } = changed_by_paint(crew.alloc, layer, rectangle, cell, tally)?;
     let shift = Shift::Painted(place, &patch);
-    let prepared = match prepare_kept(rt, alloc, workers, gate, map, shift, tally) {
+    let prepared = match prepare_kept(crew, map, shift, tally) {
         Ok(prepared) => prepared,
         Err(halt) => return Err(refused(halt)),
     };

@@ -10,7 +10,7 @@ use std::alloc::Global;
 use std::process::Abort;
 use std::test::Fail;
 use std::thread::Threads;
-use tile_workers::NoGate;
+use tile_workers::{Crew, NoGate};
 
 #[test]
 fn cycle_through_two_statements(rt: HostRuntime) -> Result<(), Fail> {
@@ -193,7 +193,8 @@ fn loaded_nulls<R: AllocGlobal + Threads + Sync>(
         return Err(Fail::from("no name"));
     };
     let mut tally = Counts::new();
-    let reply = session.load_layer(rt, alloc, name, layer, 1, &NoGate, &mut tally)?;
+    let crew = Crew::new(rt, alloc, &NoGate, 1);
+    let reply = session.load_layer(&crew, name, layer, &mut tally)?;
     Ok(reply)
 }
 

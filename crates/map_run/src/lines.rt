@@ -72,11 +72,11 @@ pub fn answer_line<K: Sink, M: Tally + Send, G: Gate + Sync, R: Threads + Sync>(
         (record { held = K.held sink.new; faults = K.faults sink.new; tally = M.counts tally.new }) result }
 {
     let reply = session.step(
-        setup.rt,
-        setup.alloc,
+        setup.crew.rt,
+        setup.crew.alloc,
         line,
-        setup.workers.count,
-        setup.gate,
+        setup.crew.workers(),
+        setup.crew.gate,
         tally,
     )?;
     match reply.kind {
@@ -123,7 +123,7 @@ fn answer<K: Sink, M: Tally + Send, G: Gate + Sync, R: Threads + Sync>(
         (record { held = K.held sink.new; faults = K.faults sink.new; tally = M.counts tally.new }) result }
 {
     if count > LONGEST {
-        return answer_long(setup.alloc, sink, count);
+        return answer_long(setup.crew.alloc, sink, count);
     }
     answer_line(setup, session, sink, tally, &bytes[..count as usize])
 }

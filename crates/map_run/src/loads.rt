@@ -111,12 +111,12 @@ fn load_first<K: Sink, M: Tally + Send, G: Gate + Sync, R: Threads + Sync>(
         (record { held = K.held sink.new; faults = K.faults sink.new; tally = M.counts tally.new }) result }
 {
     let begun = Session::begin(
-        setup.rt,
-        setup.alloc,
+        setup.crew.rt,
+        setup.crew.alloc,
         name,
         bytes,
-        setup.workers.count,
-        setup.gate,
+        setup.crew.workers(),
+        setup.crew.gate,
         tally,
     )?;
     match begun {
@@ -143,12 +143,12 @@ fn load_next<K: Sink, M: Tally + Send, G: Gate + Sync, R: Threads + Sync>(
         (record { held = K.held sink.new; faults = K.faults sink.new; tally = M.counts tally.new }) result }
 {
     let reply = session.load(
-        setup.rt,
-        setup.alloc,
+        setup.crew.rt,
+        setup.crew.alloc,
         name,
         bytes,
-        setup.workers.count,
-        setup.gate,
+        setup.crew.workers(),
+        setup.crew.gate,
         tally,
     )?;
     put_loaded(session, &reply, sink)
@@ -171,7 +171,7 @@ fn load_bytes<K: Sink, M: Tally + Send, G: Gate + Sync, R: Threads + Sync>(
         (record { held = K.held sink.old; faults = K.faults sink.old; tally = M.counts tally.old })
         (record { held = K.held sink.new; faults = K.faults sink.new; tally = M.counts tally.new }) result }
 {
-    let name = plain_name(setup.alloc, name)?;
+    let name = plain_name(setup.crew.alloc, name)?;
     match session {
         None => load_first(setup, name, bytes, sink, tally),
         Some(session) => load_next(setup, session, name, bytes, sink, tally),
@@ -218,8 +218,8 @@ pub fn load_file<F: Shelf, K: Sink, M: Tally + Send, G: Gate + Sync, R: Threads 
         (record { held = K.held sink.old; faults = K.faults sink.old; tally = M.counts tally.old })
         (record { held = K.held sink.new; faults = K.faults sink.new; tally = M.counts tally.new }) result }
 {
-    match shelf.fetch(setup.alloc, pair.file, setup.limits.file) {
+    match shelf.fetch(setup.crew.alloc, pair.file, setup.limits.file) {
         Ok(bytes) => load_bytes(setup, session, pair.name, &bytes, sink, tally),
-        Err(fault) => not_fetched(setup.alloc, pair.name, setup.limits.file, fault, sink),
+        Err(fault) => not_fetched(setup.crew.alloc, pair.name, setup.limits.file, fault, sink),
     }
 }

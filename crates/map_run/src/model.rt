@@ -55,11 +55,11 @@ fn play_line<K: Sink, M: Tally + Send, G: Gate + Sync, R: Threads + Sync>(
         (record { held = K.held sink.new; faults = K.faults sink.new; tally = M.counts tally.new }) result }
 {
     let reply = session.step(
-        setup.rt,
-        setup.alloc,
+        setup.crew.rt,
+        setup.crew.alloc,
         line,
-        setup.workers.count,
-        setup.gate,
+        setup.crew.workers(),
+        setup.crew.gate,
         tally,
     )?;
     match reply.kind {
@@ -167,8 +167,8 @@ pub fn load_model<F: Shelf, K: Sink, M: Tally + Send, G: Gate + Sync, R: Threads
         (record { held = K.held sink.old; faults = K.faults sink.old; tally = M.counts tally.old })
         (record { held = K.held sink.new; faults = K.faults sink.new; tally = M.counts tally.new }) result }
 {
-    match shelf.fetch(setup.alloc, file, setup.limits.file) {
+    match shelf.fetch(setup.crew.alloc, file, setup.limits.file) {
         Ok(bytes) => play_lines(setup, session, &bytes, sink, tally),
-        Err(fault) => not_fetched(setup.alloc, setup.limits.file, fault, sink),
+        Err(fault) => not_fetched(setup.crew.alloc, setup.limits.file, fault, sink),
     }
 }

@@ -43,16 +43,8 @@ fn made_grid<M: Tally + Send, G: Gate + Sync, R: Threads + Sync>(
     ensures layer { IfOk result (λ r. record { size = r.1.size; cells = r.1.cells } ≡ by_place side.count (cell_in grid)) }
     ensures tally { RisesBy 0 0 (M.counts tally.old) (M.counts tally.new) }
 {
-    let name = plain_name(setup.alloc, grid.name())?;
-    let layer = sample_layer(
-        setup.rt,
-        setup.alloc,
-        setup.workers.count,
-        setup.gate,
-        side.count,
-        grid,
-        tally,
-    )?;
+    let name = plain_name(setup.crew.alloc, grid.name())?;
+    let layer = sample_layer(&setup.crew, side.count, grid, tally)?;
     Ok((name, layer))
 }
 
@@ -73,15 +65,7 @@ fn load_grid<K: Sink, M: Tally + Send, G: Gate + Sync, R: Threads + Sync>(
         (record { held = K.held sink.new; faults = K.faults sink.new; tally = M.counts tally.new }) result }
 {
     let (name, layer) = made_grid(setup, side, grid, tally)?;
-    let reply = session.load_layer(
-        setup.rt,
-        setup.alloc,
-        name,
-        layer,
-        setup.workers.count,
-        setup.gate,
-        tally,
-    )?;
+    let reply = session.load_layer(&setup.crew, name, layer, tally)?;
     put_loaded(session, &reply, sink)
 }
 
@@ -124,7 +108,7 @@ fn load_sample<K: Sink, M: Tally + Send, G: Gate + Sync, R: Threads + Sync>(
         (record { held = K.held sink.old; faults = K.faults sink.old; tally = M.counts tally.old })
         (record { held = K.held sink.new; faults = K.faults sink.new; tally = M.counts tally.new }) result }
 {
-    let session = Session::sample(setup.alloc, side.count)?;
+    let session = Session::sample(setup.crew.alloc, side.count)?;
     load_grids(setup, session, side, &SAMPLE_GRIDS, sink, tally)
 }
 
@@ -143,7 +127,7 @@ fn play_sample<K: Sink, M: Tally + Send, G: Gate + Sync, R: Threads + Sync>(
         (record { held = K.held sink.new; faults = K.faults sink.new; tally = M.counts tally.new }) result }
 {
     for k in 0..SAMPLE_LINES {
-        let line = sample_line(setup.alloc, side.count, k)?;
+        let line = sample_line(setup.crew.alloc, side.count, k)?;
         match answer_line(setup, session, sink, tally, &line)? {
             Fed::More => {}
             Fed::Quit => return Ok(Fed::Quit),

@@ -44,7 +44,7 @@ fn play_chunks<S: Source, K: Sink, M: Tally + Send, G: Gate + Sync, R: Threads +
         (record { held = K.held sink.new; faults = K.faults sink.new; tally = M.counts tally.new }) (status_of result) }
 {
     let limit = setup.limits.session;
-    let mut piece = Piece::new(setup.alloc);
+    let mut piece = Piece::new(setup.crew.alloc);
     let mut taken = 0;
     while taken < limit {
         let room = (limit - taken).min(chunk.len() as u64) as usize;
@@ -81,6 +81,6 @@ pub fn play_session<S: Source, K: Sink, M: Tally + Send, G: Gate + Sync, R: Thre
         (record { held = K.held sink.old; faults = K.faults sink.old; tally = M.counts tally.old })
         (record { held = K.held sink.new; faults = K.faults sink.new; tally = M.counts tally.new }) (status_of result) }
 {
-    let mut chunk = zeroed(setup.alloc, CHUNK)?;
+    let mut chunk = zeroed(setup.crew.alloc, CHUNK)?;
     play_chunks(setup, session, source, sink, tally, &mut chunk)
 }

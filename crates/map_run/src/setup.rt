@@ -1,7 +1,6 @@
 //! What all parts of a run are handed, and none changes.
 
-use crate::workers::Workers;
-use std::alloc::Global;
+use tile_workers::Crew;
 
 /// The limits of a run.
 #[derive(Clone, Copy)]
@@ -14,21 +13,13 @@ pub struct Limits {
 
 /// What all parts of a run are handed, and none changes.
 pub struct Setup<'a, G, R> {
-    pub rt: &'a R,
-    pub gate: &'a G,
-    pub alloc: Global,
-    pub workers: Workers,
+    pub crew: Crew<'a, R, G>,
     pub limits: Limits,
 }
 
 impl<G, R> Drop for Setup<'_, G, R> {
     fn drop(self) {
-        let Setup {
-            rt: _,
-            gate: _,
-            alloc: _,
-            workers: _,
-            limits: _,
-        } = self;
+        let Setup { crew, limits: _ } = self;
+        drop(crew);
     }
 }

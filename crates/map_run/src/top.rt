@@ -31,7 +31,7 @@ use layer_tiles::Tally;
 use map_outside::{Shelf, Sink, Source};
 use std::alloc::Global;
 use std::thread::Threads;
-use tile_workers::Gate;
+use tile_workers::{Crew, Gate};
 
 /// The most bytes of a file.
 const FILE_LIMIT: u64 = 67_108_864;
@@ -142,10 +142,7 @@ pub fn run_within<F: Shelf, S: Source, K: Sink, M: Tally + Send, G: Gate + Sync,
     match words_in(words) {
         Some(words) => {
             let setup = Setup {
-                rt,
-                gate,
-                alloc,
-                workers: words.workers,
+                crew: Crew::new(rt, alloc, gate, words.workers.count),
                 limits,
             };
             Status::of(run_form(&setup, &words.form, shelf, source, sink, tally))

@@ -19,7 +19,7 @@ use map_nums::NoMemory;
 use map_words::Name;
 use std::alloc::Global;
 use std::thread::Threads;
-use tile_workers::Gate;
+use tile_workers::{Crew, Gate};
 
 impl Session {
     /// Loads the first grid, whose extent and header texts the session keeps. Its name is plain.
@@ -39,8 +39,9 @@ impl Session {
         ensures begins { Begins name bytes.now result }
         ensures reads { RisesBy (first_load_reads name bytes.now).looks (first_load_reads name bytes.now).picks (M.counts tally.old) (M.counts tally.new) }
     {
+        let crew = Crew::new(rt, alloc, gate, workers);
         match read_grid(alloc, bytes, 1) {
-            Ok(grid) => Session::begin_with(rt, alloc, name, grid, workers, gate, tally),
+            Ok(grid) => Session::begin_with(&crew, name, grid, tally),
             Err(refusal) => {
                 let cause = grid_cause(alloc, refusal)?;
                 Ok(Begun::Refused(Reply::load_refused(alloc, &name, &cause)?))
@@ -49,25 +50,20 @@ impl Session {
     }
 
     fn begin_with<M: Tally + Send, G: Gate + Sync, R: Threads + Sync>(
-        rt: &R,
-        alloc: Global,
+        crew: &Crew<'_, R, G>,
         name: Name,
         grid: Grid,
-        workers: u32,
-        gate: &G,
         tally: &mut M,
     ) -> Result<Begun, NoMemory>
         requires plain { IsTrue (is_plain name) }
-        requires some { 1 ≤ workers }
-        requires most { workers ≤ 64 }
-        requires whole { 1 < workers → IsUndivided (M.counts tally.old) }
+        requires whole { 1 < crew.now.workers → IsUndivided (M.counts tally.old) }
         ensures begins { BeginsAs (read_load state_for name (Ok (held grid))) result }
         ensures reads { RisesBy (read_load_reads state_for name (Ok (held grid))).looks (read_load_reads state_for name (Ok (held grid))).picks (M.counts tally.old) (M.counts tally.new) }
     {
         let Grid { header, layer } = grid;
-        let engine = Engine::new(alloc, layer.extent());
+        let engine = Engine::new(crew.alloc, layer.extent());
         let mut session = Session { header, engine };
-        let reply = session.load_layer(rt, alloc, name, layer, workers, gate, tally)?;
+        let reply = session.load_layer(crew, name, layer, tally)?;
         match reply.kind {
             Kind::Accepted => Ok(Begun::Ready(session, reply)),
             _ => Ok(Begun::Refused(reply)),
@@ -92,8 +88,9 @@ impl Session {
         ensures loads { Loads self.old self.new name bytes.now result }
         ensures reads { RisesBy (next_load_reads self.old name bytes.now).looks (next_load_reads self.old name bytes.now).picks (M.counts tally.old) (M.counts tally.new) }
     {
+        let crew = Crew::new(rt, alloc, gate, workers);
         match read_grid(alloc, bytes, 1) {
-            Ok(grid) => self.load_layer(rt, alloc, name, grid.layer, workers, gate, tally),
+            Ok(grid) => self.load_layer(&crew, name, grid.layer, tally),
             Err(refusal) => {
                 let cause = grid_cause(alloc, refusal)?;
                 Reply::load_refused(alloc, &name, &cause)
@@ -104,31 +101,26 @@ impl Session {
     /// Loads a layer that was made in memory. Its name is plain.
     pub fn load_layer<M: Tally + Send, G: Gate + Sync, R: Threads + Sync>(
         &mut self,
-        rt: &R,
-        alloc: Global,
+        crew: &Crew<'_, R, G>,
         name: Name,
         layer: Layer,
-        workers: u32,
-        gate: &G,
         tally: &mut M,
     ) -> Result<Reply, NoMemory>
         requires plain { IsTrue (is_plain name) }
-        requires some { 1 ≤ workers }
-        requires most { workers ≤ 64 }
-        requires whole { 1 < workers → IsUndivided (M.counts tally.old) }
+        requires whole { 1 < crew.now.workers → IsUndivided (M.counts tally.old) }
         ensures loads { LoadsAs self.old self.new (grid_load self.old name (record { size = layer.size; cells = layer.cells })) result }
         ensures reads { RisesBy (grid_load_reads self.old name (record { size = layer.size; cells = layer.cells })).looks (grid_load_reads self.old name (record { size = layer.size; cells = layer.cells })).picks (M.counts tally.old) (M.counts tally.new) }
     {
-        let room = ReplyRoom::new(alloc)?;
+        let room = ReplyRoom::new(crew.alloc)?;
         let edit = Edit::Load {
-            name: name.copy(alloc)?,
+            name: name.copy(crew.alloc)?,
             layer,
         };
-        match self.engine.edit(rt, alloc, edit, workers, gate, tally) {
+        match self.engine.edit_by(crew, edit, tally) {
             Ok(accepted) => Ok(room.filled(accepted)),
             Err(refusal) => {
-                let cause = edit_cause(alloc, &refusal)?;
-                Reply::load_refused(alloc, &name, &cause)
+                let cause = edit_cause(crew.alloc, &refusal)?;
+                Reply::load_refused(crew.alloc, &name, &cause)
             }
         }
     }

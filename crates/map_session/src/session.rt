@@ -27,7 +27,7 @@ use statement_parser::{Line, LineEdit, Request};
 use std::alloc::Global;
 use std::marker::Model;
 use std::thread::Threads;
-use tile_workers::Gate;
+use tile_workers::{Crew, Gate};
 
 /// A session, seen as a state of the machine.
 #[derive(Drop)]
@@ -83,9 +83,10 @@ impl Session {
         ensures kept { IfOk result (λ reply. reply.kind ≢ Kind.Accepted → self.new ≡ self.old) }
         ensures reads { RisesBy (line_reads self.old line.now).looks (line_reads self.old line.now).picks (M.counts tally.old) (M.counts tally.new) }
     {
+        let crew = Crew::new(rt, alloc, gate, workers);
         match parse_line(alloc, line) {
             Ok(Line::Blank) => Ok(Reply::empty(alloc, Kind::Silent)),
-            Ok(Line::Edit(edit)) => self.edit(rt, alloc, edit, workers, gate, tally),
+            Ok(Line::Edit(edit)) => self.edit(&crew, edit, tally),
             Ok(Line::Ask(request)) => self.answer(alloc, &request, tally),
             Ok(Line::Quit) => Ok(Reply::empty(alloc, Kind::Quit)),
             Err(refusal) => {
@@ -98,29 +99,21 @@ impl Session {
     // The reply has its room before the edit, so that an accepted edit is never without its reply.
     fn edit<M: Tally + Send, G: Gate + Sync, R: Threads + Sync>(
         &mut self,
-        rt: &R,
-        alloc: Global,
+        crew: &Crew<'_, R, G>,
         edit: LineEdit,
-        workers: u32,
-        gate: &G,
         tally: &mut M,
     ) -> Result<Reply, NoMemory>
         requires formed { IsEdit (edit_view edit) }
-        requires some { 1 ≤ workers }
-        requires most { workers ≤ 64 }
-        requires whole { 1 < workers → IsUndivided (M.counts tally.old) }
+        requires whole { 1 < crew.now.workers → IsUndivided (M.counts tally.old) }
         ensures does { Does self.old self.new (edited self.old (accept_counted self.old.whole (line_edit (edit_view edit)))) result }
         ensures reads { RisesBy (edit_reads self.old.whole (line_edit (edit_view edit))).looks (edit_reads self.old.whole (line_edit (edit_view edit))).picks (M.counts tally.old) (M.counts tally.new) }
     {
-        let room = ReplyRoom::new(alloc)?;
-        match self
-            .engine
-            .edit(rt, alloc, Edit::Line(edit), workers, gate, tally)
-        {
+        let room = ReplyRoom::new(crew.alloc)?;
+        match self.engine.edit_by(crew, Edit::Line(edit), tally) {
             Ok(accepted) => Ok(room.filled(accepted)),
             Err(refusal) => {
-                let cause = edit_cause(alloc, &refusal)?;
-                Reply::refused(alloc, &cause)
+                let cause = edit_cause(crew.alloc, &refusal)?;
+                Reply::refused(crew.alloc, &cause)
             }
         }
     }

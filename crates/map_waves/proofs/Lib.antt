@@ -15,6 +15,7 @@ pub mod Looking
 pub mod Beginning
 pub mod Spending
 pub mod Rowing
+pub mod SetPlaces
 pub mod Stopping
 pub mod Finishing
 pub mod Filling

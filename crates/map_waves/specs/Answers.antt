@@ -8,8 +8,8 @@ use Rattle.layer_tiles.specs.declared.kernels.KernelRefusal.{KernelRefusal}
 use Rattle.layer_tiles.specs.declared.kernels.KernelRefusal.TheVariants.{Overflow, NoMemory as no_memory}
 use Rattle.map_waves.specs.Statements.{damage_by, work_by, wide_at, too_many, fault_in}
 use Rattle.map_waves.specs.Jobs.{JobsState, was_in}
-use Rattle.map_waves.specs.declared.halts.Halt.{Halt}
-use Rattle.map_waves.specs.declared.halts.Halt.TheVariants.{Viewers, NoMemory}
+use Rattle.map_waves.specs.declared.halts.NoJobs.{NoJobs}
+use Rattle.map_waves.specs.declared.halts.NoJobs.TheVariants.{Viewers, NoMemory}
 
 -- the least place that overflows among answers, none of which wants memory
 pub record IsLeastOverflow {R : Type 0} (rs : List (Result R KernelRefusal)) (at : ℕ) : Type 0 where
@@ -41,6 +41,6 @@ pub record AreJobs {O B W R : Type 0} (means : O → Op) (sound : JobsState O B 
   pub least_wide : (rs : List (Result R KernelRefusal)) (at : ℕ) → AreAnswers pieces j rs → IsLeastOverflow rs at → fault_in j.size (means j.op) (cells_after j.operands) ≡ Some (wide_at at)
 
 -- why a statement has no jobs: too many viewers; want of memory is free
-abbrev pub IsHalt : Size → Op → List Cells → Halt → Type 0
-IsHalt s op operands (Viewers n) = fault_in s op operands ≡ Some (too_many n)
-IsHalt s op operands NoMemory = Unit {0}
+abbrev pub LacksJobs : Size → Op → List Cells → NoJobs → Type 0
+LacksJobs s op operands (Viewers n) = fault_in s op operands ≡ Some (too_many n)
+LacksJobs s op operands NoMemory = Unit {0}

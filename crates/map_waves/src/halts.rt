@@ -2,7 +2,7 @@
 
 /// Why a statement has no jobs.
 #[derive(Clone, Copy, Debug)]
-pub enum Halt {
+pub enum NoJobs {
     /// So many viewers, more than there may be.
     Viewers(u64),
     NoMemory,

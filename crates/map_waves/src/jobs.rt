@@ -1,7 +1,7 @@
 //! The jobs of one statement.
 ghost use Rattle.std.specs.Prelude.{◌≡◌};
 
-use crate::halts::Halt;
+use crate::halts::NoJobs;
 use crate::keeping::{Kept, Made};
 use layer_tiles::{Extent, KernelRefusal, Operands, Tally};
 use map_nums::NoMemory;
@@ -42,7 +42,7 @@ pub trait Maker {
     ghost use Rattle.map_waves.specs.Operands.{IsOperand};
     ghost use Rattle.map_waves.specs.Keeping.{kept_now, was_of, IsRightKept};
     ghost use Rattle.map_waves.specs.Jobs.{JobsState, AreOver, was_in};
-    ghost use Rattle.map_waves.specs.Answers.{AreJobs, IsHalt};
+    ghost use Rattle.map_waves.specs.Answers.{AreJobs, LacksJobs};
     ghost use Rattle.map_waves.specs.Gathered.{IsRepaired};
     ghost use Rattle.map_waves.specs.Found.{AreFound};
 
@@ -147,7 +147,7 @@ pub trait Maker {
         extent: Extent,
         found: Option<(Self::Ground, Vec<Self::Part>)>,
         tally: &mut M,
-    ) -> Result<Jobs<'o, 'a, Self::Op, Self::Beside, Self::Own>, Halt>
+    ) -> Result<Jobs<'o, 'a, Self::Op, Self::Beside, Self::Own>, NoJobs>
         requires formed { formed op.now }
         requires operands { All (IsOperand extent) operands.now }
         requires terms { length operands.now ≡ length (terms_of (means op.now)) }
@@ -155,7 +155,7 @@ pub trait Maker {
         requires found { IfSome found (λ q. AreFound grounded part extent (means op.now) operands.now q.0 q.1.items) }
         ensures over { IfOk result (λ j. AreOver j extent op.entry.now operands.entry.now (kept_now kept.entry)) }
         ensures jobs { IfOk result (λ j. AreJobs means sound first looks picks pieces j) }
-        ensures halt { IfErr result (IsHalt extent (means op.entry.now) (cells_after operands.entry.now)) }
+        ensures halt { IfErr result (LacksJobs extent (means op.entry.now) (cells_after operands.entry.now)) }
         ensures tally { let was = was_of (kept_now kept.entry) in
             (c : TallyState) → RisesBy (grounding extent (means op.entry.now) was operands.entry.now) 0 c (M.counts tally.old) → RisesBy (60 * length (damage_by extent (means op.entry.now) was operands.entry.now)) (1000 * work_by extent (means op.entry.now) was operands.entry.now) c (M.counts tally.new) }
         ensures found { let was = was_of (kept_now kept.entry) in

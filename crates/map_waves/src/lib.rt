@@ -25,10 +25,10 @@ mod tasks;
 mod tickets;
 
 pub use counting::{Counts, count_all};
-pub use halts::{Halt, Stop};
+pub use halts::{NoJobs, Stop};
 pub use jobs::{Jobs, Maker};
 pub use keeping::{Kept, Made};
 pub use laws::{kept_law, placed_law, values_law};
 pub use phases::repair_all;
-pub use placing::{place, place_all};
+pub use placing::{place, place_all, renew_all};
 pub use plans::{Base, Ref, Shift, Step};

@@ -14,7 +14,7 @@ use layer_tiles::{Extent, Operands, Tally};
 use map_nums::NoMemory;
 use std::alloc::Global;
 use std::thread::Threads;
-use tile_workers::{Gate, Seat, Work, run_phase};
+use tile_workers::{Crew, Gate, Seat, Work, run_by};
 
 /// So many parts of a statement's layer, and what they are found from.
 #[derive(Drop)]
@@ -80,12 +80,9 @@ fn all_found<P: Drop>(alloc: Global, answers: Vec<Result<P, NoMemory>>) -> Resul
     Ok(parts)
 }
 
-/// All parts, by so many workers, of which there are no more than parts.
+/// All parts, by no more workers than there are parts.
 fn find_all<K: Maker + Sync, M: Tally + Send, G: Gate + Sync, R: Threads + Sync>(
-    rt: &R,
-    alloc: Global,
-    workers: u32,
-    gate: &G,
+    crew: &Crew<'_, R, G>,
     op: &K::Op,
     operands: &Operands<'_>,
     extent: Extent,
@@ -95,30 +92,26 @@ fn find_all<K: Maker + Sync, M: Tally + Send, G: Gate + Sync, R: Threads + Sync>
 ) -> Result<Vec<K::Part>, NoMemory>
     requires ground { K.grounded extent (K.means op.now) operands.now count ground.now }
     requires few { count < 2 ^ 32 }
-    requires workers { (0 < workers) × (workers ≤ 64) }
-    requires whole { 1 < workers → IsUndivided (M.counts tally.old) }
+    requires whole { 1 < crew.now.workers → IsUndivided (M.counts tally.old) }
     ensures found { IfOk result (λ parts. AreFound K.grounded K.part extent (K.means op.now) operands.now ground.now parts.items) }
     ensures looks { RisesBy (sum_by (K.finding extent (K.means op.now) operands.now count) (range_with_len 0 count)) 0 (M.counts tally.old) (M.counts tally.new) }
 {
-    let hands = u64::from(workers).min(count).max(1) as u32;
+    let hands = crew.at_most(count);
     let work: Parts<'_, '_, K> = Parts {
-        alloc,
+        alloc: crew.alloc,
         op,
         operands,
         extent,
         ground,
         count,
     };
-    let answers = run_phase(rt, alloc, count, hands, gate, tally, &work)?;
-    all_found(alloc, answers)
+    let answers = run_by(&hands, count, tally, &work)?;
+    all_found(crew.alloc, answers)
 }
 
 /// What workers find of a layer that was not there before its jobs begin, where it is one that they make.
 pub(crate) fn found_of<K: Maker + Sync, M: Tally + Send, G: Gate + Sync, R: Threads + Sync>(
-    rt: &R,
-    alloc: Global,
-    workers: u32,
-    gate: &G,
+    crew: &Crew<'_, R, G>,
     op: &K::Op,
     operands: &Operands<'_>,
     kept: Option<&Kept<K::Beside>>,
@@ -128,18 +121,16 @@ pub(crate) fn found_of<K: Maker + Sync, M: Tally + Send, G: Gate + Sync, R: Thre
     requires formed { K.formed op.now }
     requires operands { All (IsOperand extent) operands.now }
     requires terms { length operands.now ≡ length (terms_of (K.means op.now)) }
-    requires workers { (0 < workers) × (workers ≤ 64) }
-    requires whole { 1 < workers → IsUndivided (M.counts tally.old) }
+    requires whole { 1 < crew.now.workers → IsUndivided (M.counts tally.old) }
     ensures found { IfOk result (λ found. IfSome found (λ q. AreFound K.grounded K.part extent (K.means op.now) operands.now q.0 q.1.items)) }
     ensures fit { K.grounding extent (K.means op.now) (was_of (kept_now kept.entry)) operands.now ≤ 60 * length (damage_by extent (K.means op.now) (was_of (kept_now kept.entry)) operands.now) }
     ensures looks { RisesBy (K.grounding extent (K.means op.now) (was_of (kept_now kept.entry)) operands.now) 0 (M.counts tally.old) (M.counts tally.new) }
 {
-    let found = K::ground_of(alloc, op, operands, kept, extent, workers, tally)?;
+    let workers = crew.workers();
+    let found = K::ground_of(crew.alloc, op, operands, kept, extent, workers, tally)?;
     let Some((ground, count)) = found else {
         return Ok(None);
     };
-    let parts = find_all::<K, M, G, R>(
-        rt, alloc, workers, gate, op, operands, extent, &ground, count, tally,
-    )?;
+    let parts = find_all::<K, M, G, R>(crew, op, operands, extent, &ground, count, tally)?;
     Ok(Some((ground, parts)))
 }

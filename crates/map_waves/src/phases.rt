@@ -17,9 +17,8 @@ use crate::stops::stop_of;
 use crate::tasks::{Task, tasks_of};
 use crate::tickets::do_jobs;
 use layer_tiles::Tally;
-use std::alloc::Global;
 use std::thread::Threads;
-use tile_workers::Gate;
+use tile_workers::{Crew, Gate};
 
 /// The place past the statements that have the depth of this one and follow it.
 fn phase_end<O>(steps: &[Step<O>], first: usize) -> usize
@@ -38,10 +37,7 @@ fn phase_end<O>(steps: &[Step<O>], first: usize) -> usize
 
 /// Repairs the statements of one depth that are at work, as one run of tickets.
 fn repair_tasks<'o, 'a, K: Maker + Sync, M: Tally + Send, G: Gate + Sync, R: Threads + Sync>(
-    rt: &R,
-    alloc: Global,
-    workers: u32,
-    gate: &G,
+    crew: &Crew<'_, R, G>,
     base: &Base<'a, K::Beside>,
     steps: &'o [Step<K::Op>],
     tasks: &'o [Task<'a>],
@@ -52,24 +48,24 @@ fn repair_tasks<'o, 'a, K: Maker + Sync, M: Tally + Send, G: Gate + Sync, R: Thr
     requires base { IsBase base.now }
     requires some { first < end }
     requires tasks { AreTasks K.means K.formed K.suits base.now steps.now first end tasks.now }
-    requires workers { (0 < workers) × (workers ≤ 64) }
-    requires whole { 1 < workers → IsUndivided (M.counts tally.old) }
+    requires whole { 1 < crew.now.workers → IsUndivided (M.counts tally.old) }
     ensures phase { IsPhase K.means K.suits base.now steps.now first end result }
     ensures tally { let plan = plan_of K.means base.now steps.now in
         RisesBy (62 * (evaluated_to plan end - evaluated_to plan first)) (1000 * (worked_to plan end - worked_to plan first)) (M.counts tally.old) (M.counts tally.new) }
 {
-    let Ok(begun) = begin_all::<K, M, G, R>(rt, alloc, workers, gate, base, steps, tasks, tally)
-    else {
+    let Ok(begun) = begin_all::<K, M, G, R>(crew, base, steps, tasks, tally) else {
         return Err(Stop::NoMemory);
     };
     let (jobs, halted) = begun;
-    let Ok(answers) = do_jobs::<K, M, G, R>(rt, alloc, workers, gate, &jobs, tally) else {
+    let Ok(answers) = do_jobs::<K, M, G, R>(crew, &jobs, tally) else {
         return Err(Stop::NoMemory);
     };
     if let Some(stop) = stop_of(tasks, &jobs, &answers, halted) {
         return Err(stop);
     }
-    match finish_all::<K, M>(alloc, base, steps, tasks, jobs, answers, first, end, tally) {
+    match finish_all::<K, M>(
+        crew.alloc, base, steps, tasks, jobs, answers, first, end, tally,
+    ) {
         Ok(more) => Ok(more),
         Err(_) => Err(Stop::NoMemory),
     }
@@ -77,10 +73,7 @@ fn repair_tasks<'o, 'a, K: Maker + Sync, M: Tally + Send, G: Gate + Sync, R: Thr
 
 /// Repairs the statements of one depth. Those before them are prepared.
 fn repair_phase<'a, K: Maker + Sync, M: Tally + Send, G: Gate + Sync, R: Threads + Sync>(
-    rt: &R,
-    alloc: Global,
-    workers: u32,
-    gate: &G,
+    crew: &Crew<'_, R, G>,
     base: &Base<'a, K::Beside>,
     steps: &[Step<K::Op>],
     prepared: &'a [Option<Made<K::Beside>>],
@@ -94,22 +87,19 @@ fn repair_phase<'a, K: Maker + Sync, M: Tally + Send, G: Gate + Sync, R: Threads
     requires some { length prepared.now < end }
     requires most { end ≤ length steps.now }
     requires alike { AreAlike steps.now (length prepared.now) end }
-    requires workers { (0 < workers) × (workers ≤ 64) }
-    requires whole { 1 < workers → IsUndivided (M.counts tally.old) }
+    requires whole { 1 < crew.now.workers → IsUndivided (M.counts tally.old) }
     ensures phase { IsPhase K.means K.suits base.now steps.now (length prepared.now) end result }
     ensures tally { let plan = plan_of K.means base.now steps.now in let first = length prepared.now in
         RisesBy (62 * (evaluated_to plan end - evaluated_to plan first)) (1000 * (worked_to plan end - worked_to plan first)) (M.counts tally.old) (M.counts tally.new) }
 {
-    let Ok(tasks) = tasks_of::<K>(alloc, base, steps, prepared, end) else {
+    let Ok(tasks) = tasks_of::<K>(crew.alloc, base, steps, prepared, end) else {
         return Err(Stop::NoMemory);
     };
     let first = prepared.len();
-    repair_tasks::<K, M, G, R>(
-        rt, alloc, workers, gate, &*base, steps, &tasks, first, end, tally,
-    )
+    repair_tasks::<K, M, G, R>(crew, &*base, steps, &tasks, first, end, tally)
 }
 
-/// Repairs all statements, depth by depth, each depth by so many workers; it stops at the first depth with a fault.
+/// Repairs all statements, depth by depth, each depth by the workers at hand; it stops at the first depth with a fault.
 ///
 /// Of each statement it gives what was made, and nothing where the statement stays as it was, which takes no look and no memory
 /// of its own. A statement takes at most 62 looks for each tile of its damage, and 1000 picks for each unit of its work.
@@ -118,10 +108,7 @@ fn repair_phase<'a, K: Maker + Sync, M: Tally + Send, G: Gate + Sync, R: Threads
 ///
 /// The first statement with a fault, by depth, then place, and which fault. `NoMemory` where there is none.
 pub fn repair_all<K: Maker + Sync, M: Tally + Send, G: Gate + Sync, R: Threads + Sync>(
-    rt: &R,
-    alloc: Global,
-    workers: u32,
-    gate: &G,
+    crew: &Crew<'_, R, G>,
     base: &Base<'_, K::Beside>,
     steps: &[Step<K::Op>],
     tally: &mut M,
@@ -129,17 +116,16 @@ pub fn repair_all<K: Maker + Sync, M: Tally + Send, G: Gate + Sync, R: Threads +
     requires base { IsBase base.now }
     requires planned { ArePlanned K.means K.formed base.now steps.now }
     requires right { AreRight K.means K.suits base.now steps.now }
-    requires workers { (0 < workers) × (workers ≤ 64) }
-    requires whole { 1 < workers → IsUndivided (M.counts tally.old) }
+    requires whole { 1 < crew.now.workers → IsUndivided (M.counts tally.old) }
     ensures all { IsPhase K.means K.suits base.now steps.now 0 (length steps.now) result }
     ensures tally { (end : ℕ) × IsReached (plan_of K.means base.now steps.now) steps.now result end
         × RisesBy (62 * evaluated_to (plan_of K.means base.now steps.now) end) (1000 * worked_to (plan_of K.means base.now steps.now) end) (M.counts tally.old) (M.counts tally.new) }
 {
-    let mut prepared: Vec<Option<Made<K::Beside>>> = Vec::new(alloc);
+    let mut prepared: Vec<Option<Made<K::Beside>>> = Vec::new(crew.alloc);
     'depths: while prepared.len() < steps.len() {
         let end = phase_end(steps, prepared.len());
         let mut more = match repair_phase::<K, M, G, R>(
-            rt, alloc, workers, gate, &*base, steps, &prepared, end, tally,
+            crew, &*base, steps, &prepared, end, tally,
         ) {
             Ok(more) => more,
             Err(stop) => return Err(stop),

@@ -1,5 +1,5 @@
 //! What was made of statements is put in place, without memory.
-ghost use Rattle.std.specs.Prelude.{◌≡◌, ◌≢◌, ◌<◌, ◌≤◌, ◌++◌, ◌∷◌, [], ℕ, length, Some, None, IfSome, slice_get, slice_index_or, vec_len, vec_capacity};
+ghost use Rattle.std.specs.Prelude.{◌≡◌, ◌≢◌, ◌<◌, ◌≤◌, ◌++◌, ◌∷◌, [], ℕ, length, Option, Some, None, IfSome, slice_get, slice_index_or, vec_len, vec_capacity};
 ghost use Rattle.map_waves.specs.Prepared.{IsReady};
 ghost use Rattle.map_waves.specs.Placing.{IsPlaced, slot_of, HaveOwnSlots, AreReady, ArePlaced};
 
@@ -67,6 +67,24 @@ pub fn place_all<O, B: Drop>(
         let kept = taken(slots, steps[k].kept);
         let now = place(kept, prepared[k].take(), extent, stamp);
         put_next(next, now);
+    }
+}
+
+/// Puts what was made of all statements in place of what is kept of each. It takes no memory.
+pub fn renew_all<B: Drop>(
+    kept: &mut [Kept<B>],
+    prepared: &mut [Option<Made<B>>],
+    extent: Extent,
+    stamp: u64,
+)
+    requires all { length prepared.old ≡ length kept.old }
+    requires ready { (k : ℕ) (own : Kept B) (r : Option (Made B)) → slice_get kept.old k ≡ Some own → slice_get prepared.old k ≡ Some r → IsReady extent (Some own) r }
+    ensures count { length kept.new ≡ length kept.old }
+    ensures placed { (k : ℕ) (own now : Kept B) (r : Option (Made B)) → slice_get kept.old k ≡ Some own → slice_get kept.new k ≡ Some now → slice_get prepared.old k ≡ Some r → IsPlaced extent (Some own) r stamp now }
+{
+    for k in 0..kept.len() {
+        let made = prepared[k].take();
+        put(&mut kept[k], made, extent, stamp);
     }
 }
 

@@ -10,7 +10,7 @@ use layer_tiles::{KernelRefusal, Tally};
 use map_nums::NoMemory;
 use std::alloc::Global;
 use std::thread::Threads;
-use tile_workers::{Gate, Seat, Work, run_phase};
+use tile_workers::{Crew, Gate, Seat, Work, run_by};
 
 /// The jobs of several statements, one after another, and the first ticket of each statement.
 #[derive(Drop)]
@@ -85,49 +85,42 @@ fn starts_of<O, B, W>(
 /// About as many microseconds of work are worth the start of one more worker.
 const WORTH: u64 = 500;
 
-/// How many workers do some jobs: no more than there are, than jobs, and than the work is worth.
-fn hands_for<K: Maker>(
-    workers: u32,
+/// The workers that do some jobs: no more than there are, than jobs, and than the work is worth.
+fn hands_for<'c, K: Maker, G, R>(
+    crew: &Crew<'c, R, G>,
     count: u64,
     jobs: &[Jobs<'_, '_, K::Op, K::Beside, K::Own>],
-) -> u32
-    requires workers { 0 < workers }
-    requires some { 0 < count }
-    ensures some { 0 < result }
-    ensures most { result ≤ workers }
+) -> Crew<'c, R, G>
+    ensures { result.workers ≤ crew.now.workers }
 {
     let mut weight = 0u64;
     for own in jobs {
         weight = weight.saturating_add(K::weight(own));
     }
-    u64::from(workers).min(count).min(weight / WORTH + 1) as u32
+    crew.at_most(count.min(weight / WORTH + 1))
 }
 
-/// Does the jobs of all statements by so many workers, or by fewer where they are worth no more.
+/// Does the jobs of all statements by the workers at hand, or by fewer where they are worth no more.
 pub(crate) fn do_jobs<K: Maker + Sync, M: Tally + Send, G: Gate + Sync, R: Threads + Sync>(
-    rt: &R,
-    alloc: Global,
-    workers: u32,
-    gate: &G,
+    crew: &Crew<'_, R, G>,
     jobs: &[Jobs<'_, '_, K::Op, K::Beside, K::Own>],
     tally: &mut M,
 ) -> Result<Vec<Result<K::Piece, KernelRefusal>>, NoMemory>
-    requires workers { (0 < workers) × (workers ≤ 64) }
-    requires whole { 1 < workers → IsUndivided (M.counts tally.old) }
+    requires whole { 1 < crew.now.workers → IsUndivided (M.counts tally.old) }
     requires jobs { All (AreJobs K.means K.sound K.first K.looks K.picks K.pieces) jobs.now }
     ensures answers { IfOk result (λ answers. AreAnswered K.pieces jobs.now answers.items) }
     ensures tally { RisesBy (all_rises K.looks jobs.now) (all_rises K.picks jobs.now) (M.counts tally.old) (M.counts tally.new) }
 {
-    let found = starts_of(alloc, jobs)?;
+    let found = starts_of(crew.alloc, jobs)?;
     let (starts, count) = found;
     if count == 0 {
-        return Ok(Vec::new(alloc));
+        return Ok(Vec::new(crew.alloc));
     }
-    let hands = hands_for::<K>(workers, count, jobs);
+    let hands = hands_for::<K, G, R>(crew, count, jobs);
     let work: Phase<'_, '_, '_, K> = Phase {
-        alloc,
+        alloc: crew.alloc,
         jobs,
         starts: &starts,
     };
-    run_phase(rt, alloc, count, hands, gate, tally, &work)
+    run_by(&hands, count, tally, &work)
 }

@@ -12,7 +12,7 @@ ghost use Rattle.layer_tiles.specs.Tallies.{RisesBy};
 ghost use Rattle.sight_lines.specs.Heights.{AreHeights};
 ghost use Rattle.sight_lines.specs.Puts.{sighting_of};
 ghost use Rattle.sight_lines.specs.Viewed.{viewers_of};
-ghost use Rattle.map_waves.specs.Answers.{IsHalt};
+ghost use Rattle.map_waves.specs.Answers.{LacksJobs};
 ghost use Rattle.map_waves.specs.Operands.{IsOperand};
 ghost use Rattle.map_waves.specs.Statements.{damage_by, made};
 ghost use Rattle.op_jobs.specs.Sight.{AreRightViewers, felt_tiles};
@@ -21,7 +21,7 @@ use crate::damage::{all_tiles, tiles_of};
 use damage_sets::{Class, damaged};
 use layer_tiles::{Extent, KernelRefusal, Operands, Tally, Tile};
 use map_nums::NoMemory;
-use map_waves::Halt;
+use map_waves::NoJobs;
 use sight_lines::{Sight, SightRefusal, Viewers, sight_tile};
 use std::alloc::Global;
 
@@ -38,7 +38,7 @@ pub(crate) fn sight_begin<M: Tally>(
     kept: Option<&Viewers>,
     extent: Extent,
     tally: &mut M,
-) -> Result<(Viewers, Vec<u32>), Halt>
+) -> Result<(Viewers, Vec<u32>), NoJobs>
     requires two { length operands.now ≡ 2 }
     requires operands { All (IsOperand extent) operands.now }
     requires reach { reach ≤ 64 }
@@ -46,13 +46,13 @@ pub(crate) fn sight_begin<M: Tally>(
     ensures viewers { IfOk result (λ r. r.0 ≡ viewers_of extent (operand (cells_after operands.now) 0)) }
     ensures few { IfOk result (λ r. viewer_count (operand (cells_after operands.now) 0) ≤ most_viewers) }
     ensures damage { IfOk result (λ r. (sight : Sighting) (t u : Term) (was : Option Cells) → sight.reach ≡ reach → is_some was ≡ is_some kept.entry → r.1.items ≡ damage_by extent (sight_op sight t u) was operands.now) }
-    ensures halt { (sight : Sighting) (t u : Term) → IfErr result (IsHalt extent (sight_op sight t u) (cells_after operands.now)) }
+    ensures halt { (sight : Sighting) (t u : Term) → IfErr result (LacksJobs extent (sight_op sight t u) (cells_after operands.now)) }
     ensures looks { (sight : Sighting) (t u : Term) (was : Option Cells) → sight.reach ≡ reach → is_some was ≡ is_some kept.entry → RisesBy (5 * length (damage_by extent (sight_op sight t u) was operands.now)) 0 (M.counts tally.old) (M.counts tally.new) }
 {
     let viewers = viewers_after(alloc, operands, kept, extent, tally)?;
     match felt(alloc, reach, operands, kept.is_some(), extent, tally) {
         Ok(tiles) => Ok((viewers, tiles)),
-        Err(NoMemory) => Err(Halt::NoMemory),
+        Err(NoMemory) => Err(NoJobs::NoMemory),
     }
 }
 
@@ -67,13 +67,13 @@ fn viewers_after<M: Tally>(
     kept: Option<&Viewers>,
     extent: Extent,
     tally: &mut M,
-) -> Result<Viewers, Halt>
+) -> Result<Viewers, NoJobs>
     requires two { length operands.now ≡ 2 }
     requires operands { All (IsOperand extent) operands.now }
     requires right { IfSome kept (λ viewers. AreRightViewers extent operands.now viewers.now) }
     ensures viewers { IfOk result (λ viewers. viewers ≡ viewers_of extent (operand (cells_after operands.now) 0)) }
     ensures few { IfOk result (λ viewers. viewer_count (operand (cells_after operands.now) 0) ≤ most_viewers) }
-    ensures halt { (sight : Sighting) (t u : Term) → IfErr result (IsHalt extent (sight_op sight t u) (cells_after operands.now)) }
+    ensures halt { (sight : Sighting) (t u : Term) → IfErr result (LacksJobs extent (sight_op sight t u) (cells_after operands.now)) }
     ensures looks { (r : ℕ) → RisesBy (length (felt_tiles (is_some kept.entry) r extent operands.now)) 0 (M.counts tally.old) (M.counts tally.new) }
 {
     let Some(viewers) = operands.get(0) else {
@@ -81,8 +81,8 @@ fn viewers_after<M: Tally>(
     };
     match Viewers::of(alloc, kept, viewers, tally) {
         Ok(found) => Ok(found),
-        Err(SightRefusal::Viewers(count)) => Err(Halt::Viewers(count as u64)),
-        Err(SightRefusal::NoMemory) => Err(Halt::NoMemory),
+        Err(SightRefusal::Viewers(count)) => Err(NoJobs::Viewers(count as u64)),
+        Err(SightRefusal::NoMemory) => Err(NoJobs::NoMemory),
     }
 }
 

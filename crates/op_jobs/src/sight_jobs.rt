@@ -11,7 +11,7 @@ ghost use Rattle.layer_tiles.specs.Tiles.{tiles_in};
 ghost use Rattle.sight_lines.specs.Heights.{AreHeights};
 ghost use Rattle.sight_lines.specs.Puts.{sighting_of};
 ghost use Rattle.statement_parser.specs.Views.{op_view};
-ghost use Rattle.map_waves.specs.Answers.{IsHalt};
+ghost use Rattle.map_waves.specs.Answers.{LacksJobs};
 ghost use Rattle.map_waves.specs.Keeping.{kept_now, was_of, IsRightKept};
 ghost use Rattle.map_waves.specs.Operands.{IsOperand};
 ghost use Rattle.map_waves.specs.Statements.{damage_by, made};
@@ -24,7 +24,7 @@ use crate::beside::Beside;
 use crate::own::TileJobs;
 use crate::sight::{sight_begin, sight_piece};
 use layer_tiles::{Extent, KernelRefusal, Operands, Tally, Tile};
-use map_waves::{Halt, Kept};
+use map_waves::{Kept, NoJobs};
 use sight_lines::{Sight, Viewers};
 use statement_parser::Op;
 use std::alloc::Global;
@@ -50,14 +50,14 @@ pub(crate) fn sight_jobs<M: Tally>(
     kept: Option<&Kept<Beside>>,
     extent: Extent,
     tally: &mut M,
-) -> Result<TileJobs, Halt>
+) -> Result<TileJobs, NoJobs>
     requires formed { HasRanges (op_view op.now) }
     requires sight { IsTrue (is_sight (op_view op.now)) }
     requires operands_are { All (IsOperand extent) operands.now }
     requires terms { length operands.now ≡ length (terms_of (op_view op.now)) }
     requires right { IsRightKept suits extent (op_view op.now) operands.now (kept_now kept) }
     ensures jobs { IfOk result (AreTileJobs extent (op_view op.entry.now) operands.entry.now (was_of (kept_now kept.entry))) }
-    ensures halt { IfErr result (IsHalt extent (op_view op.entry.now) (cells_after operands.entry.now)) }
+    ensures halt { IfErr result (LacksJobs extent (op_view op.entry.now) (cells_after operands.entry.now)) }
     ensures looks { RisesBy (5 * length (damage_by extent (op_view op.entry.now) (was_of (kept_now kept.entry)) operands.entry.now)) 0 (M.counts tally.old) (M.counts tally.new) }
 {
     let Op::Sight { reach, .. } = op else {

@@ -7,7 +7,7 @@ ghost use Rattle.map_defs.specs.Ops.{terms_of};
 ghost use Rattle.layer_tiles.specs.Operands.{cells_after};
 ghost use Rattle.layer_tiles.specs.Tallies.{RisesBy};
 ghost use Rattle.statement_parser.specs.Views.{op_view};
-ghost use Rattle.map_waves.specs.Answers.{IsHalt};
+ghost use Rattle.map_waves.specs.Answers.{LacksJobs};
 ghost use Rattle.map_waves.specs.Found.{AreFound};
 ghost use Rattle.map_waves.specs.Keeping.{kept_now, was_of, IsRightKept};
 ghost use Rattle.map_waves.specs.Operands.{IsOperand};
@@ -35,7 +35,7 @@ use crate::zonal_jobs::zonal_jobs;
 use crate::zonal_parts::count_part;
 use layer_tiles::{Extent, KernelRefusal, Operands, Tally};
 use map_nums::NoMemory;
-use map_waves::{Halt, Jobs, Kept, Made, Maker};
+use map_waves::{Jobs, Kept, Made, Maker, NoJobs};
 use statement_parser::Op;
 use std::alloc::Global;
 
@@ -47,19 +47,19 @@ fn plain_own<M: Tally>(
     kept: Option<&Kept<Beside>>,
     extent: Extent,
     tally: &mut M,
-) -> Result<Own, Halt>
+) -> Result<Own, NoJobs>
     requires formed { HasRanges (op_view op.now) }
     requires plain { IsTrue (is_plain (op_view op.now)) }
     requires operands_are { All (IsOperand extent) operands.now }
     requires terms { length operands.now ≡ length (terms_of (op_view op.now)) }
     requires right { IsRightKept suits extent (op_view op.now) operands.now (kept_now kept) }
     ensures own { IfOk result (IsOwn extent (op_view op.entry.now) operands.entry.now (was_of (kept_now kept.entry))) }
-    ensures halt { IfErr result (IsHalt extent (op_view op.entry.now) (cells_after operands.entry.now)) }
+    ensures halt { IfErr result (LacksJobs extent (op_view op.entry.now) (cells_after operands.entry.now)) }
     ensures looks { RisesBy (26 * length (damage_by extent (op_view op.entry.now) (was_of (kept_now kept.entry)) operands.entry.now)) 0 (M.counts tally.old) (M.counts tally.new) }
 {
     match tile_jobs(alloc, op, operands, kept, extent, tally) {
         Ok(jobs) => Ok(Own::Tiles(jobs)),
-        Err(NoMemory) => Err(Halt::NoMemory),
+        Err(NoMemory) => Err(NoJobs::NoMemory),
     }
 }
 
@@ -72,7 +72,7 @@ fn zonal_own<M: Tally>(
     extent: Extent,
     found: Option<(Ground, Vec<Part>)>,
     tally: &mut M,
-) -> Result<Own, Halt>
+) -> Result<Own, NoJobs>
     requires formed { HasRanges (op_view op.now) }
     requires zonal { IsTrue (is_zonal (op_view op.now)) }
     requires operands_are { All (IsOperand extent) operands.now }
@@ -80,12 +80,12 @@ fn zonal_own<M: Tally>(
     requires right { IsRightKept suits extent (op_view op.now) operands.now (kept_now kept) }
     requires found { IfSome found (λ q. AreFound IsGrounded IsPart extent (op_view op.now) operands.now q.0 q.1.items) }
     ensures own { IfOk result (IsOwn extent (op_view op.entry.now) operands.entry.now (was_of (kept_now kept.entry))) }
-    ensures halt { IfErr result (IsHalt extent (op_view op.entry.now) (cells_after operands.entry.now)) }
+    ensures halt { IfErr result (LacksJobs extent (op_view op.entry.now) (cells_after operands.entry.now)) }
     ensures looks { RisesBy (26 * length (damage_by extent (op_view op.entry.now) (was_of (kept_now kept.entry)) operands.entry.now)) 0 (M.counts tally.old) (M.counts tally.new) }
 {
     match zonal_jobs(alloc, op, operands, kept, extent, found, tally) {
         Ok(jobs) => Ok(Own::Tiles(jobs)),
-        Err(NoMemory) => Err(Halt::NoMemory),
+        Err(NoMemory) => Err(NoJobs::NoMemory),
     }
 }
 
@@ -97,14 +97,14 @@ fn sight_own<M: Tally>(
     kept: Option<&Kept<Beside>>,
     extent: Extent,
     tally: &mut M,
-) -> Result<Own, Halt>
+) -> Result<Own, NoJobs>
     requires formed { HasRanges (op_view op.now) }
     requires sight { IsTrue (is_sight (op_view op.now)) }
     requires operands_are { All (IsOperand extent) operands.now }
     requires terms { length operands.now ≡ length (terms_of (op_view op.now)) }
     requires right { IsRightKept suits extent (op_view op.now) operands.now (kept_now kept) }
     ensures own { IfOk result (IsOwn extent (op_view op.entry.now) operands.entry.now (was_of (kept_now kept.entry))) }
-    ensures halt { IfErr result (IsHalt extent (op_view op.entry.now) (cells_after operands.entry.now)) }
+    ensures halt { IfErr result (LacksJobs extent (op_view op.entry.now) (cells_after operands.entry.now)) }
     ensures looks { RisesBy (26 * length (damage_by extent (op_view op.entry.now) (was_of (kept_now kept.entry)) operands.entry.now)) 0 (M.counts tally.old) (M.counts tally.new) }
 {
     match sight_jobs(alloc, op, operands, kept, extent, tally) {
@@ -146,7 +146,7 @@ fn whole_own<M: Tally>(
     extent: Extent,
     found: Option<(Ground, Vec<Part>)>,
     tally: &mut M,
-) -> Result<Own, Halt>
+) -> Result<Own, NoJobs>
     requires formed { HasRanges (op_view op.now) }
     requires class { IsTrue (has_work (op_view op.now)) }
     requires operands_are { All (IsOperand extent) operands.now }
@@ -154,20 +154,20 @@ fn whole_own<M: Tally>(
     requires right { IsRightKept suits extent (op_view op.now) operands.now (kept_now kept) }
     requires found { IfSome found (λ q. AreFound IsGrounded IsPart extent (op_view op.now) operands.now q.0 q.1.items) }
     ensures own { IfOk result (IsOwn extent (op_view op.entry.now) operands.entry.now (was_of (kept_now kept.entry))) }
-    ensures halt { IfErr result (IsHalt extent (op_view op.entry.now) (cells_after operands.entry.now)) }
+    ensures halt { IfErr result (LacksJobs extent (op_view op.entry.now) (cells_after operands.entry.now)) }
     ensures looks { RisesBy (26 * length (damage_by extent (op_view op.entry.now) (was_of (kept_now kept.entry)) operands.entry.now)) 0 (M.counts tally.old) (M.counts tally.new) }
 {
     if kept.is_none() {
         if let Some((ground, parts)) = found {
             return match fresh_own(alloc, op, operands, extent, ground, parts) {
                 Ok(own) => Ok(own),
-                Err(NoMemory) => Err(Halt::NoMemory),
+                Err(NoMemory) => Err(NoJobs::NoMemory),
             };
         }
     }
     match reached_tiles(alloc, 0, operands, kept, extent, tally) {
         Ok(set) => Ok(Own::Whole(set)),
-        Err(NoMemory) => Err(Halt::NoMemory),
+        Err(NoMemory) => Err(NoJobs::NoMemory),
     }
 }
 
@@ -180,14 +180,14 @@ fn own_of<M: Tally>(
     extent: Extent,
     found: Option<(Ground, Vec<Part>)>,
     tally: &mut M,
-) -> Result<Own, Halt>
+) -> Result<Own, NoJobs>
     requires formed { HasRanges (op_view op.now) }
     requires operands_are { All (IsOperand extent) operands.now }
     requires terms { length operands.now ≡ length (terms_of (op_view op.now)) }
     requires right { IsRightKept suits extent (op_view op.now) operands.now (kept_now kept) }
     requires found { IfSome found (λ q. AreFound IsGrounded IsPart extent (op_view op.now) operands.now q.0 q.1.items) }
     ensures own { IfOk result (IsOwn extent (op_view op.entry.now) operands.entry.now (was_of (kept_now kept.entry))) }
-    ensures halt { IfErr result (IsHalt extent (op_view op.entry.now) (cells_after operands.entry.now)) }
+    ensures halt { IfErr result (LacksJobs extent (op_view op.entry.now) (cells_after operands.entry.now)) }
     ensures looks { RisesBy (26 * length (damage_by extent (op_view op.entry.now) (was_of (kept_now kept.entry)) operands.entry.now)) 0 (M.counts tally.old) (M.counts tally.new) }
 {
     match op {
@@ -230,7 +230,7 @@ impl Maker for Statements {
     ghost use Rattle.map_defs.specs.Ops.{terms_of};
     ghost use Rattle.layer_tiles.specs.Operands.{cells_after};
     ghost use Rattle.layer_tiles.specs.Tallies.{TallyState, RisesBy};
-    ghost use Rattle.map_waves.specs.Answers.{AreJobs, IsHalt};
+    ghost use Rattle.map_waves.specs.Answers.{AreJobs, LacksJobs};
     ghost use Rattle.map_waves.specs.Found.{AreFound};
     ghost use Rattle.map_waves.specs.Keeping.{kept_now, was_of, IsRightKept};
     ghost use Rattle.map_waves.specs.Operands.{IsOperand};
@@ -331,7 +331,7 @@ impl Maker for Statements {
         extent: Extent,
         found: Option<(Ground, Vec<Part>)>,
         tally: &mut M,
-    ) -> Result<Jobs<'o, 'a, Op, Beside, Own>, Halt>
+    ) -> Result<Jobs<'o, 'a, Op, Beside, Own>, NoJobs>
         requires formed { HasRanges (op_view op.now) }
         requires operands { All (IsOperand extent) operands.now }
         requires terms { length operands.now ≡ length (terms_of (op_view op.now)) }
@@ -339,7 +339,7 @@ impl Maker for Statements {
         requires found { IfSome found (λ q. AreFound IsGrounded IsPart extent (op_view op.now) operands.now q.0 q.1.items) }
         ensures over { IfOk result (λ j. AreOver j extent op.entry.now operands.entry.now (kept_now kept.entry)) }
         ensures jobs { IfOk result (λ j. AreJobs op_view IsSound first_looks job_looks job_picks IsPiece j) }
-        ensures halt { IfErr result (IsHalt extent (op_view op.entry.now) (cells_after operands.entry.now)) }
+        ensures halt { IfErr result (LacksJobs extent (op_view op.entry.now) (cells_after operands.entry.now)) }
         ensures tally { let was = was_of (kept_now kept.entry) in
             (c : TallyState) → RisesBy (grounding extent (op_view op.entry.now) was operands.entry.now) 0 c (M.counts tally.old) → RisesBy (60 * length (damage_by extent (op_view op.entry.now) was operands.entry.now)) (1000 * work_by extent (op_view op.entry.now) was operands.entry.now) c (M.counts tally.new) }
         ensures found { let was = was_of (kept_now kept.entry) in

@@ -5,9 +5,10 @@ ghost use Rattle.layer_tiles.specs.Tallies.{TallyState, RisesBy, IsUndivided};
 ghost use Rattle.tile_workers.specs.Seats.{drawn, share, IsSeatOf};
 ghost use Rattle.tile_workers.specs.Shifts.{IsAllDone};
 
-use crate::crew::{do_shifts, hire};
+use crate::crew::Crew;
 use crate::gate::Gate;
 use crate::gather::gather;
+use crate::hiring::{do_shifts, hire};
 use crate::lay::lay;
 use crate::phase::Phase;
 use crate::seat::{Board, Seat};
@@ -45,10 +46,8 @@ where
 
 // Workers side by side, each with a part of the tally.
 fn do_beside<W: Work + Sync, G: Gate + Sync, M: Tally + Send, R: Threads + Sync>(
-    rt: &R,
-    alloc: Global,
+    crew: &Crew<'_, R, G>,
     phase: &Phase<'_, W, G>,
-    workers: u32,
     seat: Seat,
     tally: &mut M,
 ) -> Gathered<W::Done>
@@ -57,30 +56,28 @@ where
     requires own { IsSeatOf phase.now.board.now seat }
     requires jobs { phase.now.jobs ≡ W.jobs phase.now.work.now }
     requires count { phase.now.jobs < 2 ^ 32 }
-    requires workers { (0 < workers) × (workers ≤ 64) }
     requires fresh { (drawn seat ≡ []) × (share seat ≡ 64) }
     requires whole { (M.counts tally.old).is_part ≡ false }
     requires room { (M.counts tally.old).parts_out ≡ 0 }
     ensures { IsAllDone phase.now.board.now.table.shared.table_id phase.now.jobs (W.looks phase.now.work.now) (W.picks phase.now.work.now) (W.answers phase.now.work.now) (M.counts tally.old) (M.counts tally.new) result }
 {
-    let Ok(mut shifts) = Vec::with_capacity(alloc, workers as usize) else {
+    let workers = crew.workers();
+    let Ok(mut shifts) = Vec::with_capacity(crew.alloc, workers as usize) else {
         return Gathered {
             seat,
-            laid: Vec::new(alloc),
+            laid: Vec::new(crew.alloc),
             is_short: true,
         };
     };
-    hire(alloc, phase.board, workers, seat, tally, &mut shifts);
-    do_shifts(rt, phase, shifts.as_mut_slice());
+    hire(crew.alloc, phase.board, workers, seat, tally, &mut shifts);
+    do_shifts(crew.rt, phase, shifts.as_mut_slice());
     gather(phase, tally, shifts)
 }
 
 // One worker alone, or workers side by side.
 fn do_all<W: Work + Sync, G: Gate + Sync, M: Tally + Send, R: Threads + Sync>(
-    rt: &R,
-    alloc: Global,
+    crew: &Crew<'_, R, G>,
     phase: &Phase<'_, W, G>,
-    workers: u32,
     seat: Seat,
     tally: &mut M,
 ) -> Gathered<W::Done>
@@ -89,23 +86,62 @@ where
     requires own { IsSeatOf phase.now.board.now seat }
     requires jobs { phase.now.jobs ≡ W.jobs phase.now.work.now }
     requires count { phase.now.jobs < 2 ^ 32 }
-    requires workers { (0 < workers) × (workers ≤ 64) }
     requires fresh { (drawn seat ≡ []) × (share seat ≡ 64) }
-    requires whole { 1 < workers → IsUndivided (M.counts tally.old) }
+    requires whole { 1 < crew.now.workers → IsUndivided (M.counts tally.old) }
     ensures { IsAllDone phase.now.board.now.table.shared.table_id phase.now.jobs (W.looks phase.now.work.now) (W.picks phase.now.work.now) (W.answers phase.now.work.now) (M.counts tally.old) (M.counts tally.new) result }
 {
-    if workers == 1 {
-        return do_alone(alloc, phase, seat, tally);
+    if crew.workers() == 1 {
+        return do_alone(crew.alloc, phase, seat, tally);
     }
-    do_beside(rt, alloc, phase, workers, seat, tally)
+    do_beside(crew, phase, seat, tally)
 }
 
-/// Does the jobs of a work by so many workers, and gives their answers in the order of the jobs.
+/// Does the jobs of a work, and gives their answers in the order of the jobs.
 ///
-/// There are 1 to 64 workers. One alone works on the caller's thread and counts with the caller's tally. Several work on threads
-/// of their own, each with a part of the tally, and all parts are taken in again in the end; where a thread can't be started, the
-/// caller does that work itself. Beside the jobs, a phase by one worker takes less than a microsecond; by several, also the
-/// start of their threads.
+/// One worker alone works on the caller's thread and counts with the caller's tally. Several work on threads of their own, each
+/// with a part of the tally, and all parts are taken in again in the end; where a thread can't be started, the caller does that
+/// work itself. Beside the jobs, a phase by one worker takes less than a microsecond; by several, also the start of their threads.
+///
+/// # Errors
+///
+/// `NoMemory` where there is none for the board or for a list of answers. Some jobs may then not be done.
+pub fn run_by<W: Work + Sync, G: Gate + Sync, M: Tally + Send, R: Threads + Sync>(
+    crew: &Crew<'_, R, G>,
+    jobs: u64,
+    tally: &mut M,
+    work: &W,
+) -> Result<Vec<W::Done>, NoMemory>
+where
+    W::Done: Drop + Send,
+    requires jobs { jobs ≡ W.jobs work.now }
+    requires count { jobs < 2 ^ 32 }
+    requires whole { 1 < crew.now.workers → IsUndivided (M.counts tally.old) }
+    ensures len { IfOk result (λ v. vec_len v ≡ jobs) }
+    ensures each { IfOk result (λ v. (k : ℕ) (d : _) → k < jobs → W.answers work.now k (slice_index_or v.items k d)) }
+    ensures tally { RisesBy (sum_by (W.looks work.now) (range_with_len 0 jobs)) (sum_by (W.picks work.now) (range_with_len 0 jobs)) (M.counts tally.old) (M.counts tally.new) }
+{
+    let (board, seat) = Board::new(crew.alloc)?;
+    let phase = Phase {
+        board: &board,
+        jobs,
+        gate: crew.gate,
+        work,
+    };
+    let all = do_all(crew, &phase, seat, tally);
+    drop(phase);
+    let Gathered {
+        seat,
+        laid,
+        is_short,
+    } = all;
+    let _drawn = board.close(seat);
+    if is_short {
+        return Err(NoMemory);
+    }
+    lay(crew.alloc, jobs, work, laid)
+}
+
+/// Does the jobs of a work by so many workers, 1 to 64, as [`run_by`] does.
 ///
 /// # Errors
 ///
@@ -129,23 +165,6 @@ where
     ensures each { IfOk result (λ v. (k : ℕ) (d : _) → k < jobs → W.answers work.now k (slice_index_or v.items k d)) }
     ensures tally { RisesBy (sum_by (W.looks work.now) (range_with_len 0 jobs)) (sum_by (W.picks work.now) (range_with_len 0 jobs)) (M.counts tally.old) (M.counts tally.new) }
 {
-    let (board, seat) = Board::new(alloc)?;
-    let phase = Phase {
-        board: &board,
-        jobs,
-        gate,
-        work,
-    };
-    let all = do_all(rt, alloc, &phase, workers, seat, tally);
-    drop(phase);
-    let Gathered {
-        seat,
-        laid,
-        is_short,
-    } = all;
-    let _drawn = board.close(seat);
-    if is_short {
-        return Err(NoMemory);
-    }
-    lay(alloc, jobs, work, laid)
+    let crew = Crew::new(rt, alloc, gate, workers);
+    run_by(&crew, jobs, tally, work)
 }

@@ -1,7 +1,8 @@
-use Rattle.std.proofs.Common.{option_map}
+use Rattle.std.proofs.Common.{◌≡◌, length, subst, rules, option_map}
 use Rattle.edit_plans.specs.Planned.{added_names}
 use Rattle.std.proofs.lemmas.Result.{err_from_is_err_and}
 use Rattle.kept_map.specs.Maps.{names_with}
+use Rattle.kept_map.specs.Rooms.{HasRoom}
 use Rattle.kept_map.proofs.Outcomes.{rests}
 use Rattle.kept_map.proofs.Replanning.{acyclic, apart_in, few_in, sources_in, flats_in, replanned}
 use Rattle.kept_map.proofs.preparing.prepare.Goals as goal
@@ -49,6 +50,15 @@ returns-in_err-prepared-clause-tally g c e t set_up new = c.repaired.ensures.tal
 
 pub returns-clause-prepared : goal.returns-clause-prepared
 returns-clause-prepared g c e t set_up new = c.in_ok-prepared.ensures.prepared e t (names_with c.args.map.now.sources c.args.added) (replanned c.args.map.now c.requires.kept e t c.args.shift (added_names (option_map (λ n. n.now) c.args.added)) c.args.graph.now c.args.edited.now c.args.written.now set_up new c.in_ok-planned.planned.names.keys c.in_ok-planned.planned.steps.items c.in_ok-planned.ensures)
+
+pub returns-in_err-room-clause-tally : goal.returns-in_err-room-clause-tally
+returns-in_err-room-clause-tally g c e t set_up new = c.repaired.ensures.tally e t (names_with c.args.map.now.sources c.args.added) (replanned c.args.map.now c.requires.kept e t c.args.shift (added_names (option_map (λ n. n.now) c.args.added)) c.args.graph.now c.args.edited.now c.args.written.now set_up new c.in_ok-planned.planned.names.keys c.in_ok-planned.planned.steps.items c.in_ok-planned.ensures)
+
+pub returns-clause-room : goal.returns-clause-room
+returns-clause-room g c =
+    let old : c.len.result ≡ length c.args.map.now.kept.items = search rules in
+    let new : c.len-2.result ≡ length c.in_ok-planned.planned.steps.items = search rules in
+    subst (λ n. HasRoom n (length c.in_ok-planned.planned.steps.items) c.in_ok-room.room) old (subst (λ n. HasRoom c.len.result n c.in_ok-room.room) new c.in_ok-room.ensures)
 
 pub returns-clause-tally : goal.returns-clause-tally
 returns-clause-tally g c e t set_up new = c.repaired.ensures.tally e t (names_with c.args.map.now.sources c.args.added) (replanned c.args.map.now c.requires.kept e t c.args.shift (added_names (option_map (λ n. n.now) c.args.added)) c.args.graph.now c.args.edited.now c.args.written.now set_up new c.in_ok-planned.planned.names.keys c.in_ok-planned.planned.steps.items c.in_ok-planned.ensures)

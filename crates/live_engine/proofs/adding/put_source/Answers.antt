@@ -15,7 +15,7 @@ joined-counts-requires-clause-changed c =
     let m = c.args.map.now in
     let r = c.requires.ready in
     let size = ap (λ (l : LayerState). l.size) c.requires.layer in
-    few_changed m c.requires.kept (of_names r.0) (added_to m c.args.name c.args.layer) r.2.shift _ c.args.planned.names.keys c.args.planned.steps.items c.args.prepared r.2.ready
+    few_changed m c.requires.kept (of_names r.0) (added_to m c.args.name c.args.layer) r.2.shift _ c.args.replanned.planned.names.keys c.args.replanned.planned.steps.items c.args.replanned.prepared r.2.ready
     (added_sources_few m c.requires.kept c.args.name c.requires.plain c.requires.new c.args.layer size c.requires.few r.0 r.1)
     (added_flats_few m c.requires.kept c.args.name c.requires.plain c.requires.new c.args.layer size c.requires.few r.0 r.1)
 
@@ -24,7 +24,7 @@ joined-counts-requires-clause-evaluated c =
     let m = c.args.map.now in
     let r = c.requires.ready in
     let size = ap (λ (l : LayerState). l.size) c.requires.layer in
-    few_evaluated m c.requires.kept (of_names r.0) (added_to m c.args.name c.args.layer) r.2.shift _ c.args.planned.names.keys c.args.planned.steps.items c.args.prepared r.2.ready
+    few_evaluated m c.requires.kept (of_names r.0) (added_to m c.args.name c.args.layer) r.2.shift _ c.args.replanned.planned.names.keys c.args.replanned.planned.steps.items c.args.replanned.prepared r.2.ready
     (added_sources_few m c.requires.kept c.args.name c.requires.plain c.requires.new c.args.layer size c.requires.few r.0 r.1)
     (added_flats_few m c.requires.kept c.args.name c.requires.plain c.requires.new c.args.layer size c.requires.few r.0 r.1)
 
@@ -35,11 +35,11 @@ enter-requires-clause-new c =
 pub returns-clause-accepts : goal.returns-clause-accepts
 returns-clause-accepts c = λ edit adding ready.
     added_accepts c.args.map.now c.requires.kept c.args.name c.requires.plain c.requires.new c.args.layer c.requires.layer c.requires.whole c.requires.few edit adding
-    c.args.graph c.args.planned c.args.prepared c.commit.new.map c.enter.new.map c.requires.graph ready c.commit.ensures c.enter.ensures _ refl
-    (c.joined-counts.ensures ∙ ap (λ (k : ℕ). joined (record { changed = k; evaluated = k; worked = 0 }) (counts_view c.args.prepared.counts)) c.tiles-tiles.ensures.tiles)
+    c.args.graph c.args.replanned.planned c.args.replanned.prepared c.commit.new.map c.enter.new.map c.requires.graph ready c.commit.ensures c.enter.ensures _ refl
+    (c.joined-counts.ensures ∙ ap (λ (k : ℕ). joined (record { changed = k; evaluated = k; worked = 0 }) (counts_view c.args.replanned.prepared.counts)) c.tiles-tiles.ensures.tiles)
 
 pub returns-clause-kept : goal.returns-clause-kept
 returns-clause-kept c =
     let r = c.requires.ready in
     added_kept c.args.map.now c.requires.kept c.args.name c.requires.plain c.requires.new c.args.layer c.requires.layer c.requires.whole c.requires.few r.0 r.1
-    c.args.graph c.args.planned c.args.prepared c.commit.new.map c.enter.new.map c.requires.graph r.2 c.commit.ensures c.enter.ensures
+    c.args.graph c.args.replanned.planned c.args.replanned.prepared c.commit.new.map c.enter.new.map c.requires.graph r.2 c.commit.ensures c.enter.ensures

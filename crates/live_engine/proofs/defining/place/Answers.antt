@@ -23,10 +23,10 @@ commit-requires-clause-prepared c =
 pub returns-clause-accepts : goal.returns-clause-accepts
 returns-clause-accepts c =
     defined_accepts c.args.map.now c.requires.kept c.args.name c.args.written c.requires.plain c.requires.formed c.args.draft.flats c.args.draft.graph c.requires.draft
-    c.args.planned c.args.prepared c.commit.new.map (record c.commit.new.map { names = c.insert.new.names }) c.requires.prepared c.commit.ensures refl c.insert.ensures
-    (record { number = c.commit.new.map.number; counts = c.args.prepared.counts }) refl refl
+    c.args.replanned.planned c.args.replanned.prepared c.commit.new.map (record c.commit.new.map { names = c.insert.new.names }) c.requires.prepared c.commit.ensures refl c.insert.ensures
+    (record { number = c.commit.new.map.number; counts = c.args.replanned.prepared.counts }) refl refl
 
 pub returns-clause-kept : goal.returns-clause-kept
 returns-clause-kept c =
     defined_kept c.args.map.now c.requires.kept c.args.name c.args.written c.requires.plain c.requires.formed c.args.draft.flats c.args.draft.graph c.requires.draft
-    c.args.planned c.args.prepared c.commit.new.map (record c.commit.new.map { names = c.insert.new.names }) c.requires.prepared c.commit.ensures refl c.insert.ensures
+    c.args.replanned.planned c.args.replanned.prepared c.commit.new.map (record c.commit.new.map { names = c.insert.new.names }) c.requires.prepared c.commit.ensures refl c.insert.ensures

@@ -7,11 +7,11 @@ use Rattle.live_engine.proofs.dropping.take_out.Goals as goal
 
 pub returns-clause-accepts : goal.returns-clause-accepts
 returns-clause-accepts c =
-    dropped_accepts c.args.map.now c.requires.kept c.args.name.now c.requires.plain c.requires.there c.args.graph c.args.planned c.args.prepared c.commit.new.map c.leave.new.map c.requires.graph c.requires.ready c.commit.ensures c.leave.ensures _ refl refl
+    dropped_accepts c.args.map.now c.requires.kept c.args.name.now c.requires.plain c.requires.there c.args.graph c.args.replanned.planned c.args.replanned.prepared c.commit.new.map c.leave.new.map c.requires.graph c.requires.ready c.commit.ensures c.leave.ensures _ refl refl
 
 pub returns-clause-kept : goal.returns-clause-kept
 returns-clause-kept c =
-    dropped_kept c.args.map.now c.requires.kept c.args.name.now c.requires.plain c.requires.there c.args.graph c.args.planned c.args.prepared c.commit.new.map c.leave.new.map c.requires.graph c.requires.ready c.commit.ensures c.leave.ensures
+    dropped_kept c.args.map.now c.requires.kept c.args.name.now c.requires.plain c.requires.there c.args.graph c.args.replanned.planned c.args.replanned.prepared c.commit.new.map c.leave.new.map c.requires.graph c.requires.ready c.commit.ensures c.leave.ensures
 
 pub commit-requires-clause-prepared : goal.commit-requires-clause-prepared
 commit-requires-clause-prepared c =

@@ -65,7 +65,7 @@ settle-requires g c =
     let is = c.in-Ok.ensures.prepared (edit_of_note note) t set_up (note_same_plan m note c.requires.kept c.requires.may) in
     let fits : CanSettle (noted m note c.requires.kept c.requires.may) c.in-Ok.prepared =
     let can = can_settle m (edit_of_note note) t Nothing c.in-Ok.prepared c.requires.kept set_up is in
-    record { own = can.own; slots = can.slots; all = can.all; ready = can.ready; room = can.room } in
+    record { rest = can.rest; kept = can.kept; all = can.all; ready = can.ready } in
     subst (λ (q : KeptMap). CanSettle q c.in-Ok.prepared) (sym c.in_ok-put.ensures) fits
 
 pub returns-clause-accepts : goal.returns-clause-accepts

@@ -14,33 +14,33 @@ use Rattle.live_engine.proofs.placing.commit.Goals as goal
 pub put_in_place-requires-clause-own : goal.put_in_place-requires-clause-own
 put_in_place-requires-clause-own c =
     let p = c.requires.prepared in
-    subst HaveOwnSlots (sym c.as_mut_slice.ensures.value) (own_slots c.args.map.now p.0 p.1 p.2 p.3 c.args.planned.names.keys c.args.planned.steps.items c.requires.kept p.5.under p.4)
+    subst HaveOwnSlots (sym c.as_mut_slice.ensures.value) (own_slots c.args.map.now p.0 p.1 p.2 p.3 c.args.replanned.planned.names.keys c.args.replanned.planned.steps.items c.requires.kept p.5.under p.4)
 
 pub put_in_place-requires-clause-slots : goal.put_in_place-requires-clause-slots
 put_in_place-requires-clause-slots c =
     let p = c.requires.prepared in
     subst (λ (xs : List (Step Given)). (k i : ℕ) (x : Step Given) → slice_get xs k ≡ Some x → x.kept ≡ Some i → i < length c.args.map.now.kept.items) (sym c.as_mut_slice.ensures.value)
-    (slots_within c.args.map.now p.0 p.1 p.2 p.3 c.args.planned.names.keys c.args.planned.steps.items c.requires.kept p.5.under)
+    (slots_within c.args.map.now p.0 p.1 p.2 p.3 c.args.replanned.planned.names.keys c.args.replanned.planned.steps.items c.requires.kept p.5.under)
 
 pub put_in_place-requires-clause-ready : goal.put_in_place-requires-clause-ready
 put_in_place-requires-clause-ready c =
     let p = c.requires.prepared in
-    subst (λ (xs : List (Step Given)). AreReady c.args.map.now.extent (map (λ k. Some k) c.args.map.now.kept.items) xs c.args.prepared.made.items) (sym c.as_mut_slice.ensures.value)
-    (are_ready c.args.map.now p.0 p.1 p.2 p.3 c.args.planned.names.keys c.args.planned.steps.items c.requires.kept p.5.under c.args.prepared.made.items p.5.made)
+    subst (λ (xs : List (Step Given)). AreReady c.args.map.now.extent (map (λ k. Some k) c.args.map.now.kept.items) xs c.args.replanned.prepared.made.items) (sym c.as_mut_slice.ensures.value)
+    (are_ready c.args.map.now p.0 p.1 p.2 p.3 c.args.replanned.planned.names.keys c.args.replanned.planned.steps.items c.requires.kept p.5.under c.args.replanned.prepared.made.items p.5.made)
 
 pub returns : goal.returns
 returns c =
     let steps = c.as_mut_slice.ensures.value in
     let moved = c.put_in_place.new.steps in
-    let long : length moved ≡ c.args.planned.steps.len = omega (arith, c.put_in_place.auto.steps, c.as_mut_slice.ensures.len) in
-    let is : (with_items c.args.planned.steps moved).items ≡ moved = with_items_is c.args.planned.steps moved long in
+    let long : length moved ≡ c.args.replanned.planned.steps.len = omega (arith, c.put_in_place.auto.steps, c.as_mut_slice.ensures.len) in
+    let is : (with_items c.args.replanned.planned.steps moved).items ≡ moved = with_items_is c.args.replanned.planned.steps moved long in
     let slots : List (Option (Kept Beside)) = map (λ k. Some k) c.args.map.now.kept.items in
     let number : c.saturating_add-number.result ≡ raised c.args.map.now.number 1 = omega (arith, c.saturating_add-number.ensures) in
     record {
-      others = ap (λ k. record c.args.map.now { graph = c.args.graph; planned = record { names = c.args.planned.names; steps = with_items c.args.planned.steps moved }; kept = c.put_in_place.new.kept; number = k }) number;
+      others = ap (λ k. record c.args.map.now { graph = c.args.graph; planned = record { names = c.args.replanned.planned.names; steps = with_items c.args.replanned.planned.steps moved }; kept = c.put_in_place.new.kept; number = k }) number;
       plan_names = refl;
-      rests = subst (Rests c.args.planned.steps.items) (sym is) (subst (λ xs. Rests xs moved) steps c.put_in_place.ensures.rest);
+      rests = subst (Rests c.args.replanned.planned.steps.items) (sym is) (subst (λ xs. Rests xs moved) steps c.put_in_place.ensures.rest);
       kept_count = c.put_in_place.ensures.count ∙ ap length steps;
-      placed = subst (λ k. ArePlaced c.args.map.now.extent k slots c.args.planned.steps.items c.args.prepared.made.items c.put_in_place.new.kept.items) number
-          (subst (λ xs. ArePlaced c.args.map.now.extent c.saturating_add-number.result slots xs c.args.prepared.made.items c.put_in_place.new.kept.items) steps c.put_in_place.ensures.placed);
+      placed = subst (λ k. ArePlaced c.args.map.now.extent k slots c.args.replanned.planned.steps.items c.args.replanned.prepared.made.items c.put_in_place.new.kept.items) number
+          (subst (λ xs. ArePlaced c.args.map.now.extent c.saturating_add-number.result slots xs c.args.replanned.prepared.made.items c.put_in_place.new.kept.items) steps c.put_in_place.ensures.placed);
     }

@@ -5,7 +5,7 @@ use Rattle.std.proofs.lemmas.Option.{slice_get_read}
 use Rattle.layer_tiles.specs.Operands.{cells_after}
 use Rattle.layer_tiles.specs.Tallies.{RisesBy}
 use Rattle.map_waves.specs.Jobs.{JobsState}
-use Rattle.map_waves.specs.Answers.{IsHalt}
+use Rattle.map_waves.specs.Answers.{LacksJobs}
 use Rattle.map_waves.specs.Tasks.{IsTask}
 use Rattle.map_waves.specs.Begun.{AreBegun}
 use Rattle.map_waves.proofs.Making.{all_get}
@@ -57,7 +57,7 @@ returns-in-Err-clause-halted g c =
     let at : slice_get ts (length js) ≡ Some t = ap (slice_get ts) c.loop-task.invariant.count ∙ slice_get_read ts (length ts) c.loop-task.task-index t refl c.loop-task-test.true c.task-item.is in
     let task = all_get (IsTask k.means k.formed k.suits base steps) ts c.requires.tasks (length js) t at in
     let there : slice_get steps t.place ≡ Some x = slice_get_read steps (length steps) t.place x refl task.below c.index-steps-task.is in
-    halted_fault k.means k.formed k.suits k.sound k.first k.looks k.picks k.pieces base steps ts (length js) t x c.in-Viewers.count c.requires.tasks at there (subst (IsHalt base.extent (k.means x.op) (cells_after t.operands)) c.in-Viewers.is c.in-Err.ensures.halt)
+    halted_fault k.means k.formed k.suits k.sound k.first k.looks k.picks k.pieces base steps ts (length js) t x c.in-Viewers.count c.requires.tasks at there (subst (LacksJobs base.extent (k.means x.op) (cells_after t.operands)) c.in-Viewers.is c.in-Err.ensures.halt)
 
 pub returns-in-Err-clause-rises : goal.returns-in-Err-clause-rises
 returns-in-Err-clause-rises g c =

@@ -3,7 +3,7 @@ use Rattle.map_waves.proofs.Finding.{quiet_picks, all_are_found}
 use Rattle.map_waves.proofs.parts.find_all.Goals as goal
 
 pub returns-in_err-answers-clause-looks : goal.returns-in_err-answers-clause-looks
-returns-in_err-answers-clause-looks g c = quiet_picks c.args.count _ _ _ c.run_phase.ensures.tally
+returns-in_err-answers-clause-looks g c = quiet_picks c.args.count _ _ _ c.run_by.ensures.tally
 
 pub returns-clause-found : goal.returns-clause-found
 returns-clause-found g c =
@@ -11,4 +11,4 @@ returns-clause-found g c =
     c.all_found.ensures.count c.all_found.ensures.each
 
 pub returns-clause-looks : goal.returns-clause-looks
-returns-clause-looks g c = quiet_picks c.args.count _ _ _ c.run_phase.ensures.tally
+returns-clause-looks g c = quiet_picks c.args.count _ _ _ c.run_by.ensures.tally

@@ -1,22 +1,19 @@
 use Rattle.std.proofs.Common.{◌≡◌, ◌≢◌, ℕ, ◌<◌, List, [], ◌∷◌, ◌++◌, length, get_or, Option, Some, None, slice_get, refl, sym, ap, subst, ◌∙◌, arith, get_or-set_other}
 use Rattle.std.specs.Prelude.{IfSome}
-use Rattle.std.proofs.lemmas.List.{length_push, get_or_read}
-use Rattle.std.proofs.lemmas.Option.{slice_get-get_or, slice_get_read, same_Some}
+use Rattle.std.proofs.lemmas.List.{length_push}
+use Rattle.std.proofs.lemmas.Option.{slice_get_read, same_Some}
 use Rattle.map_waves.specs.Prepared.{IsReady}
 use Rattle.map_waves.specs.Placing.{IsPlaced, slot_of}
 use Rattle.map_waves.specs.declared.keeping.Kept.{Kept}
 use Rattle.map_waves.specs.declared.keeping.Made.{Made}
 use Rattle.map_waves.specs.declared.plans.Step.{Step}
 use Rattle.map_waves.proofs.Phasing.{each_pushed}
+use Rattle.map_waves.proofs.SetPlaces.{read_same}
 use Rattle.map_waves.proofs.placing.place_all.Goals as goal
 
 slot_same : {B : Type 0} (a b : List (Option (Kept B))) (k : Option ℕ) → ((i : ℕ) → k ≡ Some i → get_or a i None ≡ get_or b i None) → slot_of a k ≡ slot_of b k
 slot_same a b None same = refl
 slot_same a b (Some i) same = same i refl
-
-read_now : {B : Type 0} (rs old : List (Option (Made B))) (k : ℕ) (r taken : Option (Made B)) → r ≡ get_or rs k r → taken ≡ r → k < length rs → k < length old → get_or rs k None ≡ get_or old k None → slice_get old k ≡ Some taken
-read_now rs old k r taken read is within there same =
-    slice_get-get_or old k None there ∙ ap (λ z. Some z) (sym (is ∙ get_or_read rs k r within read None ∙ same))
 
 some_within : (o : Option ℕ) (n : ℕ) → ((i : ℕ) → o ≡ Some i → i < n) → IfSome o (λ i. i < n)
 some_within None n within = tt
@@ -38,7 +35,7 @@ place-now-requires g c =
     let x = c.index-steps-k.result in
     let all = c.requires.all in
     let there : slice_get c.args.steps.now k ≡ Some x = slice_get_read c.args.steps.now (length c.args.steps.now) k x refl c.loop-k-test.true c.index-steps-k.is in
-    let r : slice_get c.args.prepared.now k ≡ Some c.take.result = read_now c.loop-k.prepared c.args.prepared.now k c.index-prepared-k.result c.take.result c.index-prepared-k.is (c.take.ensures.value ∙ sym c.index-prepared-k.is) (omega arith) (omega arith) (c.loop-k.invariant.prepared k (omega arith)) in
+    let r : slice_get c.args.prepared.now k ≡ Some c.take.result = read_same c.loop-k.prepared c.args.prepared.now k c.index-prepared-k.result c.take.result None c.index-prepared-k.is (c.take.ensures.value ∙ sym c.index-prepared-k.is) (omega arith) (omega arith) (c.loop-k.invariant.prepared k (omega arith)) in
     let slot : c.taken-kept.result ≡ slot_of c.args.slots.now x.kept = c.taken-kept.ensures.kept ∙ ap (λ (y : Step _). slot_of c.loop-k.slots y.kept) (sym c.index-steps-k.is) ∙ slot_same c.loop-k.slots c.args.slots.now x.kept (λ i e. c.loop-k.invariant.slots k i x (omega arith) there e) in
     subst (λ o. IsReady c.args.extent o c.take.result) (sym slot) (c.requires.ready k x c.take.result there r)
 
@@ -48,7 +45,7 @@ loop-k-preserved g c =
     let x = c.index-steps-k.result in
     let all = c.requires.all in
     let there : slice_get c.args.steps.now k ≡ Some x = slice_get_read c.args.steps.now (length c.args.steps.now) k x refl c.loop-k-test.true c.index-steps-k.is in
-    let r : slice_get c.args.prepared.now k ≡ Some c.take.result = read_now c.loop-k.prepared c.args.prepared.now k c.index-prepared-k.result c.take.result c.index-prepared-k.is (c.take.ensures.value ∙ sym c.index-prepared-k.is) (omega arith) (omega arith) (c.loop-k.invariant.prepared k (omega arith)) in
+    let r : slice_get c.args.prepared.now k ≡ Some c.take.result = read_same c.loop-k.prepared c.args.prepared.now k c.index-prepared-k.result c.take.result None c.index-prepared-k.is (c.take.ensures.value ∙ sym c.index-prepared-k.is) (omega arith) (omega arith) (c.loop-k.invariant.prepared k (omega arith)) in
     let slot : c.taken-kept.result ≡ slot_of c.args.slots.now x.kept = c.taken-kept.ensures.kept ∙ ap (λ (y : Step _). slot_of c.loop-k.slots y.kept) (sym c.index-steps-k.is) ∙ slot_same c.loop-k.slots c.args.slots.now x.kept (λ i e. c.loop-k.invariant.slots k i x (omega arith) there e) in
     let items : c.put_next.new.next.items ≡ c.loop-k.next.items ++ c.place-now.result ∷ [] = c.put_next.ensures.items in
     let placed : IsPlaced c.args.extent (slot_of c.args.slots.now x.kept) c.take.result c.args.stamp c.place-now.result =

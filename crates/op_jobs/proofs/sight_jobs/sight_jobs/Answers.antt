@@ -5,7 +5,7 @@ use Rattle.map_defs.specs.Sight.{Sighting}
 use Rattle.layer_tiles.specs.Operands.{cells_after}
 use Rattle.layer_tiles.specs.Tallies.{RisesBy}
 use Rattle.statement_parser.specs.Views.{op_view, term_view}
-use Rattle.map_waves.specs.Answers.{IsHalt}
+use Rattle.map_waves.specs.Answers.{LacksJobs}
 use Rattle.map_waves.specs.Keeping.{kept_now, was_of, IsRightKept}
 use Rattle.map_waves.specs.Statements.{damage_by}
 use Rattle.op_jobs.specs.Beside.{suits}
@@ -16,7 +16,7 @@ pub returns-in_err-viewers-clause-halt : goal.returns-in_err-viewers-clause-halt
 returns-in_err-viewers-clause-halt g c =
     let p = err_from_is_err_and c.from_residual.result c.from_residual.ensures.1 in
     let sight : Sighting = record { from = c.in-Sight.from; to = c.in-Sight.to; reach = c.in-Sight.reach } in
-    let P : Op → Type 0 = λ o. IsHalt c.args.extent o (cells_after c.args.operands.now) c.in_err-viewers.field-0.0 in
+    let P : Op → Type 0 = λ o. LacksJobs c.args.extent o (cells_after c.args.operands.now) c.in_err-viewers.field-0.0 in
     rw (p.1, p.2) (subst P (sym (ap op_view c.in-Sight.is)) (c.in_err-viewers.ensures.halt sight (term_view c.in-Sight.of) (term_view c.in-Sight.surface)))
 
 pub returns-in_err-viewers-clause-looks : goal.returns-in_err-viewers-clause-looks

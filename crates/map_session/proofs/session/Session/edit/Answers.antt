@@ -15,11 +15,11 @@ returns-clause-does g c =
     let f = c.self.inside in
     let s = c.args.self.now in
     let e = line_edit (edit_view c.args.edit) in
-    let D = λ (r : Result Reply NoMemory). Does s (record { header = f.header; whole = c.edit.new.self }) (edited s (accept_counted s.whole e)) r in
-    elim c.match-edit-4.branch [
+    let D = λ (r : Result Reply NoMemory). Does s (record { header = f.header; whole = c.edit_by.new.self }) (edited s (accept_counted s.whole e)) r in
+    elim c.match-edit_by.branch [
       | in-Ok w ↦ subst D (sym w.result-is)
-          (edit_done f.header f.engine c.edit.new.self s e w.in-Ok.accepted w.filled.result c.self.view_is w.in-Ok.ensures.accepts.0 w.in-Ok.ensures.accepts.1 w.filled.ensures)
+          (edit_done f.header f.engine c.edit_by.new.self s e w.in-Ok.accepted w.filled.result c.self.view_is w.in-Ok.ensures.accepts.0 w.in-Ok.ensures.accepts.1 w.filled.ensures)
       | in-Err+in_ok-cause-in-Err w ↦ subst D (sym w.result-is)
-          (edit_refused f.header f.engine c.edit.new.self s e w.in-Err.refusal w.in_ok-cause-in-Err.cause.items w.deref.result.now w.refused.result c.self.view_is w.in-Err.ensures.accepts
+          (edit_refused f.header f.engine c.edit_by.new.self s e w.in-Err.refusal w.in_ok-cause-in-Err.cause.items w.deref.result.now w.refused.result c.self.view_is w.in-Err.ensures.accepts
           w.in_ok-cause-in-Err.ensures w.deref.ensures.value w.refused.ensures)
     ]

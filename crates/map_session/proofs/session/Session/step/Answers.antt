@@ -38,7 +38,7 @@ returns-in-Ok-Quit-clause-steps g c =
     stepped_empty c.args.self.now c.args.line.now quit Quit c.empty-in-Ok-Quit.result
     (subst (λ (l : Line). IsLineRead (line_of present c.args.line.now) line_view (Ok l)) c.in-Ok-Quit.field-0-is c.in-Ok-Quit.ensures.read) refl c.empty-in-Ok-Quit.ensures
 
-pub returns-in_ok-cause-in-Err-clause-steps : goal.returns-in_ok-cause-in-Err-clause-steps
-returns-in_ok-cause-in-Err-clause-steps g c =
+pub returns-clause-steps : goal.returns-clause-steps
+returns-clause-steps g c =
     stepped_refused c.args.self.now c.args.line.now c.in-Err.refusal c.in_ok-cause-in-Err.cause.items c.deref.result.now c.refused.result
     c.in-Err.ensures.read c.in_ok-cause-in-Err.ensures c.deref.ensures.value c.refused.ensures

@@ -2,7 +2,7 @@ use Rattle.std.proofs.Common.{◌≡◌, ◌+◌, ◌≤◌, false, [], vec_len,
 use Rattle.std.specs.Prelude.{All, vec_capacity}
 use Rattle.tile_workers.specs.Seats.{drawn, share}
 use Rattle.tile_workers.specs.Shifts.{IsHired, shift_share}
-use Rattle.tile_workers.proofs.crew.hire.Given as goal
+use Rattle.tile_workers.proofs.hiring.hire.Given as goal
 
 abbrev pub invariant-loop-hired : goal.invariant-loop-hired
 invariant-loop-hired g l = record {
