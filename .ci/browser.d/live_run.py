@@ -17,7 +17,7 @@ TOP = os.path.dirname(os.path.dirname(os.path.dirname(os.path.realpath(__file__)
 sys.path.insert(1, os.path.join(TOP, 'tools'))
 PROGRAM = os.environ.get('PILEPUMICE') or os.path.join(TOP, 'pilepumice')
 RELIEF = os.path.join(TOP, 'examples', 'maunga_whau', 'elevation.asc')
-NULL = -2_000_000_001
+NULL = -1_000_000_000_000_001
 TILE = 32
 WATER = b'''Depth = LocalDifference of 165 and Elevation
 Water = LocalRating of Depth with null for -2000 to 0

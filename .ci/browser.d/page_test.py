@@ -43,7 +43,13 @@ class Browsing(Case):
         drawn = colours_of(grid)
         for tile in tiles:
             wanted = [[drawn[cell] for cell in row] for row in tile_of(grid, tile)]
-            self.assertEqual(self.page.pixels(name, tile), wanted, (name, tile))
+            self.are_same(self.page.pixels(name, tile), wanted, name, tile)
+
+    def are_same(self, found, wanted, *what):
+        """Compares row by row, since it takes minutes to tell in what whole grids differ."""
+        self.assertEqual(len(found), len(wanted), what)
+        for row, (cells, others) in enumerate(zip(found, wanted)):
+            self.assertEqual(cells, others, (*what, row))
 
     def paint(self, *cells, **brush):
         self.page.hold('paint')
@@ -65,7 +71,7 @@ class Strokes(Browsing):
         self.assertTrue(changed['Crater'] and changed['Lake'])
         for name, grid in after.items():
             self.is_seen(grid, name, changed[name])
-            self.assertEqual(self.page.cells(name), grid, name)
+            self.are_same(self.page.cells(name), grid, name)
 
     def test_only_tiles_that_changed_are_ringed(self):
         before = self.grids()
@@ -153,7 +159,7 @@ class LargeMaps(Browsing):
 
     def is_whole(self):
         for name, grid in self.grids(self.NAMES).items():
-            self.assertEqual(self.page.cells(name), grid, name)
+            self.are_same(self.page.cells(name), grid, name)
 
     def test_cells_in_sight_come_first_and_then_the_rest(self):
         in_sight, is_same = self.stroke_in_view('{scale: 16, x: 90, y: 60}', (70, 100), (72, 104), size=1, value=-300)
@@ -178,6 +184,77 @@ class LargeMaps(Browsing):
         self.page.type('paint Relief 190 290 200 300 -40')
         self.browser.wait(SETTLED, 'the rest of the cells')
         self.is_whole()
+
+
+class WidestValues(Browsing):
+    """A map with the greatest and the least value, each beside the one next to it. Its last tile is so small that its cells are asked for
+    one by one."""
+
+    NAMES = ['Widest', 'Range', 'Turned']
+    SIZE = TILE + 2
+    MOST = 10 ** 15
+    VALUES = [MOST, MOST - 1, NULL, 0, 1 - MOST, -MOST]
+
+    def live(self):
+        widest = self.grid_of('widest.asc', [self.VALUES[column % len(self.VALUES)] for column in range(self.SIZE)])
+        spread = self.grid_of('range.asc', [2 * self.MOST * column // (self.SIZE - 1) - self.MOST for column in range(self.SIZE)])
+        model = self.write('model', b'Turned = LocalDifference of 0 and Widest\n')
+        return super().live(['run', '2', model, f'Widest={widest}', f'Range={spread}'])
+
+    def grid_of(self, name, cells):
+        """A file with the same cells in each row."""
+        rows = self.SIZE * f'{" ".join(map(str, cells))}\n'
+        header = f'ncols {self.SIZE}\nnrows {self.SIZE}\nxllcorner 0\nyllcorner 0\ncellsize 1\nNODATA_value {NULL}\n'
+        return self.write(name, (header + rows).encode())
+
+    def is_whole(self):
+        for name, grid in self.grids(self.NAMES).items():
+            self.is_seen(grid, name, [(row, column) for row in range(2) for column in range(2)])
+            self.are_same(self.page.cells(name), grid, name)
+
+    def legend(self, name):
+        return self.browser.run('''return [...document.querySelectorAll(`.legend div[data-layer=${arguments[0]}] tr`)]
+            .map((row) => [...row.children].slice(1).map(({textContent}) => textContent))''', name)
+
+    def test_they_are_drawn_as_the_program_prints_them(self):
+        self.assertEqual(self.grids(['Widest'])['Widest'][0][:len(self.VALUES)], self.VALUES)
+        self.is_whole()
+
+    def test_they_are_told_under_the_pointer(self):
+        for column, value in enumerate(self.VALUES, 1):
+            self.browser.pointer(('to', *self.page.place(20, column)))
+            told, turned = ('null', 'null') if value == NULL else (value, -value)
+            self.assertRegex(self.browser.text('#place'), f'^row 20 column {column}  Widest {told}  Range -?[0-9]+  Turned {turned}$')
+
+    def test_they_are_painted(self):
+        for row, column in (10, 12), (self.SIZE, self.SIZE):
+            for value in self.MOST, 1 - self.MOST, -self.MOST:
+                self.paint((row, column), source='Widest', value=str(value), size=1)
+                self.assertEqual(self.run_of_live.lines()[-1], f'paint Widest {row} {column} {row} {column} {value}')
+                self.assertIn(f'Widest {value}  ', self.browser.text('#place'))
+                self.assertEqual(self.page.cells('Turned')[row - 1][column - 1], -value)
+                self.is_whole()
+        self.replays(self.run_of_live)
+
+    def test_value_beyond_them_is_refused(self):
+        for value in self.MOST + 1, -self.MOST - 1:
+            self.paint((10, 12), source='Widest', value=str(value), size=1)
+            self.assertIn('refused number', self.browser.text('#told'))
+            wait(lambda: f'> paint Widest 10 12 10 12 {value}' in self.page.log(), 'the log')
+            self.assertEqual(self.page.log()[-1], f'# a cell is a number from {-self.MOST} to {self.MOST}, or null')
+        self.is_whole()
+
+    def test_they_stand_in_the_legends(self):
+        counted = play(self.run_of_live.words, b'legend Widest\n').decode().splitlines()[-len(self.VALUES):]
+        wanted = [[value, count, ''] for value, count, *_ in map(str.split, counted)]
+        self.assertEqual([value for value, *_ in wanted], ['null', *map(str, sorted(set(self.VALUES) - {NULL}))])
+        wait(lambda: self.legend('Widest') == wanted, f'the legend {wanted}')
+        half = self.MOST // 2
+        self.assertEqual(self.legend('Range'), [[str(value)] for value in (self.MOST, half, 0, -half, -self.MOST)])
+
+    def test_field_of_the_brush_shows_them_whole(self):
+        self.page.choose(value=str(-self.MOST))
+        self.assertTrue(self.browser.run("const {scrollWidth, clientWidth} = document.getElementById('value'); return scrollWidth <= clientWidth"))
 
 
 class Lines(Browsing):

@@ -14,13 +14,13 @@ TOP = Path(__file__).resolve().parent.parent.parent
 PROGRAM = os.environ.get('PROGRAM', str(TOP / 'pilepumice'))
 MODEL = TOP / 'library/planner.model'
 PROCEDURES = re.findall(r'^procedure (\w+)', MODEL.read_text(), re.M)
-GREATEST = 2_000_000_000
-NULL_NUMBER = -2_000_000_001
+GREATEST = 10 ** 15
+NULL_NUMBER = -GREATEST - 1
 
 
-def write_grid(file, rows, side=1):
-    cells = '\n'.join(' '.join(str(NULL_NUMBER if cell is None else cell) for cell in row) for row in rows)
-    file.write_text(f'ncols {len(rows[0])}\nnrows {len(rows)}\nxllcorner 0\nyllcorner 0\ncellsize {side}\nNODATA_value {NULL_NUMBER}\n{cells}\n')
+def write_grid(file, rows, side=1, null=NULL_NUMBER):
+    cells = '\n'.join(' '.join(str(null if cell is None else cell) for cell in row) for row in rows)
+    file.write_text(f'ncols {len(rows[0])}\nnrows {len(rows)}\nxllcorner 0\nyllcorner 0\ncellsize {side}\nNODATA_value {null}\n{cells}\n')
 
 
 def play(folder, layers, lines, side=1):

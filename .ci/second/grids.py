@@ -3,8 +3,8 @@
 import math
 import re
 
-GREATEST = 2_000_000_000
-NULL_NUMBER = -2_000_000_001
+GREATEST = 10 ** 15
+NULL_NUMBER = -GREATEST - 1
 MOST_CELLS = 1_500_000
 
 KEYS = {b'ncols': 'columns', b'nrows': 'rows', b'xllcorner': 'x', b'xllcenter': 'x', b'yllcorner': 'y',

@@ -6,7 +6,7 @@ from grids import GREATEST, Refused, print_grid
 from lines import Call, Op, ZONAL, print_body, print_procedure
 from operations import MOST_VIEWERS, damage, differing, layer_of, work
 
-MOST = {'sources': 32, 'statements': 64, 'zonals': 24, 'labels': 4096, 'symbols': 4096, 'procedures': 32}
+MOST = {'sources': 32, 'statements': 64, 'zonals': 12, 'labels': 4096, 'symbols': 4096, 'procedures': 32}
 LAST_NUMBER = 2 ** 64 - 1
 
 

@@ -113,16 +113,16 @@ class Fill(Case):
         rows = [[5, 5, 5], [5, 1, 5], [5, None, 5]]
         self.assertEqual(self.filled(rows, null=6), rows)
         self.assertEqual(self.filled([*rows[:2], [5, 5, 5], rows[2]], null=6), [[5, 5, 5], [5, 6, 5], [5, 5, 5], [5, None, 5]])
-        self.assertEqual(self.read('out.asc').decode().splitlines()[2:6], ['xllcorner 100', 'yllcorner 200.5', 'cellsize 10', 'NODATA_value -2000000001'])
+        self.assertEqual(self.read('out.asc').decode().splitlines()[2:6], ['xllcorner 100', 'yllcorner 200.5', 'cellsize 10', 'NODATA_value -1000000000000001'])
         self.assertEqual(self.read('out.prj'), b'a projection')
 
     def test_refused(self):
         self.refused('fill', 'in.asc', 'out.asc', saying='in.asc: No such file')
         self.write('in.asc', grid_text([[1, 2], [3, 4]]).replace('3', '3.5'))
         self.refused('fill', 'in.asc', 'out.asc', saying="cell 3 is '3.5', which is no whole number")
-        top = 2_000_000_000
+        top = 10 ** 15
         self.grid('in.asc', [[top] * 3, [top, 1, top], [top] * 3])
-        self.refused('fill', 'in.asc', 'out.asc', saying='a filled cell would be above 2000000000')
+        self.refused('fill', 'in.asc', 'out.asc', saying='a filled cell would be above 1000000000000000')
         self.assertFalse(os.path.exists(self.path('out.asc')))
         self.refused('fill', '.', 'out.asc', saying='Is a directory')
         for step in ('-1', 'x'):

@@ -8,8 +8,8 @@ import grids
 from common import grid_text as ours
 from common.refusals import Refused
 
-STRANGE = ['ncols', 'NROWS', 'dx', '7.5', '7.00', '-7', '+7', '007', '1e3', 'nan', '2000000000', '2000000001', '-2000000001', '9' * 19, '-',
-           '.', '5.', '.5', '0', '4097', '1_0', '1٣', 'x' * 41, '1' * 41, '\x0b', '-0']
+STRANGE = ['ncols', 'NROWS', 'dx', '7.5', '7.00', '-7', '+7', '007', '1e3', 'nan', '1000000000000000', '1000000000000001', '-1000000000000001', '9' * 18,
+           '9' * 19, '-', '.', '5.', '.5', '0', '4097', '1_0', '1٣', 'x' * 41, '1' * 41, '\x0b', '-0']
 
 
 def spoiled(random, words):
@@ -25,7 +25,7 @@ class GridText(Case):
         random, taken = Random(51), 0
         for _ in range(3000):
             rows = [[random.choice([None, 0, 5, -12]) for _ in range(random.randint(1, 3))]] * random.randint(1, 3)
-            text = grid_text(rows, null=random.choice([-9999, 0, -2000000001, 10 ** 17]))
+            text = grid_text(rows, null=random.choice([-9999, 0, -2000000001, -10 ** 15 - 1, 10 ** 17]))
             words = spoiled(random, text.split())
             data = ''.join(word + random.choice([' ', '\n', '\r\n', '\t']) for word in words).encode()
             try:

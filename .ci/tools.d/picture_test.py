@@ -124,7 +124,7 @@ class Picture(Case):
         self.assertEqual(len(label[0]), 80 + 3 * 10 + 18 + (6 * len('2 two') - 1) * 2)
 
     def test_a_grid_from_the_middle_of_replies(self):
-        printed = grid_text([[5, 6]], null=-2000000001)
+        printed = grid_text([[5, 6]], null=-1000000000000001)
         self.write('replies', printed + printed.replace('5 6', '6 5') + 'value A 1 1 6\n')
         self.assertEqual(self.picture('replies', '--pixels', 1), [[SECOND, FIRST]])
         for text in ('NROWS 1 NCOLS\n2 cellsize 1 xllcorner 0 yllcorner 0\n5\n6', 'ncols 2\nnrows 1\nxllcorner 0\nyllcorner 0\ncellsize 1\n5\n6\n\n'):
@@ -175,7 +175,7 @@ class Picture(Case):
         for line in ('1 0 0', 'x 0 0 0', 'inf 0 0 0', 'nan% 0 0 0', '1 0 0 0.5'):
             self.write('wrong', line)
             self.refused('picture', 'a.asc', out, '--colours', 'wrong', saying='wrong, line 1: a colour is')
-        self.write('wrong', 'ok 1 changed 0 evaluated 0 worked 0\nstamps A 1 1\nx\n' + grid_text([[1]], null=-2000000001))
+        self.write('wrong', 'ok 1 changed 0 evaluated 0 worked 0\nstamps A 1 1\nx\n' + grid_text([[1]], null=-1000000000000001))
         self.refused('picture', 'wrong', out, saying='wrong: the last stamps or the last legend are not as the program writes them')
         self.write('wrong', grid_text([[1, 2]]).replace('2\n', '2.5\n'))
         self.refused('picture', 'wrong', out, saying="wrong: ")

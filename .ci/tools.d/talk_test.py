@@ -167,7 +167,7 @@ class Refusals(Talk):
                 ('Wet = localsum of Heights and 1', 7, 'operation', 'localsum is no operation; did you mean LocalSum?'),
                 ('Wet = FocalMean of Heights at 33', 31, 'number', 'a radius is 1 to 32'),
                 ('paint Heights 1 1 4097 1 5', 19, 'number', 'rows and columns are 1 to 4096'),
-                ('paint Heights 1 1 1 1 2000000001', 23, 'number', 'a cell is a number from -2000000000 to 2000000000, or null'),
+                ('paint Heights 1 1 1 1 1000000000000001', 23, 'number', 'a cell is a number from -1000000000000000 to 1000000000000000, or null'),
                 ('  grid = LocalSum of Heights and 1', 8, 'syntax', "= can't stand here: grid NAME"),
                 ('of = LocalSum of Heights and 1', 1, 'syntax', "of is a word of the language, and can't be a name"),
                 ('new list 1', 5, 'syntax', "list is a word of the language, and can't be a name"),
@@ -216,7 +216,8 @@ class Refusals(Talk):
                 ('paint Heights 1 1 3 1 5', 'refused size 2 2',
                  'the map has 2 rows and 2 columns; the first corner of a rectangle lies above and to the left of the second'),
                 ('Slope = LocalSum of Slope and 1', 'refused cycle Slope', 'Slope would read its own layer'),
-                ('X = LocalProduct of 2000000000 and Heights', 'refused overflow X 1 2', 'X would be beyond 2000000000 in row 1, column 2')):
+                ('X = LocalProduct of 1000000000000000 and Heights', 'refused overflow X 1 2',
+                 'X would be beyond 1000000000000000 in row 1, column 2')):
             self.assertEqual(terminal.line(line), [reply, f'  # {sentence}'])
 
     def test_a_layer_that_is_missing(self):
@@ -360,12 +361,12 @@ class Language(Case):
     def test_every_refusal_is_explained(self):
         """Random lines, most of which the program refuses, and some for each of the other causes: each refusal has a sentence."""
         self.grid('a.asc', [[1, 2]])
-        random, words = Random(52), [*RESERVED, *'A B A.b Cc = = ( ) , ; : 1 -1 0 4097 2000000001 33 x! procedure paint value'.split()]
+        random, words = Random(52), [*RESERVED, *'A B A.b Cc = = ( ) , ; : 1 -1 0 4097 1000000000000001 33 x! procedure paint value'.split()]
         starts = ['', 'B = ', 'B = LocalSum of A and ', 'paint A 1 ', 'procedure P(a): ', 'B = P(', 'value A ', 'label ', 'B = FocalSum of A ']
         lines = [random.choice(starts) + ' '.join(random.choices(words, k=random.randint(0, 5))) for _ in range(1200)]
         lines = [line for line in lines if line.strip() and line.split() != ['quit'] and line.split()[0] not in REQUESTS or line.startswith('value')]
         lines += ['drop Zz', 'new A 1', 'paint A 2 1 2 1 1', 'B = Zz(A)', 'procedure Pp(a): result = LocalSum of a and 1', 'B = Pp(A, A)', 'x' * 4097,
-                  'B = LocalProduct of A and 2000000000', 'D = LocalSum of E and 1', 'E = LocalSum of D and 1', 'paint D 1 1 1 1 1']
+                  'B = LocalProduct of A and 1000000000000000', 'D = LocalSum of E and 1', 'E = LocalSum of D and 1', 'paint D 1 1 1 1 1']
         lines += [f'new S{number} 1' for number in range(40)] + [f'T{number} = LocalSum of A and 1' for number in range(70)]
         out, status = program(['run', '1', '-', 'A=a.asc'], '\n'.join(lines + ['']).encode(), self.folder)
         replies = out.decode().splitlines()[1:]

@@ -7,8 +7,8 @@ import shutil
 
 from common.refusals import Refused
 
-GREATEST = 2_000_000_000
-NULL_NUMBER = -2_000_000_001  # what null is printed as, since no cell can hold it
+GREATEST = 10 ** 15
+NULL_NUMBER = -GREATEST - 1  # what null is printed as, since no cell can hold it
 USUAL_NULL = -9999
 MOST_ROWS = 4096
 MOST_CELLS = 1_500_000

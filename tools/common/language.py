@@ -32,11 +32,11 @@ RESERVED = {*OPERATIONS, *REQUESTS, *EDITS, 'FocalNeighbor', *'''result null of 
 WORD = re.compile(r'[=(),;:]|[^ \t=(),;:]+')
 NAME = re.compile('[A-Za-z][A-Za-z0-9_]{0,31}')
 
-CELLS = 'a cell is a number from -2000000000 to 2000000000, or null'
-RANGES = {'at': 'a radius is 1 to 32', 'within': 'the reach of a view is 1 to 64, the limit of a way 0 to 2000000000'}
+CELLS = 'a cell is a number from -1000000000000000 to 1000000000000000, or null'
+RANGES = {'at': 'a radius is 1 to 32', 'within': 'the reach of a view is 1 to 64, the limit of a way 0 to 1000000000000000'}
 LIMITS = {
     'sources': '32 layers that are loaded or made by new', 'statements': '64 statements, those of calls included',
-    'zonals': '24 Zonal statements', 'procedures': '32 procedures', 'labels': '4096 labels', 'symbols': '4096 symbols',
+    'zonals': '12 Zonal statements', 'procedures': '32 procedures', 'labels': '4096 labels', 'symbols': '4096 symbols',
 }
 SENTENCES = {
     'long': 'the line has {0} bytes, and at most 4096 can be',
@@ -45,13 +45,13 @@ SENTENCES = {
     'size': 'the map has {0} rows and {1} columns; the first corner of a rectangle lies above and to the left of the second',
     'cycle': '{0} would read its own layer',
     'viewers': '{0} would have {1} viewers, and at most 64 can be',
-    'overflow': '{0} would be beyond 2000000000 in row {1}, column {2}',
+    'overflow': '{0} would be beyond 1000000000000000 in row {1}, column {2}',
 }
 LOADS = {
     'key': 'at byte {0} stands no key of a grid header, or one that was there before, or a key is missing (cells that are not square have dx and dy)',
     'number': 'at byte {0} a value of the header is missing or not of its form (NODATA_value must be a whole number)',
     'limits': '{0} rows and {1} columns are beyond 4096 each, or 1500000 cells',
-    'cell': 'cell {0} is no whole number', 'range': 'cell {0} is beyond 2000000000 and is not the NODATA_value',
+    'cell': 'cell {0} is no whole number', 'range': 'cell {0} is beyond 1000000000000000 and is not the NODATA_value',
     'few': 'there are {0} cells, and the header says {1}', 'more': 'at byte {0}, after the last cell, stands something more',
     'size': 'the first grid has {0} rows and {1} columns, and this one others', 'long': 'the file has more than {0} bytes',
 }

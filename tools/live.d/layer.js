@@ -1,7 +1,8 @@
-// A layer's cells, as the program told them, and how they are coloured.
+// A layer's cells, as the program told them, and how they are coloured. Cells are numbers of 64 bits with a point, which hold each of the
+// program's exactly.
 
 export const TILE = 32;
-export const NULL = -2000000001; // as the program prints it
+export const NULL = -1_000_000_000_000_001; // as the program prints it
 const HEADER = 6; // lines before a printed grid's cells
 const MOST_CLASSES = 12;
 const MOST_TABLED = 1 << 20; // values between the least and the greatest for which colours are kept in a table
@@ -23,7 +24,7 @@ function numberAt(text, place) {
 
 // So many numbers of a printed grid's rows, from a place of a text of bytes on.
 function numbersOfRows(text, place, count) {
-  const numbers = new Int32Array(count);
+  const numbers = new Float64Array(count);
   for (let index = 0; index < count; index++) {
     while (text[place] <= SPACE) place++;
     if (place >= text.length) throw new Error('a text has too few cells');
@@ -35,7 +36,7 @@ function numbersOfRows(text, place, count) {
 
 // The last words of replies to `value` lines, of which there are so many.
 function numbersOfReplies(text, count) {
-  const numbers = new Int32Array(count);
+  const numbers = new Float64Array(count);
   let end = text.length - 1;
   for (let index = count - 1; index >= 0; index--) {
     if (end < 0) throw new Error('there are too few replies');

@@ -10,7 +10,7 @@ ghost use Rattle.drainage_flow.specs.Seeding.{IsSeededOf, MarkedAround};
 ghost use Rattle.drainage_flow.specs.Listing.{AreListed};
 
 use crate::queue::Queue;
-use crate::seed::renew_around;
+use crate::seed::{Seeds, renew_around};
 use crate::settle::settle;
 use layer_tiles::{Change, Layer, Tally};
 use map_nums::NoMemory;
@@ -23,8 +23,7 @@ fn renew_all<M: Tally>(
     surface: &Change<'_>,
     weights: &Change<'_>,
     changed: &[u32],
-    marks: &mut PlaceSet,
-    queue: &mut Queue,
+    seeds: &mut Seeds,
     tally: &mut M,
 ) -> Result<(), NoMemory>
     requires surface { IsSome surface.now.before }
@@ -32,14 +31,14 @@ fn renew_all<M: Tally>(
     requires old_size { old.now.size ≡ surface.now.size }
     requires weights_size { weights.now.size ≡ surface.now.size }
     requires within { All (λ c. c < cells_in surface.now.size) changed.now }
-    requires marks { marks.old.size ≡ surface.now.size }
-    requires seeded { IsSeededOf surface.now weights.now old.now.cells queue.old marks.old.marks }
-    ensures seeded { OnOk result (IsSeededOf surface.now weights.now old.now.cells queue.new marks.new.marks) }
-    ensures marked { OnOk result ((c : ℕ) → Contains changed.now c → MarkedAround surface.now.size marks.new.marks c) }
+    requires marks { seeds.old.marks.size ≡ surface.now.size }
+    requires seeded { IsSeededOf surface.now weights.now old.now.cells seeds.old.queue seeds.old.marks.marks }
+    ensures seeded { OnOk result (IsSeededOf surface.now weights.now old.now.cells seeds.new.queue seeds.new.marks.marks) }
+    ensures marked { OnOk result ((c : ℕ) → Contains changed.now c → MarkedAround surface.now.size seeds.new.marks.marks c) }
     ensures picks { RisesBy 0 (234 * length changed.now) (M.counts tally.old) (M.counts tally.new) }
 {
     for at in changed {
-        renew_around(old, surface, weights, *at, marks, queue, tally)?;
+        renew_around(old, surface, weights, *at, seeds, tally)?;
     }
     Ok(())
 }
@@ -65,10 +64,10 @@ pub fn mend<M: Tally>(
     ensures picks { RisesBy 0 (234 * length changed.now + 11 * flow_changes surface.now.size surface.now.cells weights.now.cells old.now.cells) (M.counts tally.old) (M.counts tally.new) }
 {
     let before = Change::same(old);
-    let mut marks = PlaceSet::new(alloc, surface.extent())?;
-    let mut queue = Queue::new(alloc);
-    renew_all(
-        &before, surface, weights, changed, &mut marks, &mut queue, tally,
-    )?;
+    let marks = PlaceSet::new(alloc, surface.extent())?;
+    let queue = Queue::new(alloc);
+    let mut seeds = Seeds { marks, queue };
+    renew_all(&before, surface, weights, changed, &mut seeds, tally)?;
+    let Seeds { queue, .. } = seeds;
     settle(alloc, &before, surface, weights, queue, tally)
 }

@@ -18,6 +18,13 @@ use layer_tiles::{Change, Tally};
 use map_nums::NoMemory;
 use tile_work::PlaceSet;
 
+/// The places that are renewed, and the amounts that this sends on their way.
+#[derive(Drop)]
+pub(crate) struct Seeds {
+    pub marks: PlaceSet,
+    pub queue: Queue,
+}
+
 /// What a cell brings, on one side of an edit. Two picks.
 #[tactic(auto, unfolding(crate::specs::FlowNets::weight_at))]
 pub(crate) fn weight_on<M: Tally>(
@@ -127,8 +134,7 @@ fn renew_once<M: Tally>(
     surface: &Change<'_>,
     weights: &Change<'_>,
     at: u32,
-    marks: &mut PlaceSet,
-    queue: &mut Queue,
+    seeds: &mut Seeds,
     tally: &mut M,
 ) -> Result<(), NoMemory>
     requires surface { IsSome surface.now.before }
@@ -136,20 +142,20 @@ fn renew_once<M: Tally>(
     requires old_size { old.now.size ≡ surface.now.size }
     requires weights_size { weights.now.size ≡ surface.now.size }
     requires within { at < cells_in surface.now.size }
-    requires marks { marks.old.size ≡ surface.now.size }
-    requires seeded { IsSeededOf surface.now weights.now old.now.cells queue.old marks.old.marks }
-    ensures size { OnOk result (marks.new.size ≡ marks.old.size) }
-    ensures seeded { OnOk result (IsSeededOf surface.now weights.now old.now.cells queue.new marks.new.marks) }
-    ensures marked { OnOk result (is_marked marks.new.marks at ≡ true) }
-    ensures stays { OnOk result (StaysMarked marks.old.marks marks.new.marks) }
+    requires marks { seeds.old.marks.size ≡ surface.now.size }
+    requires seeded { IsSeededOf surface.now weights.now old.now.cells seeds.old.queue seeds.old.marks.marks }
+    ensures size { OnOk result (seeds.new.marks.size ≡ seeds.old.marks.size) }
+    ensures seeded { OnOk result (IsSeededOf surface.now weights.now old.now.cells seeds.new.queue seeds.new.marks.marks) }
+    ensures marked { OnOk result (is_marked seeds.new.marks.marks at ≡ true) }
+    ensures stays { OnOk result (StaysMarked seeds.old.marks.marks seeds.new.marks.marks) }
     ensures picks { RisesBy 0 26 (M.counts tally.old) (M.counts tally.new) }
 {
-    let _marks = marks.extent();
-    if marks.has(at) {
+    let _marks = seeds.marks.extent();
+    if seeds.marks.has(at) {
         return Ok(());
     }
-    renew(old, surface, weights, at, queue, tally)?;
-    marks.add(at)?;
+    renew(old, surface, weights, at, &mut seeds.queue, tally)?;
+    seeds.marks.add(at)?;
     Ok(())
 }
 
@@ -160,8 +166,7 @@ fn renew_neighbour<M: Tally>(
     weights: &Change<'_>,
     at: u32,
     k: u8,
-    marks: &mut PlaceSet,
-    queue: &mut Queue,
+    seeds: &mut Seeds,
     tally: &mut M,
 ) -> Result<(), NoMemory>
     requires surface { IsSome surface.now.before }
@@ -170,18 +175,18 @@ fn renew_neighbour<M: Tally>(
     requires weights_size { weights.now.size ≡ surface.now.size }
     requires within { at < cells_in surface.now.size }
     requires few { k < 8 }
-    requires marks { marks.old.size ≡ surface.now.size }
-    requires seeded { IsSeededOf surface.now weights.now old.now.cells queue.old marks.old.marks }
-    ensures size { OnOk result (marks.new.size ≡ marks.old.size) }
-    ensures seeded { OnOk result (IsSeededOf surface.now weights.now old.now.cells queue.new marks.new.marks) }
-    ensures marked { OnOk result ((j : ℕ) → moved surface.now.size at (offset_at k) ≡ Some j → is_marked marks.new.marks j ≡ true) }
-    ensures stays { OnOk result (StaysMarked marks.old.marks marks.new.marks) }
+    requires marks { seeds.old.marks.size ≡ surface.now.size }
+    requires seeded { IsSeededOf surface.now weights.now old.now.cells seeds.old.queue seeds.old.marks.marks }
+    ensures size { OnOk result (seeds.new.marks.size ≡ seeds.old.marks.size) }
+    ensures seeded { OnOk result (IsSeededOf surface.now weights.now old.now.cells seeds.new.queue seeds.new.marks.marks) }
+    ensures marked { OnOk result ((j : ℕ) → moved surface.now.size at (offset_at k) ≡ Some j → is_marked seeds.new.marks.marks j ≡ true) }
+    ensures stays { OnOk result (StaysMarked seeds.old.marks.marks seeds.new.marks.marks) }
     ensures picks { RisesBy 0 26 (M.counts tally.old) (M.counts tally.new) }
 {
     let Some(next) = neighbour(surface.extent(), at, k) else {
         return Ok(());
     };
-    renew_once(old, surface, weights, next, marks, queue, tally)?;
+    renew_once(old, surface, weights, next, seeds, tally)?;
     Ok(())
 }
 
@@ -191,8 +196,7 @@ pub(crate) fn renew_around<M: Tally>(
     surface: &Change<'_>,
     weights: &Change<'_>,
     at: u32,
-    marks: &mut PlaceSet,
-    queue: &mut Queue,
+    seeds: &mut Seeds,
     tally: &mut M,
 ) -> Result<(), NoMemory>
     requires surface { IsSome surface.now.before }
@@ -200,17 +204,17 @@ pub(crate) fn renew_around<M: Tally>(
     requires old_size { old.now.size ≡ surface.now.size }
     requires weights_size { weights.now.size ≡ surface.now.size }
     requires within { at < cells_in surface.now.size }
-    requires marks { marks.old.size ≡ surface.now.size }
-    requires seeded { IsSeededOf surface.now weights.now old.now.cells queue.old marks.old.marks }
-    ensures size { OnOk result (marks.new.size ≡ marks.old.size) }
-    ensures seeded { OnOk result (IsSeededOf surface.now weights.now old.now.cells queue.new marks.new.marks) }
-    ensures marked { OnOk result (MarkedAround surface.now.size marks.new.marks at) }
-    ensures stays { OnOk result (StaysMarked marks.old.marks marks.new.marks) }
+    requires marks { seeds.old.marks.size ≡ surface.now.size }
+    requires seeded { IsSeededOf surface.now weights.now old.now.cells seeds.old.queue seeds.old.marks.marks }
+    ensures size { OnOk result (seeds.new.marks.size ≡ seeds.old.marks.size) }
+    ensures seeded { OnOk result (IsSeededOf surface.now weights.now old.now.cells seeds.new.queue seeds.new.marks.marks) }
+    ensures marked { OnOk result (MarkedAround surface.now.size seeds.new.marks.marks at) }
+    ensures stays { OnOk result (StaysMarked seeds.old.marks.marks seeds.new.marks.marks) }
     ensures picks { RisesBy 0 234 (M.counts tally.old) (M.counts tally.new) }
 {
-    renew_once(old, surface, weights, at, marks, queue, tally)?;
+    renew_once(old, surface, weights, at, seeds, tally)?;
     for k in 0..8u8 {
-        renew_neighbour(old, surface, weights, at, k, marks, queue, tally)?;
+        renew_neighbour(old, surface, weights, at, k, seeds, tally)?;
     }
     Ok(())
 }

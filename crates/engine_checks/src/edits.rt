@@ -47,13 +47,13 @@ fn an_overflow_that_is_found_late_leaves_all_as_it_was(rt: HostRuntime) -> Resul
     let steps = [
         Loads("A", 1),
         Takes("B = LocalProduct of A and 50000", 2, 2),
-        Takes("C = LocalProduct of B and 1000", 2, 2),
+        Takes("C = LocalProduct of B and 500000000", 2, 2),
         Refuses("paint A 1 32 1 33 41", Said::Overflow(1, 32)),
-        Shows("C", 31, 50_000_000),
+        Shows("C", 31, 25_000_000_000_000),
         Shows("A", 32, 1),
         Stamps("B", &[2, 2]),
         Takes("paint A 1 32 1 33 40", 6, 6),
-        Shows("C", 32, 2_000_000_000),
+        Shows("C", 32, 1_000_000_000_000_000),
     ];
     tried(&rt, 1, 33, 8, &steps)
 }

@@ -1,14 +1,19 @@
-//! Tests of what the public calls of the engine do, with values from another program.
+//! Tests of what the public calls of the engine do, with values from another program, and of displays and the marks in them, whose
+//! texts are worked by hand.
 #![tactic(auto)]
 
 #[cfg(test)]
 mod calls;
+#[cfg(test)]
+mod displays;
 #[cfg(test)]
 mod drops;
 #[cfg(test)]
 mod edits;
 #[cfg(test)]
 mod limits;
+#[cfg(test)]
+mod marks;
 #[cfg(test)]
 mod reads;
 #[cfg(test)]

@@ -18,7 +18,7 @@ fn too_many_sources(rt: HostRuntime) -> Result<(), Fail> {
 #[test]
 fn too_many_zonal_statements(rt: HostRuntime) -> Result<(), Fail> {
     let steps = [
-        TakesEach("Z", " = ZonalSum of Q within Q", 24, 0),
+        TakesEach("Z", " = ZonalSum of Q within Q", 12, 0),
         Refuses("Y = ZonalMean of Q within 1", Said::Limit(Which::Zonals)),
         Takes("Z0 = ZonalMean of Q within 1", 0, 0),
         Takes("Z0 = LocalSum of Q and 1", 0, 0),

@@ -35,42 +35,45 @@ pub(crate) fn numbers_tile(
     let Ok(mut numbers) = vec![in alloc; 0; MOST] else {
         return Err(KernelRefusal::NoMemory);
     };
-    numbers_rows(alloc, stat, mask, near, extent, tile, &mut numbers)
+    let maker = NumbersTile { stat, mask, near };
+    numbers_rows(alloc, &maker, extent, tile, &mut numbers)
+}
+
+/// The cells round a tile, and the statistic that is made of the numbers round each of its cells.
+#[derive(Drop)]
+struct NumbersTile<'a> {
+    stat: Stat,
+    mask: &'a Mask,
+    near: &'a NearCells,
 }
 
 /// The rows of that tile.
 fn numbers_rows(
     alloc: Global,
-    stat: Stat,
-    mask: &Mask,
-    near: &NearCells,
+    maker: &NumbersTile<'_>,
     extent: Extent,
     tile: u32,
     numbers: &mut [Value],
 ) -> Result<Tile, KernelRefusal>
-    requires mask { HasHalves mask.now.reach mask.now.halves }
-    requires near { IsGrown extent tile mask.now.reach near.now }
+    requires mask { HasHalves maker.now.mask.now.reach maker.now.mask.now.halves }
+    requires near { IsGrown extent tile maker.now.mask.now.reach maker.now.near.now }
     requires room { length numbers.old ≡ 4225 }
     requires within { tile < tiles_in extent }
-    ensures { IsPlacesAnswer (by_row (tile_width extent tile) (statistic_round stat mask.now.reach mask.now.halves near.now.cells near.now.width)) extent tile result }
+    ensures { IsPlacesAnswer (by_row (tile_width extent tile) (statistic_round maker.now.stat maker.now.mask.now.reach maker.now.mask.now.halves maker.now.near.now.cells maker.now.near.now.width)) extent tile result }
 {
     let Ok(mut made) = Tile::new(alloc, extent, tile, Cell::null()) else {
         return Err(KernelRefusal::NoMemory);
     };
     let mut kinds = Kinds::new();
     for r in 0..extent.place(tile).height {
-        numbers_row(
-            stat, mask, near, extent, tile, r, numbers, &mut kinds, &mut made,
-        )?;
+        numbers_row(maker, extent, tile, r, numbers, &mut kinds, &mut made)?;
     }
     Ok(made)
 }
 
 /// A row of that tile.
 fn numbers_row(
-    stat: Stat,
-    mask: &Mask,
-    near: &NearCells,
+    maker: &NumbersTile<'_>,
     extent: Extent,
     tile: u32,
     r: u32,
@@ -78,19 +81,19 @@ fn numbers_row(
     kinds: &mut Kinds,
     made: &mut Tile,
 ) -> Result<(), KernelRefusal>
-    requires mask { HasHalves mask.now.reach mask.now.halves }
-    requires near { IsGrown extent tile mask.now.reach near.now }
+    requires mask { HasHalves maker.now.mask.now.reach maker.now.mask.now.halves }
+    requires near { IsGrown extent tile maker.now.mask.now.reach maker.now.near.now }
     requires room { length numbers.old ≡ 4225 }
     requires within { tile < tiles_in extent }
     requires row { r < tile_height extent tile }
     requires size { IsBlockOf extent tile made.old }
-    ensures { IsRowAnswer (statistic_round stat mask.now.reach mask.now.halves near.now.cells near.now.width r) extent tile r made.old made.new result }
+    ensures { IsRowAnswer (statistic_round maker.now.stat maker.now.mask.now.reach maker.now.mask.now.halves maker.now.near.now.cells maker.now.near.now.width r) extent tile r made.old made.new result }
 {
     let place = extent.place(tile);
     let start = (place.top + r) * extent.columns() + place.left;
     for c in 0..place.width {
-        let count = collect(mask, near, r, c, numbers);
-        let answer = statistic_by_kinds(stat, &mut numbers[..count], kinds);
+        let count = collect(maker.mask, maker.near, r, c, numbers);
+        let answer = statistic_by_kinds(maker.stat, &mut numbers[..count], kinds);
         put(made, r, c, start + c, answer)?;
     }
     Ok(())

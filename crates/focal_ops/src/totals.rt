@@ -40,32 +40,12 @@ pub(crate) fn totals_tile(
         return Err(KernelRefusal::NoMemory);
     };
     fill_fronts(square, &mut sums, &mut counts);
-    tile_of_fronts(alloc, mean, mask, near, &sums, &counts, extent, tile)
-}
-
-/// That tile, by the sums and the counts of the first cells.
-fn tile_of_fronts(
-    alloc: Global,
-    mean: bool,
-    mask: &Mask,
-    near: &NearCells,
-    sums: &[i64],
-    counts: &[i64],
-    extent: Extent,
-    tile: u32,
-) -> Result<Tile, KernelRefusal>
-    requires mask { HasHalves mask.now.reach mask.now.halves }
-    requires near { IsGrown extent tile mask.now.reach near.now }
-    requires fronts { AreFronts near.now.cells sums.now counts.now }
-    requires within { tile < tiles_in extent }
-    ensures { IsPlacesAnswer (by_row (tile_width extent tile) (statistic_round (summed mean) mask.now.reach mask.now.halves near.now.cells near.now.width)) extent tile result }
-{
     let maker = TotalTile {
         mean,
         mask,
         near,
-        sums,
-        counts,
+        sums: &sums,
+        counts: &counts,
     };
     make_tile(alloc, &maker, extent, tile)
 }

@@ -9,7 +9,7 @@ ghost use Rattle.friction_spread.specs.Spots.{IsSpot, AreNear, weighed};
 ghost use Rattle.friction_spread.specs.Rows.{IsLowered, RowLowered};
 
 use crate::costs::cost_at;
-use crate::ground::{Ground, Spot};
+use crate::ground::{Focus, Ground, Spot};
 use layer_tiles::Tally;
 use tile_work::Working;
 
@@ -39,71 +39,68 @@ pub fn weigh(from: Spot, to: Spot, friction: u64, own: u64) -> u64
 fn by_place<M: Tally>(
     ground: &Ground<'_>,
     labels: &Working<'_>,
-    to: Spot,
-    own: u64,
+    to: &Focus,
     floor: u64,
     from: Spot,
     best: u64,
     tally: &mut M,
 ) -> u64
     requires size { labels.now.size ≡ ground.now.size }
-    requires spots { IsSpot ground.now.size to × IsSpot ground.now.size from }
-    requires near { AreNear to from }
-    requires floor { (j : ℕ) → floor ≤ values ground.now.limit labels.now.cells j + step_of ground.now j to.at }
-    requires own { (own ≡ friction_at ground.now.friction to.at) × (0 < own) × (own < 2 ^ 50) }
+    requires spots { IsSpot ground.now.size to.now.spot × IsSpot ground.now.size from }
+    requires near { AreNear to.now.spot from }
+    requires floor { (j : ℕ) → floor ≤ values ground.now.limit labels.now.cells j + step_of ground.now j to.now.spot.at }
+    requires own { (to.now.friction ≡ friction_at ground.now.friction to.now.spot.at) × (0 < to.now.friction) × (to.now.friction < 2 ^ 50) }
     requires best { best ≤ suc ground.now.limit }
-    ensures value { result ≡ min best (values ground.now.limit labels.now.cells from.at + step_of ground.now from.at to.at) }
+    ensures value { result ≡ min best (values ground.now.limit labels.now.cells from.at + step_of ground.now from.at to.now.spot.at) }
     ensures picks { RisesBy 0 2 (M.counts tally.old) (M.counts tally.new) }
 {
     if best <= floor {
         return best;
     }
-    if from.at == to.at {
+    if from.at == to.spot.at {
         return best;
     }
     let value = cost_at(ground, labels, from.at, tally);
-    if value + least_step(own) >= best {
+    if value + least_step(to.friction) >= best {
         return best;
     }
     let friction = ground.friction(from.at, tally);
     if friction == 0 {
         return best;
     }
-    best.min(value + weigh(from, to, friction, own))
+    best.min(value + weigh(from, to.spot, friction, to.friction))
 }
 
 /// The same over a row next to a place. At most six picks.
 fn by_row<M: Tally>(
     ground: &Ground<'_>,
     labels: &Working<'_>,
-    to: Spot,
-    own: u64,
+    to: &Focus,
     floor: u64,
     row: u32,
     best: u64,
     tally: &mut M,
 ) -> u64
     requires size { labels.now.size ≡ ground.now.size }
-    requires spot { IsSpot ground.now.size to }
+    requires spot { IsSpot ground.now.size to.now.spot }
     requires row { row < ground.now.size.rows }
-    requires close { gap to.row row ≤ 1 }
-    requires floor { (j : ℕ) → floor ≤ values ground.now.limit labels.now.cells j + step_of ground.now j to.at }
-    requires own { (own ≡ friction_at ground.now.friction to.at) × (0 < own) × (own < 2 ^ 50) }
+    requires close { gap to.now.spot.row row ≤ 1 }
+    requires floor { (j : ℕ) → floor ≤ values ground.now.limit labels.now.cells j + step_of ground.now j to.now.spot.at }
+    requires own { (to.now.friction ≡ friction_at ground.now.friction to.now.spot.at) × (0 < to.now.friction) × (to.now.friction < 2 ^ 50) }
     requires best { best ≤ suc ground.now.limit }
-    ensures lowered { IsLowered (net_of ground.now) (values ground.now.limit labels.now.cells) to.at best result }
-    ensures near { RowLowered (net_of ground.now) ground.now.size (values ground.now.limit labels.now.cells) to.at row result }
+    ensures lowered { IsLowered (net_of ground.now) (values ground.now.limit labels.now.cells) to.now.spot.at best result }
+    ensures near { RowLowered (net_of ground.now) ground.now.size (values ground.now.limit labels.now.cells) to.now.spot.at row result }
     ensures picks { RisesBy 0 6 (M.counts tally.old) (M.counts tally.new) }
 {
     let columns = ground.extent().columns();
-    let low = to.column.saturating_sub(1);
-    let high = (to.column + 2).min(columns);
+    let low = to.spot.column.saturating_sub(1);
+    let high = (to.spot.column + 2).min(columns);
     let mut least = best;
     for c in low..high {
         least = by_place(
             ground,
             labels,
             to,
-            own,
             floor,
             ground.spot_at(row, c),
             least,
@@ -137,12 +134,16 @@ pub fn equation<M: Tally>(
     if floor == 0 && ground.is_source(to.at, tally) {
         return 0;
     }
+    let focus = Focus {
+        spot: to,
+        friction: own,
+    };
     let rows = ground.extent().rows();
     let low = to.row.saturating_sub(1);
     let high = (to.row + 2).min(rows);
     let mut least = ground.top();
     for r in low..high {
-        least = by_row(ground, labels, to, own, floor, r, least, tally);
+        least = by_row(ground, labels, &focus, floor, r, least, tally);
     }
     least
 }

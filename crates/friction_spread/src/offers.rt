@@ -10,7 +10,7 @@ ghost use Rattle.friction_spread.specs.Rows.{RowOffered, RoundOffered};
 
 use crate::costs::cost_at;
 use crate::equations::{least_step, weigh};
-use crate::ground::{Ground, Spot};
+use crate::ground::{Focus, Ground, Spot};
 use layer_tiles::{NoMemory, Tally};
 use least_costs::Queue;
 use tile_work::Working;
@@ -20,35 +20,34 @@ fn offer<M: Tally>(
     ground: &Ground<'_>,
     labels: &Working<'_>,
     queue: &mut Queue,
-    from: Spot,
+    from: &Focus,
     value: u64,
-    own: u64,
     to: Spot,
     tally: &mut M,
 ) -> Result<(), NoMemory>
     requires size { labels.now.size ≡ ground.now.size }
-    requires spots { IsSpot ground.now.size from × IsSpot ground.now.size to }
-    requires near { AreNear to from }
-    requires value { value ≡ values ground.now.limit labels.now.cells from.at }
+    requires spots { IsSpot ground.now.size from.now.spot × IsSpot ground.now.size to }
+    requires near { AreNear to from.now.spot }
+    requires value { value ≡ values ground.now.limit labels.now.cells from.now.spot.at }
     requires low { value ≤ 2 ^ 50 }
-    requires own { (own ≡ friction_at ground.now.friction from.at) × (0 < own) × (own < 2 ^ 50) }
+    requires own { (from.now.friction ≡ friction_at ground.now.friction from.now.spot.at) × (0 < from.now.friction) × (from.now.friction < 2 ^ 50) }
     ensures kept { OnOk result (IsKept queue.old queue.new) }
-    ensures offered { OnOk result (IsOfferedBy (net_of ground.now) (values ground.now.limit labels.now.cells) queue.new from.at to.at) }
+    ensures offered { OnOk result (IsOfferedBy (net_of ground.now) (values ground.now.limit labels.now.cells) queue.new from.now.spot.at to.at) }
     ensures len { OnOk result (length queue.new ≤ length queue.old + 1) }
     ensures picks { RisesBy 0 2 (M.counts tally.old) (M.counts tally.new) }
 {
-    if from.at == to.at {
+    if from.spot.at == to.at {
         return Ok(());
     }
     let there = cost_at(ground, labels, to.at, tally);
-    if there <= value + least_step(own) {
+    if there <= value + least_step(from.friction) {
         return Ok(());
     }
     let friction = ground.friction(to.at, tally);
     if friction == 0 {
         return Ok(());
     }
-    let cost = value + weigh(from, to, own, friction);
+    let cost = value + weigh(from.spot, to, from.friction, friction);
     if cost >= there {
         return Ok(());
     }
@@ -62,27 +61,26 @@ fn offer_row<M: Tally>(
     ground: &Ground<'_>,
     labels: &Working<'_>,
     queue: &mut Queue,
-    from: Spot,
+    from: &Focus,
     value: u64,
-    own: u64,
     row: u32,
     tally: &mut M,
 ) -> Result<(), NoMemory>
     requires size { labels.now.size ≡ ground.now.size }
-    requires spot { IsSpot ground.now.size from }
+    requires spot { IsSpot ground.now.size from.now.spot }
     requires row { row < ground.now.size.rows }
-    requires close { gap row from.row ≤ 1 }
-    requires value { value ≡ values ground.now.limit labels.now.cells from.at }
+    requires close { gap row from.now.spot.row ≤ 1 }
+    requires value { value ≡ values ground.now.limit labels.now.cells from.now.spot.at }
     requires low { value ≤ 2 ^ 50 }
-    requires own { (own ≡ friction_at ground.now.friction from.at) × (0 < own) × (own < 2 ^ 50) }
+    requires own { (from.now.friction ≡ friction_at ground.now.friction from.now.spot.at) × (0 < from.now.friction) × (from.now.friction < 2 ^ 50) }
     ensures kept { OnOk result (IsKept queue.old queue.new) }
-    ensures offered { OnOk result (RowOffered (net_of ground.now) ground.now.size (values ground.now.limit labels.now.cells) queue.new from.at row) }
+    ensures offered { OnOk result (RowOffered (net_of ground.now) ground.now.size (values ground.now.limit labels.now.cells) queue.new from.now.spot.at row) }
     ensures len { OnOk result (length queue.new ≤ length queue.old + 3) }
     ensures picks { RisesBy 0 6 (M.counts tally.old) (M.counts tally.new) }
 {
     let columns = ground.extent().columns();
-    let low = from.column.saturating_sub(1);
-    let high = (from.column + 2).min(columns);
+    let low = from.spot.column.saturating_sub(1);
+    let high = (from.spot.column + 2).min(columns);
     for c in low..high {
         offer(
             ground,
@@ -90,7 +88,6 @@ fn offer_row<M: Tally>(
             queue,
             from,
             value,
-            own,
             ground.spot_at(row, c),
             tally,
         )?;
@@ -121,11 +118,15 @@ pub fn offer_round<M: Tally>(
     if own == 0 {
         return Ok(());
     }
+    let focus = Focus {
+        spot: from,
+        friction: own,
+    };
     let rows = ground.extent().rows();
     let low = from.row.saturating_sub(1);
     let high = (from.row + 2).min(rows);
     for r in low..high {
-        offer_row(ground, labels, queue, from, value, own, r, tally)?;
+        offer_row(ground, labels, queue, &focus, value, r, tally)?;
     }
     Ok(())
 }

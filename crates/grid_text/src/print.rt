@@ -25,7 +25,7 @@ fn put_number(text: &mut Vec<u8>, number: Value) -> Result<(), NoMemory>
 fn put_null(text: &mut Vec<u8>) -> Result<(), NoMemory>
     ensures { OnOk result (text.new.items ≡ text.old.items ++ signed_decimal null_number) }
 {
-    text.extend_from_slice(b"-2000000001")?;
+    text.extend_from_slice(b"-1000000000000001")?;
     Ok(())
 }
 

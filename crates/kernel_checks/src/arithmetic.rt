@@ -69,12 +69,12 @@ fn products_are_compared_whole(rt: HostRuntime) {
 }
 
 #[test]
-fn a_cell_holds_two_thousand_million(rt: HostRuntime) {
+fn a_cell_holds_a_million_thousand_millions(rt: HostRuntime) {
     for (number, value) in [
-        (2_000_000_000, Some(2_000_000_000)),
-        (-2_000_000_000, Some(-2_000_000_000)),
-        (2_000_000_001, None),
-        (-2_000_000_001, None),
+        (1_000_000_000_000_000, Some(1_000_000_000_000_000)),
+        (-1_000_000_000_000_000, Some(-1_000_000_000_000_000)),
+        (1_000_000_000_000_001, None),
+        (-1_000_000_000_000_001, None),
     ] {
         assert_eq!(rt; in_range(number), value, "{number}");
     }

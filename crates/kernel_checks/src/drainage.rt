@@ -188,7 +188,7 @@ fn nulls(rt: HostRuntime) -> Result<(), Fail> {
 #[test]
 fn flows_out_of_range(rt: HostRuntime) -> Result<(), Fail> {
     let row = Extent::new(1, 3).ok_or("limits")?;
-    let most = [2_000_000_000, 0, 1];
+    let most = [1_000_000_000_000_000, 0, 1];
     assert!(rt; out_of_range(rt.alloc(), row, &[3, 2, 1], &most)? == Some(2));
     assert!(rt; out_of_range(rt.alloc(), row, &[3, 2, 2], &most)?.is_none());
     Ok(())

@@ -123,7 +123,7 @@ fn discs(rt: HostRuntime) -> Result<(), Fail> {
 #[test]
 fn sums_out_of_range(rt: HostRuntime) -> Result<(), Fail> {
     let extent = Extent::new(1, 5).ok_or("limits")?;
-    let layer = layer_of(rt.alloc(), extent, &[1, 0, 0, 2_000_000_000, 1])?;
+    let layer = layer_of(rt.alloc(), extent, &[1, 0, 0, 1_000_000_000_000_000, 1])?;
     assert!(&rt;
         matches!(
             tile_of(rt.alloc(), Stat::Sum, &layer, None, 0),
@@ -133,9 +133,9 @@ fn sums_out_of_range(rt: HostRuntime) -> Result<(), Fail> {
     let means = [
         Some(0),
         Some(0),
-        Some(666_666_666),
-        Some(666_666_667),
-        Some(1_000_000_000),
+        Some(333_333_333_333_333),
+        Some(333_333_333_333_333),
+        Some(500_000_000_000_000),
     ];
     makes(&rt, Stat::Mean, &layer, None, 0, &means);
     Ok(())

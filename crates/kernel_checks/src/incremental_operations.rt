@@ -93,12 +93,12 @@ fn slopes(rt: HostRuntime) -> Result<(), Fail> {
 #[test]
 fn gradients_out_of_range(rt: HostRuntime) -> Result<(), Fail> {
     let extent = Extent::new(1, 4).ok_or("limits")?;
-    let low = layer_of(rt.alloc(), extent, &[0, 0, 1_000_000_000, 0])?;
+    let low = layer_of(rt.alloc(), extent, &[0, 0, 500_000_000_000_000, 0])?;
     assert_eq!(&rt;
         value_at(rt.alloc(), Shape::Gradient, &low, 1),
-        Some(2_000_000_000)
+        Some(1_000_000_000_000_000)
     );
-    let high = layer_of(rt.alloc(), extent, &[0, 0, 1_000_000_001, 0])?;
+    let high = layer_of(rt.alloc(), extent, &[0, 0, 500_000_000_000_001, 0])?;
     assert!(&rt; matches!(tile_of(rt.alloc(), Shape::Gradient, &high), Some(Err(1))));
     Ok(())
 }

@@ -31,11 +31,11 @@ fn extents_at_their_limits(rt: HostRuntime) {
 fn cells_at_their_limits(rt: HostRuntime) {
     assert_eq!(rt; Cell::null().get(), None);
     for (value, fits) in [
-        (2_000_000_000, true),
-        (-2_000_000_000, true),
-        (2_000_000_001, false),
-        (-2_000_000_001, false),
-        (i32::MIN, false),
+        (1_000_000_000_000_000, true),
+        (-1_000_000_000_000_000, true),
+        (1_000_000_000_000_001, false),
+        (-1_000_000_000_000_001, false),
+        (Value::MIN, false),
     ] {
         assert_eq!(rt; Cell::of(value).is_some(), fits, "{value}");
         assert_eq!(rt; cell(value).get(), fits.then_some(value));

@@ -82,15 +82,17 @@ fn overflow_in_either_tile(rt: HostRuntime) -> Result<(), Fail> {
     for (last, tile, want) in [
         (2_050_000, 0, Err(31)),
         (2_050_000, 1, Err(32)),
-        (2_000_000, 0, Ok(Some(50_000_000))),
-        (2_000_000, 1, Ok(Some(2_000_000_000))),
+        (2_000_000, 0, Ok(Some(25_000_000_000_000))),
+        (2_000_000, 1, Ok(Some(1_000_000_000_000_000))),
     ] {
         let mut values = [50_000; 33];
         values[31] = last;
         values[32] = last;
         let layer = layer_of(rt.alloc(), extent, &values)?;
         let product = LocalOp::Stat(Stat::Product);
-        let first = match row_with(rt.alloc(), &product, &layer, 1000, tile).ok_or("no row")? {
+        let first = match row_with(rt.alloc(), &product, &layer, 500_000_000, tile).ok_or(
+            "no row",
+        )? {
             Ok(row) => Ok(row.first().copied().flatten()),
             Err(at) => Err(at),
         };

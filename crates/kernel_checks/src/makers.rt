@@ -7,7 +7,7 @@ use std::alloc::Global;
 use std::test::Fail;
 
 /// A number that no cell holds: where it is given for a cell's value, the cell is null.
-pub(crate) const NULL: Value = -2_000_000_001;
+pub(crate) const NULL: Value = -1_000_000_000_000_001;
 
 /// A cell of a value; null where it fits none.
 pub(crate) fn cell(value: Value) -> Cell {

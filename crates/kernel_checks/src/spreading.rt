@@ -1,5 +1,6 @@
 //! Least costs, first and repaired.
 ghost use Rattle.std.specs.Prelude.{◌≡◌, ◌≤ℤ◌, pos, nat_abs, IfOk};
+ghost use Rattle.map_nums.specs.Numbers.{greatest_value};
 ghost use Rattle.map_defs.specs.Spread.{IsSpread};
 
 use crate::makers::{NULL, hold, layer_of, patch_with, values_of};
@@ -10,7 +11,7 @@ use std::alloc::Global;
 use std::test::Fail;
 
 /// The greatest cost that counts where nothing is said.
-const MOST: Value = 2_000_000_000;
+const MOST: Value = 1_000_000_000_000_000;
 
 /// Least costs that were not there, and their work.
 fn first(
@@ -20,7 +21,7 @@ fn first(
     limit: Value,
 ) -> Result<(Layer, u64), Fail>
     requires size { friction.now.size ≡ sources.now.size }
-    requires limit { (pos 0 ≤ℤ limit) × (limit ≤ℤ pos 2000000000) }
+    requires limit { (pos 0 ≤ℤ limit) × (limit ≤ℤ pos greatest_value) }
     ensures size { IfOk result (λ r. r.0.size ≡ sources.now.size) }
     ensures right { IfOk result (λ r. IsSpread sources.now.size sources.now.cells friction.now.cells (nat_abs limit) r.0.cells) }
 {
@@ -42,7 +43,7 @@ fn again(
     limit: Value,
 ) -> Result<(Vec<Option<Value>>, u64), Fail>
     requires size { friction.now.size ≡ sources.now.size }
-    requires limit { (pos 0 ≤ℤ limit) × (limit ≤ℤ pos 2000000000) }
+    requires limit { (pos 0 ≤ℤ limit) × (limit ≤ℤ pos greatest_value) }
     requires patch { patch.now.size ≡ friction.now.size }
     requires base { base.now.size ≡ sources.now.size }
     requires right { IsSpread sources.now.size sources.now.cells friction.now.cells (nat_abs limit) base.now.cells }
@@ -71,7 +72,7 @@ fn begins(
     wanted: &[Value],
     work: u64,
 ) -> Result<bool, Fail>
-    requires { (pos 0 ≤ℤ limit) × (limit ≤ℤ pos 2000000000) }
+    requires { (pos 0 ≤ℤ limit) × (limit ≤ℤ pos greatest_value) }
 {
     let sources = layer_of(alloc, extent, sources)?;
     let friction = layer_of(alloc, extent, friction)?;

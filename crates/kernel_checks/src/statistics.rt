@@ -15,9 +15,9 @@ const STATS: [Stat; 9] = [
 ];
 
 /// A list has these statistics, in the order of `STATS`, and refuses those that no cell may hold.
-fn has(rt: &(impl AllocGlobal + Abort), values: &[Value], wants: [i64; 9]) {
+fn has(rt: &(impl AllocGlobal + Abort), values: &[Value], wants: [i128; 9]) {
     for (stat, want) in STATS.iter().zip(wants.iter()) {
-        let wanted = match in_range(*want as i128) {
+        let wanted = match in_range(*want) {
             Some(number) => Ok(Some(number)),
             None => Err(StatRefusal::Wide),
         };
@@ -25,12 +25,12 @@ fn has(rt: &(impl AllocGlobal + Abort), values: &[Value], wants: [i64; 9]) {
     }
 }
 
-const TOP: Value = 2_000_000_000;
+const TOP: Value = 1_000_000_000_000_000;
 
 #[test]
 fn ties_floors_and_wide_sums(rt: HostRuntime) {
-    let top = TOP as i64;
-    let rows: [(&[Value], [i64; 9]); 7] = [
+    let top = TOP as i128;
+    let rows: [(&[Value], [i128; 9]); 7] = [
         (&[-3, -4, 5], [-2, 60, 5, -4, -1, -3, -4, -4, 3]),
         (&[-3, -4], [-7, 12, -3, -4, -4, -4, -4, -4, 2]),
         (&[-3, 0], [-3, 0, 0, -3, -2, -3, -3, -3, 2]),
@@ -55,10 +55,10 @@ fn products_at_the_limit(rt: HostRuntime) {
     // without the zero the product has more than 128 bits
     let factors = [TOP, TOP, TOP, TOP, TOP, -TOP, -TOP, -TOP, -TOP, 0];
     let rows: [(&[Value], Result<Option<Value>, StatRefusal>); 6] = [
-        (&[50_000, 1000, 40], Ok(Some(TOP))),
-        (&[50_000, 1000, -40], Ok(Some(-TOP))),
-        (&[50_000, 1000, 41], Err(StatRefusal::Wide)),
-        (&[50_000, 1000, -41], Err(StatRefusal::Wide)),
+        (&[50_000, 500_000_000, 40], Ok(Some(TOP))),
+        (&[50_000, 500_000_000, -40], Ok(Some(-TOP))),
+        (&[50_000, 500_000_000, 41], Err(StatRefusal::Wide)),
+        (&[50_000, 500_000_000, -41], Err(StatRefusal::Wide)),
         (&factors, Ok(Some(0))),
         (&factors[..9], Err(StatRefusal::Wide)),
     ];

@@ -27,7 +27,8 @@ module _ (r : Reverse ℕ) (key at : ℕ) (made : r.0 ≡ key * 2097152 + at) (p
       let P : ℕ × ℕ → Type 0 = λ x. IsPermutation (x ∷ map entry_of old) (map entry_of new) in
       subst P entry_is (IsPermutation-map entry_of _ _ p)
 
-  pub pushed_near : (near near' far : List (Reverse ℕ)) → IsPermutation (r ∷ near) near' → IsPermutation ((key, at) ∷ entries_of near far) (entries_of near' far)
+  pub pushed_near : (near near' far : List (Reverse ℕ)) → IsPermutation (r ∷ near) near' →
+      IsPermutation ((key, at) ∷ entries_of near far) (entries_of near' far)
   pushed_near near near' far p = IsPermutation-append_left (map entry_of far) ((key, at) ∷ map entry_of near) (map entry_of near') (pushed near near' p)
 
   pub pushed_far : (near far far' : List (Reverse ℕ)) → IsPermutation (r ∷ far) far' → IsPermutation ((key, at) ∷ entries_of near far) (entries_of near far')
@@ -54,10 +55,13 @@ module _ (low high : ℕ) (r : Reverse ℕ) (old new : List (Reverse ℕ)) (popp
   popped_heap pops = record { order = (pops heap.order).0; keys = All-tail (HasKey low high) _ _ keys }
 
 module _ (r : Reverse ℕ) where
-  pub popped_near : (near near' far : List (Reverse ℕ)) → IsPermutation near (r ∷ near') → IsPermutation (entries_of near far) (entry_of r ∷ entries_of near' far)
-  popped_near near near' far p = IsPermutation-append_left (map entry_of far) (map entry_of near) (entry_of r ∷ map entry_of near') (IsPermutation-map entry_of _ _ p)
+  pub popped_near : (near near' far : List (Reverse ℕ)) → IsPermutation near (r ∷ near') →
+      IsPermutation (entries_of near far) (entry_of r ∷ entries_of near' far)
+  popped_near near near' far p =
+      IsPermutation-append_left (map entry_of far) (map entry_of near) (entry_of r ∷ map entry_of near') (IsPermutation-map entry_of _ _ p)
 
-  pub popped_far : (near near' far far' : List (Reverse ℕ)) → near ≡ [] → near' ≡ [] → IsPermutation far (r ∷ far') → IsPermutation (entries_of near far) (entry_of r ∷ entries_of near' far')
+  pub popped_far : (near near' far far' : List (Reverse ℕ)) → near ≡ [] → near' ≡ [] → IsPermutation far (r ∷ far') →
+      IsPermutation (entries_of near far) (entry_of r ∷ entries_of near' far')
   popped_far near near' far far' e e' p = rw (e, e') (IsPermutation-map entry_of _ _ p)
 
 -- ---- its key is the least

@@ -1,5 +1,6 @@
 //! Lines of the language where all of its rows are there.
 use crate::texts::{Table, look_at, refusal};
+use map_nums::Value;
 use statement_parser::LineRefusal;
 use std::alloc::Global;
 use std::process::Abort;
@@ -78,7 +79,7 @@ fn defaults_are_left_out(rt: HostRuntime) {
             b"C = FocalSum of A radiating on B to 5",
         ),
         (
-            b"C = FocalProximity of A spreading in +1 within 2000000000",
+            b"C = FocalProximity of A spreading in +1 within 1000000000000000",
             b"C = FocalProximity of A",
         ),
         (
@@ -109,7 +110,7 @@ fn refused_lines_of_sessions(rt: HostRuntime) {
         (b"C = LocalSum of A and", LineRefusal::Syntax(22)),
         (b"B = LocalSum of A and", LineRefusal::Syntax(22)),
         (b"new of 1", LineRefusal::Syntax(5)),
-        (b"new C 2000000001", LineRefusal::Number(7)),
+        (b"new C 1000000000000001", LineRefusal::Number(7)),
         (b"paint A 0 1 1 1 1", LineRefusal::Number(9)),
         (b"symbol A 1 ab", LineRefusal::Syntax(13)),
         (b"ab\x80d", LineRefusal::Syntax(3)),
@@ -136,7 +137,7 @@ fn refused_long_lines_of_sessions(rt: HostRuntime) -> Result<(), Fail> {
 fn refused_labels_and_symbols(rt: HostRuntime) {
     let lines: [(&[u8], LineRefusal); 9] = [
         (b"label A 5x", LineRefusal::Syntax(9)),
-        (b"label A 2000000001 x", LineRefusal::Number(9)),
+        (b"label A 1000000000000001 x", LineRefusal::Number(9)),
         (b"label A.b 5 x", LineRefusal::Syntax(7)),
         (b"label A 5", LineRefusal::Syntax(10)),
         (b"label A 5  ", LineRefusal::Syntax(12)),
@@ -217,7 +218,7 @@ fn refused_procedures(rt: HostRuntime) {
             LineRefusal::Operation(26),
         ),
         (
-            b"procedure Q(P): result = Q(2000000001)",
+            b"procedure Q(P): result = Q(1000000000000001)",
             LineRefusal::Number(28),
         ),
     ];
@@ -255,7 +256,7 @@ fn the_sixteenth_statement_is_the_result(rt: HostRuntime) -> Result<(), Fail> {
 }
 
 /// A line of this form gives a value this text or sign.
-fn marks(rt: &(impl AllocGlobal + Abort), line: &[u8], form: &str, value: i32, text: &[u8]) {
+fn marks(rt: &(impl AllocGlobal + Abort), line: &[u8], form: &str, value: Value, text: &[u8]) {
     match look_at(rt.alloc(), Table::All, line) {
         Ok(found) => {
             assert_eq!(rt; (found.form, found.value), (form, Some(Some(value))));

@@ -1,5 +1,6 @@
 //! Lines that are read, refused and printed again.
 use crate::texts::{Table, look_at, refusal};
+use map_nums::Value;
 use statement_parser::{LineRefusal, Op, Term};
 use std::alloc::Global;
 use std::process::Abort;
@@ -24,7 +25,7 @@ fn refused_words(rt: HostRuntime) {
 #[test]
 fn refused_news(rt: HostRuntime) {
     refused(&rt, b"new of 1", LineRefusal::Syntax(5));
-    refused(&rt, b"new C 2000000001", LineRefusal::Number(7));
+    refused(&rt, b"new C 1000000000000001", LineRefusal::Number(7));
     refused(&rt, b"new C x", LineRefusal::Syntax(7));
     refused(&rt, b"new C", LineRefusal::Syntax(6));
     refused(&rt, b"new A.b 1", LineRefusal::Syntax(5));
@@ -35,7 +36,11 @@ fn refused_news(rt: HostRuntime) {
 fn refused_paints(rt: HostRuntime) {
     refused(&rt, b"paint A 0 1 1 1 1", LineRefusal::Number(9));
     refused(&rt, b"paint A 1 1 1 4097 1", LineRefusal::Number(15));
-    refused(&rt, b"paint A 1 1 1 1 2000000001", LineRefusal::Number(17));
+    refused(
+        &rt,
+        b"paint A 1 1 1 1 1000000000000001",
+        LineRefusal::Number(17),
+    );
     refused(&rt, b"paint A 1 1 1 1", LineRefusal::Syntax(16));
 }
 
@@ -129,7 +134,7 @@ fn each_form_is_read(rt: HostRuntime) {
 }
 
 /// Each cell of a new layer holds this.
-fn has_cell(rt: &(impl AllocGlobal + Abort), line: &[u8], want: Option<i32>) {
+fn has_cell(rt: &(impl AllocGlobal + Abort), line: &[u8], want: Option<Value>) {
     match look_at(rt.alloc(), Table::Program, line) {
         Ok(found) => assert_eq!(rt; found.value, Some(want)),
         Err(_) => panic!(rt; "not read"),
@@ -138,7 +143,11 @@ fn has_cell(rt: &(impl AllocGlobal + Abort), line: &[u8], want: Option<i32>) {
 
 #[test]
 fn new_layers_have_their_cell(rt: HostRuntime) {
-    has_cell(&rt, b"new C -2000000000", Some(-2_000_000_000));
+    has_cell(
+        &rt,
+        b"new C -1000000000000000",
+        Some(-1_000_000_000_000_000),
+    );
     has_cell(&rt, b"new C null", None);
 }
 
@@ -178,7 +187,7 @@ fn texts_are_canonical(rt: HostRuntime) {
 }
 
 /// The number that stands at a place of an operation.
-fn number_at(op: &Op, k: u32) -> Option<i32> {
+fn number_at(op: &Op, k: u32) -> Option<Value> {
     match op.term(k) {
         Some(Term::Number(value)) => Some(*value),
         _ => None,

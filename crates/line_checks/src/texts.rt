@@ -1,5 +1,5 @@
 //! What is seen of lines that are read.
-use map_nums::Stat;
+use map_nums::{Stat, Value};
 use statement_parser::{
     Command, Form, Line, LineEdit, LineRefusal, Operation, Request, Rows, parse_line,
     print_procedure, print_written,
@@ -67,7 +67,7 @@ pub(crate) struct Seen {
     /// Its form, with its numbers where they are those of a test.
     pub form: &'static str,
     /// What each cell of a new layer holds, or which value gets a text or a sign.
-    pub value: Option<Option<i32>>,
+    pub value: Option<Option<Value>>,
     /// The canonical text of a statement or a procedure, or the text or sign that a value gets.
     pub text: Option<Vec<u8>>,
     /// The same of a copy of the line.
@@ -107,7 +107,7 @@ fn is_one_to_four(r1: u32, c1: u32, r2: u32, c2: u32) -> bool {
     r1 == 1 && c1 == 2 && r2 == 3 && c2 == 4
 }
 
-fn value_of(line: &Line) -> Option<Option<i32>> {
+fn value_of(line: &Line) -> Option<Option<Value>> {
     match line {
         Line::Edit(LineEdit::New { cell, .. }) => Some(cell.get()),
         Line::Edit(LineEdit::Label { value, .. }) | Line::Edit(LineEdit::Symbol { value, .. }) => {

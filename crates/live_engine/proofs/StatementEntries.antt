@@ -49,26 +49,26 @@ use Rattle.live_engine.proofs.Counted.{count_put, there_least, flats_all, source
 
 -- ---- limits and cycles
 
-bounded_by : (n : Name) (es : List Entry) (many zonal looped : Bool) → nat_lt 64 (count_by is_flat (layers es)) ≡ many → nat_lt 24 (count_by is_zonal (layers es)) ≡ zonal → is_looped (nodes_of es) n ≡ looped
+bounded_by : (n : Name) (es : List Entry) (many zonal looped : Bool) → nat_lt 64 (count_by is_flat (layers es)) ≡ many → nat_lt 12 (count_by is_zonal (layers es)) ≡ zonal → is_looped (nodes_of es) n ≡ looped
     → bounded n es ≡ cond many (Err (beyond statements)) (cond zonal (Err (beyond zonals)) (cond looped (Err (cycle n)) (Ok es)))
 bounded_by n es many zonal looped p q r =
-    ap (λ b. cond b (Err (beyond statements)) (cond (nat_lt 24 (count_by is_zonal (layers es))) (Err (beyond zonals)) (cond (is_looped (nodes_of es) n) (Err (cycle n)) (Ok es)))) p
+    ap (λ b. cond b (Err (beyond statements)) (cond (nat_lt 12 (count_by is_zonal (layers es))) (Err (beyond zonals)) (cond (is_looped (nodes_of es) n) (Err (cycle n)) (Ok es)))) p
     ∙ ap (λ z. cond many (Err (beyond statements)) (cond z (Err (beyond zonals)) (cond (is_looped (nodes_of es) n) (Err (cycle n)) (Ok es)))) q
     ∙ ap (λ l. cond many (Err (beyond statements)) (cond zonal (Err (beyond zonals)) (cond l (Err (cycle n)) (Ok es)))) r
 
 bounded_many : (n : Name) (es : List Entry) → 64 < count_by is_flat (layers es) → bounded n es ≡ Err (beyond statements)
-bounded_many n es many = bounded_by n es true (nat_lt 24 (count_by is_zonal (layers es))) (is_looped (nodes_of es) n) (lt-ltb 64 (count_by is_flat (layers es)) many) refl refl
+bounded_many n es many = bounded_by n es true (nat_lt 12 (count_by is_zonal (layers es))) (is_looped (nodes_of es) n) (lt-ltb 64 (count_by is_flat (layers es)) many) refl refl
 
 bounded_beyond : (n : Name) (es : List Entry) (w : Which) → IsBeyond es (Some w) → bounded n es ≡ Err (beyond (which_of w))
 bounded_beyond n es which.Sources h = absurd h
 bounded_beyond n es which.Statements h = bounded_many n es h
-bounded_beyond n es which.Zonals h = bounded_by n es false true (is_looped (nodes_of es) n) (le-ltb 64 (count_by is_flat (layers es)) h.0) (lt-ltb 24 (count_by is_zonal (layers es)) h.1) refl
+bounded_beyond n es which.Zonals h = bounded_by n es false true (is_looped (nodes_of es) n) (le-ltb 64 (count_by is_flat (layers es)) h.0) (lt-ltb 12 (count_by is_zonal (layers es)) h.1) refl
 bounded_beyond n es which.Labels h = absurd h
 bounded_beyond n es which.Symbols h = absurd h
 bounded_beyond n es which.Procedures h = absurd h
 
 bounded_within : (n : Name) (es : List Entry) (looped : Bool) → IsBeyond es None → is_looped (nodes_of es) n ≡ looped → bounded n es ≡ cond looped (Err (cycle n)) (Ok es)
-bounded_within n es looped few is = bounded_by n es false false looped (le-ltb 64 (count_by is_flat (layers es)) few.0) (le-ltb 24 (count_by is_zonal (layers es)) few.1) is
+bounded_within n es looped few is = bounded_by n es false false looped (le-ltb 64 (count_by is_flat (layers es)) few.0) (le-ltb 12 (count_by is_zonal (layers es)) few.1) is
 
 own_last : (nodes : List Node) (node : Node) → own_name (nodes ++ node ∷ []) ≡ Some node.name
 own_last [] node = refl

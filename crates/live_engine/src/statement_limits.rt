@@ -25,7 +25,7 @@ use statement_parser::Op;
 const MOST_FLATS: usize = 64;
 
 /// The most Zonal ones.
-const MOST_ZONALS: usize = 24;
+const MOST_ZONALS: usize = 12;
 
 /// Which flat statements are counted.
 #[derive(Clone, Copy)]

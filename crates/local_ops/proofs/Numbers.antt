@@ -1,5 +1,5 @@
 -- The numbers of cells, one cell after another, and the operations on them.
-use Rattle.std.proofs.Common.{◌≡◌, ℕ, zero, suc, ◌<◌, ◌≤◌, List, [], ◌∷◌, ◌++◌, length, get_or, Option, Some, None, ℤ, pos, refl, ◌∙◌, ap, arith, option_map, inl, inr, Bool, true, false, Decides, FitsSigned, to_z, of_z, w64}
+use Rattle.std.proofs.Common.{◌≡◌, ℕ, zero, suc, ◌<◌, ◌≤◌, List, [], ◌∷◌, ◌++◌, length, get_or, Option, Some, None, ℤ, pos, refl, ◌∙◌, ap, arith, option_map, inl, inr, Bool, true, false, Decides, FitsSigned, to_z, of_z}
 use Rattle.std.proofs.lemmas.Int.{ints}
 use Rattle.std.proofs.lemmas.Bool.Decides.{Decides-int_eq}
 use Rattle.std.specs.Int.{w128}
@@ -48,8 +48,5 @@ ratio_is a b q h = rw (other (int_eq b (pos 0)) (b ≡ pos 0) (Decides-int_eq b 
     not_nought a b q (inr f) e = absurd (grind (arith, ints))
 
 -- numbers in wider words
-pub widened : (z : ℤ) → FitsSigned value_width z → to_z w64 (of_z w64 (to_z value_width (of_z value_width z))) ≡ z
-widened z f = omega (arith, ints)
-
 pub widened_far : (z : ℤ) → FitsSigned value_width z → to_z w128 (of_z w128 (to_z value_width (of_z value_width z))) ≡ z
 widened_far z f = omega (arith, ints)

@@ -92,7 +92,7 @@ impl Pairing for Maxima {
     ghost takes = { λ _. Unit {0} };
 
     fn of(&self, left: Value, right: Value) -> Result<Option<Value>, Wide> {
-        kept(greater(left, right) as i64)
+        kept(greater(left, right))
     }
 }
 
@@ -105,7 +105,7 @@ impl Pairing for Minima {
     ghost takes = { λ _. Unit {0} };
 
     fn of(&self, left: Value, right: Value) -> Result<Option<Value>, Wide> {
-        kept(lesser(left, right) as i64)
+        kept(lesser(left, right))
     }
 }
 
@@ -171,12 +171,10 @@ fn statistic_of_pair(stat: Stat, left: Value, right: Value) -> Result<Option<Val
     match stat {
         Stat::Sum => exact(total(left, right)),
         Stat::Product => exact(product(left, right)),
-        Stat::Maximum => kept(greater(left, right) as i64),
+        Stat::Maximum => kept(greater(left, right)),
         Stat::Mean => exact(mean(left, right)),
         // of two values, the least is in the lower middle, and it leads where both occur as often
-        Stat::Minimum | Stat::Median | Stat::Majority | Stat::Minority => {
-            kept(lesser(left, right) as i64)
-        }
+        Stat::Minimum | Stat::Median | Stat::Majority | Stat::Minority => kept(lesser(left, right)),
         Stat::Variety => kept(variety(left, right)),
     }
 }
@@ -187,7 +185,7 @@ fn sum(left: Value, right: Value) -> i64
     requires right { IsTrue (is_value right) }
     ensures { result ≡ total_of (left ∷ right ∷ []) }
 {
-    left as i64 + right as i64
+    left + right
 }
 
 /// The first of two values of cells minus the second.
@@ -196,7 +194,7 @@ fn rest(left: Value, right: Value) -> i64
     requires right { IsTrue (is_value right) }
     ensures { result ≡ left -ℤ right }
 {
-    left as i64 - right as i64
+    left - right
 }
 
 /// The sum of two values.

@@ -54,7 +54,7 @@ fn found(value: Option<Value>) -> Result<Option<Value>, Wide>
     ensures { IsExact value result }
 {
     match value {
-        Some(number) => kept(number as i64),
+        Some(number) => kept(number),
         None => Ok(None),
     }
 }

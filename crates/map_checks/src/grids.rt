@@ -23,7 +23,7 @@ fn upper_case_and_padding(rt: HostRuntime) -> Result<(), Fail> {
     prints(
         &rt,
         b"NCOLS        2\r\nNROWS        2\r\nXLLCORNER    100.5\r\nYLLCORNER    -20.000000000000\r\nCELLSIZE     60.000000000000\r\n 1 2\r\n -9999 4\r\n",
-        b"ncols 2\nnrows 2\nxllcorner 100.5\nyllcorner -20.000000000000\ncellsize 60.000000000000\nNODATA_value -2000000001\n1 2\n-2000000001 4\n",
+        b"ncols 2\nnrows 2\nxllcorner 100.5\nyllcorner -20.000000000000\ncellsize 60.000000000000\nNODATA_value -1000000000000001\n1 2\n-1000000000000001 4\n",
     )
 }
 
@@ -35,7 +35,7 @@ fn ends_in(rt: &(impl AllocGlobal + Abort), text: &[u8], want: &[u8]) -> Result<
 }
 
 /// The rows of the grids that other programs wrote.
-const ROWS: &[u8] = b"NODATA_value -2000000001\n107 123 -2000000001\n115 -9999 132\n";
+const ROWS: &[u8] = b"NODATA_value -1000000000000001\n107 123 -1000000000000001\n115 -9999 132\n";
 
 #[test]
 fn grids_of_other_programs(rt: HostRuntime) -> Result<(), Fail> {
@@ -126,6 +126,6 @@ fn refused_cells(rt: HostRuntime) {
     cells_refused(&rt, b"1 2 3\n", GridRefusal::Few(3, 4));
     cells_refused(&rt, b"1 2 3 4 5\n", GridRefusal::More(60));
     cells_refused(&rt, b"1 2 7.5 4\n", GridRefusal::Cell(3));
-    cells_refused(&rt, b"1 2000000001 3 4\n", GridRefusal::Range(2));
+    cells_refused(&rt, b"1 1000000000000001 3 4\n", GridRefusal::Range(2));
     cells_refused(&rt, b"1 2 3 1000000000000000000\n", GridRefusal::Range(4));
 }

@@ -51,7 +51,7 @@ fn refused_cells(rt: HostRuntime) -> Result<(), Fail> {
             "refused load A cell 1\n",
         ),
         (
-            "ncols 1\nnrows 1\nxllcorner 0\nyllcorner 0\ncellsize 1\n2000000001\n",
+            "ncols 1\nnrows 1\nxllcorner 0\nyllcorner 0\ncellsize 1\n1000000000000001\n",
             "refused load A range 1\n",
         ),
     ];

@@ -4,7 +4,7 @@ ghost use Rattle.std.specs.Prelude.{◌<◌};
 use map_outside::{
     Counts, FileShelf, MemoryShelf, MemorySink, MemorySource, ReadSource, WriteSink,
 };
-use map_run::{Limits, Status, run, run_within};
+use map_run::{Limits, Means, Status, run, run_within};
 use std::alloc::{AllocError, Global};
 use std::fs::Files;
 use std::process::Abort;
@@ -30,7 +30,7 @@ const LOADED: &[u8] = b"ok 1 changed 1 evaluated 1 worked 0\n";
 const SUMMED: &[u8] = b"ok 1 changed 1 evaluated 1 worked 0\nok 2 changed 1 evaluated 1 worked 0\n";
 
 const SHOWN: &[u8] =
-    b"ok 1 changed 1 evaluated 1 worked 0\nok 2 changed 1 evaluated 1 worked 0\nncols 3\nnrows 3\nxllcorner 0\nyllcorner 0\ncellsize 1\nNODATA_value -2000000001\n4 5 6\n7 8 9\n10 11 12\n";
+    b"ok 1 changed 1 evaluated 1 worked 0\nok 2 changed 1 evaluated 1 worked 0\nncols 3\nnrows 3\nxllcorner 0\nyllcorner 0\ncellsize 1\nNODATA_value -1000000000000001\n4 5 6\n7 8 9\n10 11 12\n";
 
 /// The numbers of the calls that fail. No call has the number 0.
 #[derive(Clone, Copy)]
@@ -131,15 +131,18 @@ fn play_within<R: AllocGlobal + Threads + Sync>(
     let mut source = source_of(alloc, session, 5, NONE)?;
     let mut sink = sink_of(alloc, NONE)?;
     let mut tally = Counts::new();
-    let status = run_within(
+    let means = Means {
         rt,
         alloc,
+        gate: &NoGate,
+    };
+    let status = run_within(
+        means,
         words,
         limits,
         &mut shelf,
         &mut source,
         &mut sink,
-        &NoGate,
         &mut tally,
     );
     ended(alloc, status, &sink)
@@ -205,7 +208,7 @@ fn answers_lines(rt: HostRuntime) -> Result<(), Fail> {
             "A=a",
             SPACED,
             b"grid A\n".as_slice(),
-            b"ok 1 changed 1 evaluated 1 worked 0\nncols 2\nnrows 2\nxllcorner 100.5\nyllcorner -20.000000000000\ncellsize 60.000000000000\nNODATA_value -2000000001\n1 2\n-2000000001 4\n".as_slice(),
+            b"ok 1 changed 1 evaluated 1 worked 0\nncols 2\nnrows 2\nxllcorner 100.5\nyllcorner -20.000000000000\ncellsize 60.000000000000\nNODATA_value -1000000000000001\n1 2\n-1000000000000001 4\n".as_slice(),
         ),
     ] {
         let words = ["run", "1", "-", pair];
@@ -234,7 +237,7 @@ fn refuses_a_load(rt: HostRuntime) -> Result<(), Fail> {
             b"refused load A cell 1\n".as_slice(),
         ),
         (
-            b"ncols 1\nnrows 1\nxllcorner 0\nyllcorner 0\ncellsize 1\n2000000001\n".as_slice(),
+            b"ncols 1\nnrows 1\nxllcorner 0\nyllcorner 0\ncellsize 1\n1000000000000001\n".as_slice(),
             b"refused load A range 1\n".as_slice(),
         ),
     ] {

@@ -76,7 +76,7 @@ fn a_region_splits(rt: HostRuntime) -> Result<(), Fail> {
         ),
         Line(
             "grid L",
-            "ncols 5\nnrows 1\nxllcorner 0\nyllcorner 0\ncellsize 1\nNODATA_value -2000000001\n1 1 -2000000001 4 4\n",
+            "ncols 5\nnrows 1\nxllcorner 0\nyllcorner 0\ncellsize 1\nNODATA_value -1000000000000001\n1 1 -1000000000000001 4 4\n",
         ),
     ];
     plays(&rt, "A", grid, &steps)
@@ -92,7 +92,7 @@ fn refused_lines(rt: HostRuntime) -> Result<(), Fail> {
         Line("paint A 1 1 4 1 0", "refused size 3 3\n"),
         Line("symbol A 1 ab", "refused syntax 13\n"),
         Line(
-            "B = LocalSum of A and 2000000000",
+            "B = LocalSum of A and 1000000000000000",
             "refused overflow B 1 1\n",
         ),
         Line("", ""),

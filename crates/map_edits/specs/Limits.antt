@@ -11,7 +11,7 @@ abbrev pub most_flats : ℕ
 most_flats = 64
 
 abbrev pub most_zonals : ℕ
-most_zonals = 24
+most_zonals = 12
 
 abbrev pub is_source : Entry → Bool
 is_source e = of_def e.def

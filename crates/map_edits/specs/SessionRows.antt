@@ -43,7 +43,7 @@ pub record SessionRows : Type 0 where
       ≡ ok 1 1 1 0 ∷ ok 2 1 1 0 ∷ refused (exists_already (codes "A")) ∷ refused (unknown (codes "Q")) ∷ refused (unknown (codes "Q")) ∷ refused (is_derived (codes "C")) ∷ refused (wrong_size cell) ∷ []
   -- a paint is seen through a statement, and one that makes it overflow is refused
   pub repainted : value_of (after (put (codes "A") 7 ∷ write (codes "B") (with_number stats.Sum (codes "A") 3) ∷ repaint (codes "A") 5 ∷ [])).names (codes "B") ≡ Some (one_cell 8)
-  pub overflows : played (put (codes "A") 7 ∷ write (codes "B") (with_number stats.Sum (codes "A") 3) ∷ repaint (codes "A") 2000000000 ∷ of_names (drop_name (codes "B")) ∷ [])
+  pub overflows : played (put (codes "A") 7 ∷ write (codes "B") (with_number stats.Sum (codes "A") 3) ∷ repaint (codes "A") 1000000000000000 ∷ of_names (drop_name (codes "B")) ∷ [])
       ≡ ok 1 1 1 0 ∷ ok 2 1 1 0 ∷ refused (fault (overflow (codes "B") 1 1)) ∷ ok 3 0 0 0 ∷ []
   pub stops : played stopping ≡ ok 1 1 1 0 ∷ ok 2 1 1 0 ∷ ok 3 1 2 0 ∷ []
   pub stamp_moves : stamps_of (after stopping).stamps (codes "A") ≡ Some (3 ∷ [])
@@ -52,7 +52,7 @@ pub record SessionRows : Type 0 where
   pub late : played (put (codes "A") 7 ∷ write (codes "B") (with_number stats.Sum (codes "C") 1) ∷ of_names (new_layer (codes "C") (Some (pos 1))) ∷ of_names (drop_name (codes "C")) ∷ of_names (new_layer (codes "C") (Some (pos 1))) ∷ [])
       ≡ ok 1 1 1 0 ∷ ok 2 0 0 0 ∷ ok 3 2 2 0 ∷ ok 4 0 0 0 ∷ ok 5 2 2 0 ∷ []
   -- the fault of least depth is told: C stands before B, and is deeper
-  pub by_depth : played (put (codes "A") 0 ∷ write (codes "C") (with_number stats.Product (codes "B") 2000000000) ∷ write (codes "B") (with_number stats.Product (codes "A") 2000000000) ∷ repaint (codes "A") 2 ∷ repaint (codes "A") 1 ∷ repaint (codes "A") 0 ∷ [])
+  pub by_depth : played (put (codes "A") 0 ∷ write (codes "C") (with_number stats.Product (codes "B") 1000000000000000) ∷ write (codes "B") (with_number stats.Product (codes "A") 1000000000000000) ∷ repaint (codes "A") 2 ∷ repaint (codes "A") 1 ∷ repaint (codes "A") 0 ∷ [])
       ≡ ok 1 1 1 0 ∷ ok 2 0 0 0 ∷ ok 3 2 2 0 ∷ refused (fault (overflow (codes "B") 1 1)) ∷ refused (fault (overflow (codes "C") 1 1)) ∷ ok 4 0 1 0 ∷ []
   -- a call; the same call again is written anew, and nothing changes
   pub calls : played (put (codes "A") 1 ∷ define_procedure twice ∷ write (codes "B") (twice_of (codes "A") 3) ∷ write (codes "B") (twice_of (codes "A") 3) ∷ define_procedure twice ∷ [])
@@ -66,6 +66,6 @@ pub record SessionRows : Type 0 where
       ≡ ok 1 1 1 0 ∷ ok 2 0 0 0 ∷ ok 3 0 0 0 ∷ refused (unknown (codes "Q")) ∷ ok 4 0 0 0 ∷ []
   -- what a paint may read: a tile of A and one of B; as much where B overflows, since C is deeper
   pub paint_reads : edit_reads (after summed) (repaint (codes "A") 5) ≡ reads 128 0
-  pub refused_reads : edit_reads (after chained) (repaint (codes "A") 2000000000) ≡ reads 128 0
-  pub late_reads : edit_reads (after chained) (repaint (codes "A") 1999999995) ≡ reads 192 0
+  pub refused_reads : edit_reads (after chained) (repaint (codes "A") 1000000000000000) ≡ reads 128 0
+  pub late_reads : edit_reads (after chained) (repaint (codes "A") 999999999999995) ≡ reads 192 0
   pub no_reads : edit_reads (after chained) (of_names (paint (codes "B") corner None)) ≡ reads 0 0

@@ -50,10 +50,10 @@ pub record LimitRows : Type 0 where
   pub last_statement : answer (attempted (state (map (added (with_number Sum A 1)) (range_with_len 0 63)) [] [] []) (of_names (define (codes "B") (with_number Sum A 1)))) ≡ None
   -- a call counts as many as it has flat statements
   pub one_statement_more : answer (attempted (state (map (added (with_number Sum A 1)) (range_with_len 0 63)) (twice ∷ []) [] []) (of_names (define (codes "B") (twice_of A 1)))) ≡ Some (beyond statements)
-  pub last_zonal : answer (attempted (state (map (added of_zone) (range_with_len 0 23)) [] [] []) (of_names (define (codes "B") of_zone))) ≡ None
-  pub one_zonal_more : answer (attempted (state (map (added of_zone) (range_with_len 0 24)) [] [] []) (of_names (define (codes "B") of_zone))) ≡ Some (beyond zonals)
+  pub last_zonal : answer (attempted (state (map (added of_zone) (range_with_len 0 11)) [] [] []) (of_names (define (codes "B") of_zone))) ≡ None
+  pub one_zonal_more : answer (attempted (state (map (added of_zone) (range_with_len 0 12)) [] [] []) (of_names (define (codes "B") of_zone))) ≡ Some (beyond zonals)
   -- a statement that is written again isn't counted twice
-  pub zonal_again : answer (attempted (state (map (added of_zone) (range_with_len 0 24)) [] [] []) (of_names (define (codes "N7") of_zone))) ≡ None
+  pub zonal_again : answer (attempted (state (map (added of_zone) (range_with_len 0 12)) [] [] []) (of_names (define (codes "N7") of_zone))) ≡ None
   pub last_procedure : answer (attempted (state [] (map procedure (range_with_len 0 31)) [] []) (define_procedure twice)) ≡ None
   pub one_procedure_more : answer (attempted (state [] (map procedure (range_with_len 0 32)) [] []) (define_procedure twice)) ≡ Some (beyond procedures)
   pub last_label : answer (attempted (state [] [] (map mark (range_with_len 0 4095)) []) (label A (pos 5000) (codes "u"))) ≡ None

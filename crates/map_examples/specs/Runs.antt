@@ -70,7 +70,7 @@ map_of rows columns cells = codes "ncols " ++ decimal columns ++ codes "\nnrows 
 
 -- as it is printed
 abbrev pub grid_of : ℕ → ℕ → List ℕ → List ℕ
-grid_of rows columns cells = map_of rows columns (codes "NODATA_value -2000000001\n" ++ cells)
+grid_of rows columns cells = map_of rows columns (codes "NODATA_value -1000000000000001\n" ++ cells)
 
 -- the reply to an accepted edit: its number, tiles that changed, tiles that were evaluated, work
 abbrev pub ok : ℕ → ℕ → ℕ → ℕ → List ℕ

@@ -1,5 +1,5 @@
 -- The machine word that holds a value.
-use mir.Syntax.{Width, w32}
+use mir.Syntax.{Width, w64}
 
 abbrev pub value_width : Width
-value_width = w32
+value_width = w64

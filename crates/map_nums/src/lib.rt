@@ -19,10 +19,10 @@ pub use statistics::{statistic, statistic_in};
 use std::alloc::{AllocError, AllocFailed};
 
 /// A number that a cell holds.
-pub type Value = i32;
+pub type Value = i64;
 
 /// The greatest number that a cell holds; the least is its negative.
-pub const VMAX: i64 = 2_000_000_000;
+pub const VMAX: i64 = 1_000_000_000_000_000;
 
 /// Memory was wanted and not there.
 #[derive(Clone, Copy, Debug, PartialEq, Eq)]

@@ -29,7 +29,7 @@ risen = replicate 30 (some 0) ++ (some 1 ∷ replicate 34 (some 0))
 
 pub record ChangeRows : Type 0 where
   -- both operands change in one cell, which counts once
-  pub both_change : at_change (spread_op 2000000000 term term) (by 1 1) ((some 1 ∷ []) ∷ (some 9 ∷ []) ∷ []) ((some 2 ∷ []) ∷ (some 2 ∷ []) ∷ []) ≡ counts 0 1 1
+  pub both_change : at_change (spread_op 1000000000000000 term term) (by 1 1) ((some 1 ∷ []) ∷ (some 9 ∷ []) ∷ []) ((some 2 ∷ []) ∷ (some 2 ∷ []) ∷ []) ≡ counts 0 1 1
   -- a null moves
   pub region_moves : at_change (region_op term) (by 1 3) ((some 7 ∷ None ∷ some 7 ∷ []) ∷ []) ((some 7 ∷ some 7 ∷ None ∷ []) ∷ []) ≡ counts 1 1 4
   pub viewer_goes : at_change (sight 1) (by 1 65) (viewer ∷ flat ∷ []) (nobody ∷ flat ∷ []) ≡ counts 2 2 0

@@ -22,7 +22,7 @@ source = some 1 ∷ None ∷ None ∷ None ∷ None ∷ []
 
 -- costs along a row from its first cell, where the frictions change
 abbrev pub friction_changes : List ℕ → List ℕ → Counts
-friction_changes f g = at_change (spread 2000000000) (by 1 5) (source ∷ nums f ∷ []) (source ∷ nums g ∷ [])
+friction_changes f g = at_change (spread 1000000000000000) (by 1 5) (source ∷ nums f ∷ []) (source ∷ nums g ∷ [])
 
 abbrev pub basin : Cells
 basin = nums (9 ∷ 4 ∷ 9 ∷ 9 ∷ 5 ∷ 4 ∷ 9 ∷ 9 ∷ 9 ∷ [])
@@ -46,18 +46,18 @@ pub record CountRows : Type 0 where
   pub form_first : seven (form_op gradient_form term) ≡ counts 1 1 0
   pub direction_first : seven (direction_op term) ≡ counts 1 1 0
   pub flow_first : seven (flow_op term term) ≡ counts 1 1 2
-  pub spread_first : seven (spread 2000000000) ≡ counts 1 1 2
+  pub spread_first : seven (spread 1000000000000000) ≡ counts 1 1 2
   pub region_first : seven (region_op term) ≡ counts 1 1 2
   -- a change that stops
   pub stops : at_change (local_op Maximum (term ∷ term ∷ [])) (by 3 3) (middle 5 ∷ all (by 3 3) 9 ∷ []) (middle 1 ∷ all (by 3 3) 9 ∷ []) ≡ counts 0 1 0
-  pub costs_first : at_first (spread 2000000000) (by 1 5) (source ∷ nums (1 ∷ 1 ∷ 1 ∷ 1 ∷ 1 ∷ []) ∷ []) ≡ counts 1 1 10
+  pub costs_first : at_first (spread 1000000000000000) (by 1 5) (source ∷ nums (1 ∷ 1 ∷ 1 ∷ 1 ∷ 1 ∷ []) ∷ []) ≡ counts 1 1 10
   pub rises : friction_changes (1 ∷ 1 ∷ 1 ∷ 1 ∷ 1 ∷ []) (1 ∷ 1 ∷ 5 ∷ 1 ∷ 1 ∷ []) ≡ counts 1 1 4
   pub falls : friction_changes (1 ∷ 1 ∷ 5 ∷ 1 ∷ 1 ∷ []) (1 ∷ 1 ∷ 1 ∷ 1 ∷ 1 ∷ []) ≡ counts 1 1 4
   pub rise_together : friction_changes (1 ∷ 1 ∷ 1 ∷ 1 ∷ 1 ∷ []) (1 ∷ 2 ∷ 2 ∷ 2 ∷ 1 ∷ []) ≡ counts 1 1 7
   pub fall_together : friction_changes (1 ∷ 2 ∷ 2 ∷ 2 ∷ 1 ∷ []) (1 ∷ 1 ∷ 1 ∷ 1 ∷ 1 ∷ []) ≡ counts 1 1 7
   pub within_twenty : at_first (spread 20) (by 1 5) ((some 1 ∷ None ∷ None ∷ some 1 ∷ None ∷ []) ∷ nums (1 ∷ 1 ∷ 1 ∷ 0 ∷ 1 ∷ []) ∷ []) ≡ counts 1 1 8
   pub within_nineteen : at_first (spread 19) (by 1 5) ((some 1 ∷ None ∷ None ∷ some 1 ∷ None ∷ []) ∷ nums (1 ∷ 1 ∷ 1 ∷ 0 ∷ 1 ∷ []) ∷ []) ≡ counts 1 1 7
-  pub through_middle : at_change (spread 2000000000) (by 3 3) (corner ∷ middle 5 ∷ []) (corner ∷ middle 1 ∷ []) ≡ counts 1 1 3
+  pub through_middle : at_change (spread 1000000000000000) (by 3 3) (corner ∷ middle 5 ∷ []) (corner ∷ middle 1 ∷ []) ≡ counts 1 1 3
   pub whole_region : at_first (region_op term) (by 1 5) (nums (7 ∷ 7 ∷ 7 ∷ 7 ∷ 7 ∷ []) ∷ []) ≡ counts 1 1 10
   pub split_region : at_change (region_op term) (by 1 5) (nums (7 ∷ 7 ∷ 7 ∷ 7 ∷ 7 ∷ []) ∷ []) (nums (7 ∷ 7 ∷ 8 ∷ 7 ∷ 7 ∷ []) ∷ []) ≡ counts 1 1 6
   pub sight_first : at_first (sight_op (record { from = pos 0; to = pos 0; reach = 64 }) term term) (by 1 5) (source ∷ nums (0 ∷ 1 ∷ 2 ∷ 0 ∷ 0 ∷ []) ∷ []) ≡ counts 1 1 0

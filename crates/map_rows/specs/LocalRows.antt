@@ -38,4 +38,4 @@ pub record LocalRows : Type 0 where
   pub nulls : of_three (of_stat Sum) ((some 1 ∷ None ∷ some 3 ∷ []) ∷ (some 5 ∷ some 7 ∷ None ∷ []) ∷ []) ≡ some 6 ∷ None ∷ None ∷ []
   pub rated : (local_grid (by 3 3) (rating rates) (nine ∷ [])).cells ≡ some 9 ∷ some 9 ∷ some 9 ∷ some 4 ∷ None ∷ some 6 ∷ some 7 ∷ some 8 ∷ some 9 ∷ []
   -- a product past the range of a cell is still the product
-  pub products : of_three (of_stat Product) (nums (1 ∷ 40 ∷ 41 ∷ []) ∷ with_three 50000 ∷ with_three 1000 ∷ []) ≡ nums (50000000 ∷ 2000000000 ∷ 2050000000 ∷ [])
+  pub products : of_three (of_stat Product) (nums (1 ∷ 40 ∷ 41 ∷ []) ∷ with_three 50000 ∷ with_three 500000000 ∷ []) ≡ nums (25000000000000 ∷ 1000000000000000 ∷ 1025000000000000 ∷ [])

@@ -1,12 +1,13 @@
 -- Spreading, worked.
 use Rattle.std.specs.Prelude.{◌≡◌, ℕ, List, [], ◌∷◌, None}
+use Rattle.map_nums.specs.Numbers.{greatest_value}
 use Rattle.map_nums.specs.Grids.{Cells}
 use Rattle.map_defs.specs.Rounds.{spread_grid}
 use Rattle.map_rows.specs.Words.{some, nums, by, all}
 
 -- the limit where none is written
 abbrev pub no_limit : ℕ
-no_limit = 2000000000
+no_limit = greatest_value
 
 -- the costs along a row, from a source in its first cell
 abbrev pub along : List ℕ → Cells

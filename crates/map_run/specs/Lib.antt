@@ -1,5 +1,6 @@
 pub mod Kept
 pub mod Progress
+pub mod Shown
 pub mod Front
 pub mod Forms
 pub mod Stops

@@ -23,6 +23,6 @@ mod top;
 mod words;
 mod workers;
 
-pub use setup::Limits;
+pub use setup::{Limits, Means};
 pub use status::Status;
 pub use top::{run, run_within};

@@ -11,6 +11,7 @@ ghost use Rattle.layer_tiles.specs.Tallies.{TallyState, KeepsParts, IsUndivided}
 ghost use Rattle.map_run.specs.Progress.{Rises};
 ghost use Rattle.map_run.specs.Answered.{Answered};
 ghost use Rattle.map_run.specs.Kept.{IsKept};
+ghost use Rattle.map_run.specs.Shown.{progress};
 
 use crate::piece::{LONGEST, Piece, ends_with_return};
 use crate::setup::Setup;
@@ -48,8 +49,8 @@ pub fn put_reply<K: Sink>(sink: &mut K, reply: &[u8]) -> Result<(), PutFault>
 // Puts the reply to a line.
 fn put_answer<K: Sink>(sink: &mut K, reply: &[u8]) -> Result<Fed, Stop>
     ensures { (state : MapState) (line : List ℕ) (before after : TallyState) → is_quit line ≡ false → reply.now ≡ reply_to state line → Rises (line_reads state line) before after
-        → Answered state (state_to state line) (line ∷ []) (record { held = K.held sink.old; faults = K.faults sink.old; tally = before })
-        (record { held = K.held sink.new; faults = K.faults sink.new; tally = after }) result }
+        → Answered state (state_to state line) (line ∷ [])
+        (progress K.held K.faults sink.old before) (progress K.held K.faults sink.new after) result }
 {
     match put_reply(sink, reply) {
         Ok(()) => Ok(Fed::More),
@@ -68,8 +69,8 @@ pub fn answer_line<K: Sink, M: Tally + Send, G: Gate + Sync, R: Threads + Sync>(
 ) -> Result<Fed, Stop>
     requires whole { IsUndivided (M.counts tally.old) }
     ensures parts { KeepsParts (M.counts tally.old) (M.counts tally.new) }
-    ensures answered { Answered session.old session.new (line.now ∷ []) (record { held = K.held sink.old; faults = K.faults sink.old; tally = M.counts tally.old })
-        (record { held = K.held sink.new; faults = K.faults sink.new; tally = M.counts tally.new }) result }
+    ensures answered { Answered session.old session.new (line.now ∷ [])
+        (progress K.held K.faults sink.old (M.counts tally.old)) (progress K.held K.faults sink.new (M.counts tally.new)) result }
 {
     let reply = session.step(
         setup.crew.rt,
@@ -99,8 +100,8 @@ fn long_text(alloc: Global, count: u64) -> Result<Vec<u8>, NoMemory>
 fn answer_long<K: Sink>(alloc: Global, sink: &mut K, count: u64) -> Result<Fed, Stop>
     requires { 4096 < count }
     ensures { (state : MapState) (line : List ℕ) (tally : TallyState) → length line ≡ count
-        → Answered state state (line ∷ []) (record { held = K.held sink.old; faults = K.faults sink.old; tally = tally })
-        (record { held = K.held sink.new; faults = K.faults sink.new; tally = tally }) result }
+        → Answered state state (line ∷ [])
+        (progress K.held K.faults sink.old tally) (progress K.held K.faults sink.new tally) result }
 {
     let text = long_text(alloc, count)?;
     put_answer(sink, &text)
@@ -119,8 +120,8 @@ fn answer<K: Sink, M: Tally + Send, G: Gate + Sync, R: Threads + Sync>(
     requires whole { IsUndivided (M.counts tally.old) }
     ensures parts { KeepsParts (M.counts tally.old) (M.counts tally.new) }
     ensures answered { (line : List ℕ) → length line ≡ count → (count ≤ 4096 → line ≡ take count bytes.now)
-        → Answered session.old session.new (line ∷ []) (record { held = K.held sink.old; faults = K.faults sink.old; tally = M.counts tally.old })
-        (record { held = K.held sink.new; faults = K.faults sink.new; tally = M.counts tally.new }) result }
+        → Answered session.old session.new (line ∷ [])
+        (progress K.held K.faults sink.old (M.counts tally.old)) (progress K.held K.faults sink.new (M.counts tally.new)) result }
 {
     if count > LONGEST {
         return answer_long(setup.crew.alloc, sink, count);
@@ -151,8 +152,8 @@ fn end_line<K: Sink, M: Tally + Send, G: Gate + Sync, R: Threads + Sync>(
     ensures parts { KeepsParts (M.counts tally.old) (M.counts tally.new) }
     ensures kept { result ≡ Ok Fed.More → IsKept [] piece.new.kept.items piece.new.count piece.new.returns }
     ensures answered { (front : List ℕ) → IsKept front piece.old.kept.items piece.old.count piece.old.returns
-        → Answered session.old session.new (without_return (front ++ bytes.now) ∷ []) (record { held = K.held sink.old; faults = K.faults sink.old; tally = M.counts tally.old })
-        (record { held = K.held sink.new; faults = K.faults sink.new; tally = M.counts tally.new }) result }
+        → Answered session.old session.new (without_return (front ++ bytes.now) ∷ [])
+        (progress K.held K.faults sink.old (M.counts tally.old)) (progress K.held K.faults sink.new (M.counts tally.new)) result }
 {
     if piece.count == 0 {
         let count = line_length(bytes.len() as u64, ends_with_return(bytes));
@@ -197,8 +198,8 @@ pub fn feed<K: Sink, M: Tally + Send, G: Gate + Sync, R: Threads + Sync>(
     ensures count { piece.new.count ≤ piece.old.count + length bytes.now }
     ensures parts { KeepsParts (M.counts tally.old) (M.counts tally.new) }
     ensures answered { (taken : List ℕ) → IsKept (open_piece taken) piece.old.kept.items piece.old.count piece.old.returns
-        → Answered session.old session.new (further_lines taken bytes.now) (record { held = K.held sink.old; faults = K.faults sink.old; tally = M.counts tally.old })
-        (record { held = K.held sink.new; faults = K.faults sink.new; tally = M.counts tally.new }) result }
+        → Answered session.old session.new (further_lines taken bytes.now)
+        (progress K.held K.faults sink.old (M.counts tally.old)) (progress K.held K.faults sink.new (M.counts tally.new)) result }
     ensures kept { result ≡ Ok Fed.More → (taken : List ℕ) → IsKept (open_piece taken) piece.old.kept.items piece.old.count piece.old.returns
         → IsKept (open_piece (taken ++ bytes.now)) piece.new.kept.items piece.new.count piece.new.returns }
 {
@@ -224,8 +225,8 @@ pub fn finish<K: Sink, M: Tally + Send, G: Gate + Sync, R: Threads + Sync>(
     requires whole { IsUndivided (M.counts tally.old) }
     ensures parts { KeepsParts (M.counts tally.old) (M.counts tally.new) }
     ensures answered { (bytes : List ℕ) → IsKept bytes piece.now.kept.items piece.now.count piece.now.returns
-        → Answered session.old session.new (last_line bytes) (record { held = K.held sink.old; faults = K.faults sink.old; tally = M.counts tally.old })
-        (record { held = K.held sink.new; faults = K.faults sink.new; tally = M.counts tally.new }) result }
+        → Answered session.old session.new (last_line bytes)
+        (progress K.held K.faults sink.old (M.counts tally.old)) (progress K.held K.faults sink.new (M.counts tally.new)) result }
 {
     if piece.count == 0 {
         return Ok(Fed::More);

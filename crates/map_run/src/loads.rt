@@ -11,6 +11,7 @@ ghost use Rattle.map_outside.specs.Contents.{Files, Fetches};
 ghost use Rattle.layer_tiles.specs.Tallies.{TallyState, KeepsParts, IsUndivided};
 ghost use Rattle.map_run.specs.FaultCounts.{RunCounts};
 ghost use Rattle.map_run.specs.Loads.{Loads, LoadsAs, load_on, load_reads_on, opened_stage, file_stage};
+ghost use Rattle.map_run.specs.Shown.{progress};
 ghost use Rattle.map_run.specs.Stages.{Comes};
 ghost use Rattle.map_run.specs.Stops.{status_of};
 
@@ -107,8 +108,7 @@ fn load_first<K: Sink, M: Tally + Send, G: Gate + Sync, R: Threads + Sync>(
     ensures counts { (shelf source : ℕ) → RunCounts shelf shelf source source (K.faults sink.old) (K.faults sink.new) (status_of result) }
     ensures parts { KeepsParts (M.counts tally.old) (M.counts tally.new) }
     ensures loads { Comes (opened_stage (first_load_reads name bytes.now) (first_load name bytes.now))
-        (record { held = K.held sink.old; faults = K.faults sink.old; tally = M.counts tally.old })
-        (record { held = K.held sink.new; faults = K.faults sink.new; tally = M.counts tally.new }) result }
+        (progress K.held K.faults sink.old (M.counts tally.old)) (progress K.held K.faults sink.new (M.counts tally.new)) result }
 {
     let begun = Session::begin(
         setup.crew.rt,
@@ -139,8 +139,7 @@ fn load_next<K: Sink, M: Tally + Send, G: Gate + Sync, R: Threads + Sync>(
     ensures counts { (shelf source : ℕ) → RunCounts shelf shelf source source (K.faults sink.old) (K.faults sink.new) (status_of result) }
     ensures parts { KeepsParts (M.counts tally.old) (M.counts tally.new) }
     ensures loads { Comes (opened_stage (next_load_reads session name bytes.now) (next_load session name bytes.now))
-        (record { held = K.held sink.old; faults = K.faults sink.old; tally = M.counts tally.old })
-        (record { held = K.held sink.new; faults = K.faults sink.new; tally = M.counts tally.new }) result }
+        (progress K.held K.faults sink.old (M.counts tally.old)) (progress K.held K.faults sink.new (M.counts tally.new)) result }
 {
     let reply = session.load(
         setup.crew.rt,
@@ -168,8 +167,7 @@ fn load_bytes<K: Sink, M: Tally + Send, G: Gate + Sync, R: Threads + Sync>(
     ensures counts { (shelf source : ℕ) → RunCounts shelf shelf source source (K.faults sink.old) (K.faults sink.new) (status_of result) }
     ensures parts { KeepsParts (M.counts tally.old) (M.counts tally.new) }
     ensures loads { Comes (opened_stage (load_reads_on session name.now bytes.now) (load_on session name.now bytes.now))
-        (record { held = K.held sink.old; faults = K.faults sink.old; tally = M.counts tally.old })
-        (record { held = K.held sink.new; faults = K.faults sink.new; tally = M.counts tally.new }) result }
+        (progress K.held K.faults sink.old (M.counts tally.old)) (progress K.held K.faults sink.new (M.counts tally.new)) result }
 {
     let name = plain_name(setup.crew.alloc, name)?;
     match session {
@@ -188,8 +186,7 @@ fn not_fetched<K: Sink>(
 ) -> Result<Session, Stop>
     ensures counts { (before now source : ℕ) → FetchCounts {T = Vec ℕ AllGlobal} before now (Err fault) → RunCounts before now source source (K.faults sink.old) (K.faults sink.new) (status_of result) }
     ensures loads { (files : Option Files) (session : Option MapState) (file : List ℕ) (tally : TallyState) → Fetches files file most (Err fault) → Loads files (λ f. file_stage most session name.now (f file))
-        (record { held = K.held sink.old; faults = K.faults sink.old; tally = tally })
-        (record { held = K.held sink.new; faults = K.faults sink.new; tally = tally }) result }
+        (progress K.held K.faults sink.old tally) (progress K.held K.faults sink.new tally) result }
 {
     match fault {
         FetchFault::Long => refuse_long(alloc, name, most, sink),
@@ -215,8 +212,7 @@ pub fn load_file<F: Shelf, K: Sink, M: Tally + Send, G: Gate + Sync, R: Threads 
     ensures counts { (source : ℕ) → RunCounts (F.faults shelf.old) (F.faults shelf.new) source source (K.faults sink.old) (K.faults sink.new) (status_of result) }
     ensures parts { KeepsParts (M.counts tally.old) (M.counts tally.new) }
     ensures loads { Loads (F.files shelf.old) (λ f. file_stage setup.now.limits.file session pair.now.name.now (f pair.now.file.now))
-        (record { held = K.held sink.old; faults = K.faults sink.old; tally = M.counts tally.old })
-        (record { held = K.held sink.new; faults = K.faults sink.new; tally = M.counts tally.new }) result }
+        (progress K.held K.faults sink.old (M.counts tally.old)) (progress K.held K.faults sink.new (M.counts tally.new)) result }
 {
     match shelf.fetch(setup.crew.alloc, pair.file, setup.limits.file) {
         Ok(bytes) => load_bytes(setup, session, pair.name, &bytes, sink, tally),

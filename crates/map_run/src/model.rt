@@ -11,6 +11,7 @@ ghost use Rattle.map_run.specs.FaultCounts.{RunCounts};
 ghost use Rattle.map_machine.specs.Loads.{turned_away};
 ghost use Rattle.map_run.specs.Loads.{Loads, LoadsAs, model_lines_stage, model_file_stage};
 ghost use Rattle.map_run.specs.Models.{ModelGoes};
+ghost use Rattle.map_run.specs.Shown.{progress};
 ghost use Rattle.map_run.specs.Stages.{Comes};
 ghost use Rattle.map_run.specs.Stops.{status_of};
 
@@ -51,8 +52,7 @@ fn play_line<K: Sink, M: Tally + Send, G: Gate + Sync, R: Threads + Sync>(
     ensures counts { (shelf source : ℕ) → RunCounts shelf shelf source source (K.faults sink.old) (K.faults sink.new) (status_of result) }
     ensures parts { KeepsParts (M.counts tally.old) (M.counts tally.new) }
     ensures goes { ModelGoes session.old session.new line.now
-        (record { held = K.held sink.old; faults = K.faults sink.old; tally = M.counts tally.old })
-        (record { held = K.held sink.new; faults = K.faults sink.new; tally = M.counts tally.new }) result }
+        (progress K.held K.faults sink.old (M.counts tally.old)) (progress K.held K.faults sink.new (M.counts tally.new)) result }
 {
     let reply = session.step(
         setup.crew.rt,
@@ -87,8 +87,7 @@ fn play_last<K: Sink, M: Tally + Send, G: Gate + Sync, R: Threads + Sync>(
     ensures counts { (shelf source : ℕ) → RunCounts shelf shelf source source (K.faults sink.old) (K.faults sink.new) (status_of result) }
     ensures parts { KeepsParts (M.counts tally.old) (M.counts tally.new) }
     ensures loads { Comes (model_lines_stage session (last_line bytes.now))
-        (record { held = K.held sink.old; faults = K.faults sink.old; tally = M.counts tally.old })
-        (record { held = K.held sink.new; faults = K.faults sink.new; tally = M.counts tally.new }) result }
+        (progress K.held K.faults sink.old (M.counts tally.old)) (progress K.held K.faults sink.new (M.counts tally.new)) result }
 {
     if bytes.is_empty() {
         return Ok(session);
@@ -109,8 +108,7 @@ fn play_lines<K: Sink, M: Tally + Send, G: Gate + Sync, R: Threads + Sync>(
     ensures counts { (shelf source : ℕ) → RunCounts shelf shelf source source (K.faults sink.old) (K.faults sink.new) (status_of result) }
     ensures parts { KeepsParts (M.counts tally.old) (M.counts tally.new) }
     ensures loads { Comes (model_lines_stage session (lines_of bytes.now))
-        (record { held = K.held sink.old; faults = K.faults sink.old; tally = M.counts tally.old })
-        (record { held = K.held sink.new; faults = K.faults sink.new; tally = M.counts tally.new }) result }
+        (progress K.held K.faults sink.old (M.counts tally.old)) (progress K.held K.faults sink.new (M.counts tally.new)) result }
 {
     let mut rest = bytes;
     while let Some((line, further)) = cut_line(rest) {
@@ -140,8 +138,7 @@ fn not_fetched<K: Sink>(
 ) -> Result<Session, Stop>
     ensures counts { (before now source : ℕ) → FetchCounts {T = Vec ℕ AllGlobal} before now (Err fault) → RunCounts before now source source (K.faults sink.old) (K.faults sink.new) (status_of result) }
     ensures loads { (files : Option Files) (session : MapState) (file : List ℕ) (tally : TallyState) → Fetches files file most (Err fault) → Loads files (λ f. model_file_stage most (f file) session)
-        (record { held = K.held sink.old; faults = K.faults sink.old; tally = tally })
-        (record { held = K.held sink.new; faults = K.faults sink.new; tally = tally }) result }
+        (progress K.held K.faults sink.old tally) (progress K.held K.faults sink.new tally) result }
 {
     match fault {
         FetchFault::Long => refuse_long(alloc, most, sink),
@@ -164,8 +161,7 @@ pub fn load_model<F: Shelf, K: Sink, M: Tally + Send, G: Gate + Sync, R: Threads
     ensures counts { (source : ℕ) → RunCounts (F.faults shelf.old) (F.faults shelf.new) source source (K.faults sink.old) (K.faults sink.new) (status_of result) }
     ensures parts { KeepsParts (M.counts tally.old) (M.counts tally.new) }
     ensures loads { Loads (F.files shelf.old) (λ f. model_file_stage setup.now.limits.file (f file.now) session)
-        (record { held = K.held sink.old; faults = K.faults sink.old; tally = M.counts tally.old })
-        (record { held = K.held sink.new; faults = K.faults sink.new; tally = M.counts tally.new }) result }
+        (progress K.held K.faults sink.old (M.counts tally.old)) (progress K.held K.faults sink.new (M.counts tally.new)) result }
 {
     match shelf.fetch(setup.crew.alloc, file, setup.limits.file) {
         Ok(bytes) => play_lines(setup, session, &bytes, sink, tally),

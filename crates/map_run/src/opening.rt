@@ -6,6 +6,7 @@ ghost use Rattle.layer_tiles.specs.Tallies.{KeepsParts, IsUndivided};
 ghost use Rattle.map_run.specs.FaultCounts.{RunCounts};
 ghost use Rattle.map_run.specs.Forms.{pairs_read, model_read};
 ghost use Rattle.map_run.specs.Loads.{Loads, further_stage, pairs_stage, files_stage};
+ghost use Rattle.map_run.specs.Shown.{progress};
 ghost use Rattle.map_run.specs.Stops.{status_of};
 
 use crate::forms::{FileWords, Pair};
@@ -36,8 +37,7 @@ fn load_further<F: Shelf, K: Sink, M: Tally + Send, G: Gate + Sync, R: Threads +
     ensures counts { (source : ℕ) → RunCounts (F.faults shelf.old) (F.faults shelf.new) source source (K.faults sink.old) (K.faults sink.new) (status_of result) }
     ensures parts { KeepsParts (M.counts tally.old) (M.counts tally.new) }
     ensures loads { Loads (F.files shelf.old) (λ f. further_stage setup.now.limits.file f (pairs_read pairs.now) session)
-        (record { held = K.held sink.old; faults = K.faults sink.old; tally = M.counts tally.old })
-        (record { held = K.held sink.new; faults = K.faults sink.new; tally = M.counts tally.new }) result }
+        (progress K.held K.faults sink.old (M.counts tally.old)) (progress K.held K.faults sink.new (M.counts tally.new)) result }
 {
     match pairs.split_first() {
         None => Ok(session),
@@ -65,8 +65,7 @@ fn load_files<F: Shelf, K: Sink, M: Tally + Send, G: Gate + Sync, R: Threads + S
     ensures counts { (source : ℕ) → RunCounts (F.faults shelf.old) (F.faults shelf.new) source source (K.faults sink.old) (K.faults sink.new) (status_of result) }
     ensures parts { KeepsParts (M.counts tally.old) (M.counts tally.new) }
     ensures loads { Loads (F.files shelf.old) (λ f. pairs_stage setup.now.limits.file f (pairs_read pairs.now))
-        (record { held = K.held sink.old; faults = K.faults sink.old; tally = M.counts tally.old })
-        (record { held = K.held sink.new; faults = K.faults sink.new; tally = M.counts tally.new }) result }
+        (progress K.held K.faults sink.old (M.counts tally.old)) (progress K.held K.faults sink.new (M.counts tally.new)) result }
 {
     match pairs.split_first() {
         None => unreachable!(),
@@ -91,8 +90,7 @@ pub fn open_files<F: Shelf, K: Sink, M: Tally + Send, G: Gate + Sync, R: Threads
     ensures counts { (source : ℕ) → RunCounts (F.faults shelf.old) (F.faults shelf.new) source source (K.faults sink.old) (K.faults sink.new) (status_of result) }
     ensures parts { KeepsParts (M.counts tally.old) (M.counts tally.new) }
     ensures loads { Loads (F.files shelf.old) (files_stage setup.now.limits.file (model_read files.now.model) (pairs_read files.now.pairs.items))
-        (record { held = K.held sink.old; faults = K.faults sink.old; tally = M.counts tally.old })
-        (record { held = K.held sink.new; faults = K.faults sink.new; tally = M.counts tally.new }) result }
+        (progress K.held K.faults sink.old (M.counts tally.old)) (progress K.held K.faults sink.new (M.counts tally.new)) result }
 {
     let session = load_files(setup, &files.pairs, shelf, sink, tally)?;
     match files.model {

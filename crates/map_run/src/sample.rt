@@ -12,6 +12,7 @@ ghost use Rattle.map_run.specs.Answered.{Answered};
 ghost use Rattle.map_run.specs.FaultCounts.{RunCounts};
 ghost use Rattle.map_run.specs.Loads.{opened_stage, grids_stage};
 ghost use Rattle.map_run.specs.Sampled.{Sampled};
+ghost use Rattle.map_run.specs.Shown.{progress};
 ghost use Rattle.map_run.specs.Stages.{Comes};
 ghost use Rattle.map_run.specs.Stops.{status_of};
 
@@ -61,8 +62,7 @@ fn load_grid<K: Sink, M: Tally + Send, G: Gate + Sync, R: Threads + Sync>(
     ensures counts { (shelf source : ℕ) → RunCounts shelf shelf source source (K.faults sink.old) (K.faults sink.new) (status_of result) }
     ensures parts { KeepsParts (M.counts tally.old) (M.counts tally.new) }
     ensures loads { Comes (opened_stage (grid_load_reads session (name_of grid) (by_place side.count (cell_in grid))) (grid_load session (name_of grid) (by_place side.count (cell_in grid))))
-        (record { held = K.held sink.old; faults = K.faults sink.old; tally = M.counts tally.old })
-        (record { held = K.held sink.new; faults = K.faults sink.new; tally = M.counts tally.new }) result }
+        (progress K.held K.faults sink.old (M.counts tally.old)) (progress K.held K.faults sink.new (M.counts tally.new)) result }
 {
     let (name, layer) = made_grid(setup, side, grid, tally)?;
     let reply = session.load_layer(&setup.crew, name, layer, tally)?;
@@ -82,8 +82,7 @@ fn load_grids<K: Sink, M: Tally + Send, G: Gate + Sync, R: Threads + Sync>(
     ensures counts { (shelf source : ℕ) → RunCounts shelf shelf source source (K.faults sink.old) (K.faults sink.new) (status_of result) }
     ensures parts { KeepsParts (M.counts tally.old) (M.counts tally.new) }
     ensures loads { Comes (grids_stage session (map (named_grid side.count) grids.now))
-        (record { held = K.held sink.old; faults = K.faults sink.old; tally = M.counts tally.old })
-        (record { held = K.held sink.new; faults = K.faults sink.new; tally = M.counts tally.new }) result }
+        (progress K.held K.faults sink.old (M.counts tally.old)) (progress K.held K.faults sink.new (M.counts tally.new)) result }
 {
     match grids.split_first() {
         None => Ok(session),
@@ -105,8 +104,7 @@ fn load_sample<K: Sink, M: Tally + Send, G: Gate + Sync, R: Threads + Sync>(
     ensures counts { (shelf source : ℕ) → RunCounts shelf shelf source source (K.faults sink.old) (K.faults sink.new) (status_of result) }
     ensures parts { KeepsParts (M.counts tally.old) (M.counts tally.new) }
     ensures loads { Comes (grids_stage (sample_state side.count) (sample_grids side.count))
-        (record { held = K.held sink.old; faults = K.faults sink.old; tally = M.counts tally.old })
-        (record { held = K.held sink.new; faults = K.faults sink.new; tally = M.counts tally.new }) result }
+        (progress K.held K.faults sink.old (M.counts tally.old)) (progress K.held K.faults sink.new (M.counts tally.new)) result }
 {
     let session = Session::sample(setup.crew.alloc, side.count)?;
     load_grids(setup, session, side, &SAMPLE_GRIDS, sink, tally)
@@ -123,8 +121,7 @@ fn play_sample<K: Sink, M: Tally + Send, G: Gate + Sync, R: Threads + Sync>(
     requires whole { IsUndivided (M.counts tally.old) }
     ensures parts { KeepsParts (M.counts tally.old) (M.counts tally.new) }
     ensures answered { Answered session.old session.new (sample_lines side.count)
-        (record { held = K.held sink.old; faults = K.faults sink.old; tally = M.counts tally.old })
-        (record { held = K.held sink.new; faults = K.faults sink.new; tally = M.counts tally.new }) result }
+        (progress K.held K.faults sink.old (M.counts tally.old)) (progress K.held K.faults sink.new (M.counts tally.new)) result }
 {
     for k in 0..SAMPLE_LINES {
         let line = sample_line(setup.crew.alloc, side.count, k)?;
@@ -147,8 +144,7 @@ pub fn run_sample<K: Sink, M: Tally + Send, G: Gate + Sync, R: Threads + Sync>(
     ensures counts { (shelf source : ℕ) → RunCounts shelf shelf source source (K.faults sink.old) (K.faults sink.new) (status_of result) }
     ensures parts { KeepsParts (M.counts tally.old) (M.counts tally.new) }
     ensures sampled { Sampled side.count
-        (record { held = K.held sink.old; faults = K.faults sink.old; tally = M.counts tally.old })
-        (record { held = K.held sink.new; faults = K.faults sink.new; tally = M.counts tally.new }) (status_of result) }
+        (progress K.held K.faults sink.old (M.counts tally.old)) (progress K.held K.faults sink.new (M.counts tally.new)) (status_of result) }
 {
     let mut session = load_sample(setup, side, sink, tally)?;
     play_sample(setup, &mut session, side, sink, tally)?;

@@ -3,6 +3,7 @@ ghost use Rattle.std.specs.Prelude.{◌≡◌, ◌≤◌, ◌<◌, ℕ, length, 
 ghost use Rattle.layer_tiles.specs.Tallies.{KeepsParts, IsUndivided};
 ghost use Rattle.map_run.specs.FaultCounts.{RunCounts};
 ghost use Rattle.map_run.specs.Played.{Plays};
+ghost use Rattle.map_run.specs.Shown.{progress};
 ghost use Rattle.map_run.specs.Stops.{status_of};
 
 use crate::lines::{Fed, feed, finish};
@@ -40,8 +41,7 @@ fn play_chunks<S: Source, K: Sink, M: Tally + Send, G: Gate + Sync, R: Threads +
     ensures counts { (shelf : ℕ) → RunCounts shelf shelf (S.faults source.old) (S.faults source.new) (K.faults sink.old) (K.faults sink.new) (status_of result) }
     ensures parts { KeepsParts (M.counts tally.old) (M.counts tally.new) }
     ensures plays { Plays setup.now.limits.session session.old (S.left source.old) (S.left source.new)
-        (record { held = K.held sink.old; faults = K.faults sink.old; tally = M.counts tally.old })
-        (record { held = K.held sink.new; faults = K.faults sink.new; tally = M.counts tally.new }) (status_of result) }
+        (progress K.held K.faults sink.old (M.counts tally.old)) (progress K.held K.faults sink.new (M.counts tally.new)) (status_of result) }
 {
     let limit = setup.limits.session;
     let mut piece = Piece::new(setup.crew.alloc);
@@ -78,8 +78,7 @@ pub fn play_session<S: Source, K: Sink, M: Tally + Send, G: Gate + Sync, R: Thre
     ensures counts { (shelf : ℕ) → RunCounts shelf shelf (S.faults source.old) (S.faults source.new) (K.faults sink.old) (K.faults sink.new) (status_of result) }
     ensures parts { KeepsParts (M.counts tally.old) (M.counts tally.new) }
     ensures plays { Plays setup.now.limits.session session.old (S.left source.old) (S.left source.new)
-        (record { held = K.held sink.old; faults = K.faults sink.old; tally = M.counts tally.old })
-        (record { held = K.held sink.new; faults = K.faults sink.new; tally = M.counts tally.new }) (status_of result) }
+        (progress K.held K.faults sink.old (M.counts tally.old)) (progress K.held K.faults sink.new (M.counts tally.new)) (status_of result) }
 {
     let mut chunk = zeroed(setup.crew.alloc, CHUNK)?;
     play_chunks(setup, session, source, sink, tally, &mut chunk)

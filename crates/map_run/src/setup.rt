@@ -1,5 +1,6 @@
 //! What all parts of a run are handed, and none changes.
 
+use std::alloc::Global;
 use tile_workers::Crew;
 
 /// The limits of a run.
@@ -9,6 +10,13 @@ pub struct Limits {
     pub file: u64,
     /// So many bytes of a session are too many.
     pub session: u64,
+}
+
+/// What the workers of a run need: the runtime that starts their threads, memory, and the gate that is told of each job.
+pub struct Means<'a, G, R> {
+    pub rt: &'a R,
+    pub alloc: Global,
+    pub gate: &'a G,
 }
 
 /// What all parts of a run are handed, and none changes.

@@ -1,7 +1,7 @@
 //! The top call.
 ghost use Rattle.std.specs.Prelude.{◌≡◌, ◌↔◌, false, true, Some, IsTrue, IsNone, IsSome, IfSome};
 ghost use Rattle.std.specs.List.{All};
-ghost use Rattle.layer_tiles.specs.Tallies.{KeepsParts, IsUndivided, IsUndivided};
+ghost use Rattle.layer_tiles.specs.Tallies.{KeepsParts, IsUndivided};
 ghost use Rattle.map_machine.specs.Limits.{longest_file, too_many_bytes};
 ghost use Rattle.map_machine.specs.Play.{run_text, run_opening};
 ghost use Rattle.map_machine.specs.Openings.{goes_on};
@@ -15,6 +15,7 @@ ghost use Rattle.map_run.specs.Front.{WritesFront, ReadsAsWritten};
 ghost use Rattle.map_run.specs.Openings.{OpensSo};
 ghost use Rattle.map_run.specs.RunsTo.{RunsTo};
 ghost use Rattle.map_run.specs.Seen.{WhereHeld, WhereTold};
+ghost use Rattle.map_run.specs.Shown.{progress};
 ghost use Rattle.map_run.specs.Stops.{status_of};
 ghost use Rattle.map_run.specs.Taken.{EndsFor};
 ghost use Rattle.map_run.specs.Written.{IsWhole, IsQuiet, FailsAfter, taken_text};
@@ -24,7 +25,7 @@ use crate::forms::{FileWords, Form};
 use crate::opening::open_files;
 use crate::sample::run_sample;
 use crate::session::play_session;
-use crate::setup::{Limits, Setup};
+use crate::setup::{Limits, Means, Setup};
 use crate::stop::Stop;
 use crate::words::words_in;
 use layer_tiles::Tally;
@@ -57,14 +58,14 @@ fn run_files<F: Shelf, S: Source, K: Sink, M: Tally + Send, G: Gate + Sync, R: T
           left = S.left source.old;
           shelf = F.faults shelf.old;
           source = S.faults source.old;
-          progress = record { held = K.held sink.old; faults = K.faults sink.old; tally = M.counts tally.old };
+          progress = progress K.held K.faults sink.old (M.counts tally.old);
         })
         (record {
           files = F.files shelf.new;
           left = S.left source.new;
           shelf = F.faults shelf.new;
           source = S.faults source.new;
-          progress = record { held = K.held sink.new; faults = K.faults sink.new; tally = M.counts tally.new };
+          progress = progress K.held K.faults sink.new (M.counts tally.new);
         })
         (status_of result) }
 {
@@ -90,14 +91,14 @@ fn run_form<F: Shelf, S: Source, K: Sink, M: Tally + Send, G: Gate + Sync, R: Th
           left = S.left source.old;
           shelf = F.faults shelf.old;
           source = S.faults source.old;
-          progress = record { held = K.held sink.old; faults = K.faults sink.old; tally = M.counts tally.old };
+          progress = progress K.held K.faults sink.old (M.counts tally.old);
         })
         (record {
           files = F.files shelf.new;
           left = S.left source.new;
           shelf = F.faults shelf.new;
           source = S.faults source.new;
-          progress = record { held = K.held sink.new; faults = K.faults sink.new; tally = M.counts tally.new };
+          progress = progress K.held K.faults sink.new (M.counts tally.new);
         })
         (status_of result) }
 {
@@ -109,14 +110,12 @@ fn run_form<F: Shelf, S: Source, K: Sink, M: Tally + Send, G: Gate + Sync, R: Th
 
 /// A run with these limits; [`run`] is that with the program's own.
 pub fn run_within<F: Shelf, S: Source, K: Sink, M: Tally + Send, G: Gate + Sync, R: Threads + Sync>(
-    rt: &R,
-    alloc: Global,
+    means: Means<'_, G, R>,
     words: &[String],
     limits: Limits,
     shelf: &mut F,
     source: &mut S,
     sink: &mut K,
-    gate: &G,
     tally: &mut M,
 ) -> Status
     requires serves { IfSome (form_of words.now) (λ form. All (λ f. IsTrue (F.serves shelf.old f)) (files_of form)) }
@@ -128,17 +127,18 @@ pub fn run_within<F: Shelf, S: Source, K: Sink, M: Tally + Send, G: Gate + Sync,
           left = S.left source.old;
           shelf = F.faults shelf.old;
           source = S.faults source.old;
-          progress = record { held = K.held sink.old; faults = K.faults sink.old; tally = M.counts tally.old };
+          progress = progress K.held K.faults sink.old (M.counts tally.old);
         })
         (record {
           files = F.files shelf.new;
           left = S.left source.new;
           shelf = F.faults shelf.new;
           source = S.faults source.new;
-          progress = record { held = K.held sink.new; faults = K.faults sink.new; tally = M.counts tally.new };
+          progress = progress K.held K.faults sink.new (M.counts tally.new);
         })
         result }
 {
+    let Means { rt, alloc, gate } = means;
     match words_in(words) {
         Some(words) => {
             let setup = Setup {
@@ -211,5 +211,6 @@ pub fn run<F: Shelf, S: Source, K: Sink, M: Tally + Send, G: Gate + Sync, R: Thr
         file: FILE_LIMIT,
         session: SESSION_LIMIT,
     };
-    run_within(rt, alloc, words, limits, shelf, source, sink, gate, tally)
+    let means = Means { rt, alloc, gate };
+    run_within(means, words, limits, shelf, source, sink, tally)
 }

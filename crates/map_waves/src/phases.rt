@@ -14,7 +14,7 @@ use crate::jobs::Maker;
 use crate::keeping::Made;
 use crate::plans::{Base, Step};
 use crate::stops::stop_of;
-use crate::tasks::{Task, tasks_of};
+use crate::tasks::{Depth, tasks_of};
 use crate::tickets::do_jobs;
 use layer_tiles::Tally;
 use std::thread::Threads;
@@ -40,32 +40,28 @@ fn repair_tasks<'o, 'a, K: Maker + Sync, M: Tally + Send, G: Gate + Sync, R: Thr
     crew: &Crew<'_, R, G>,
     base: &Base<'a, K::Beside>,
     steps: &'o [Step<K::Op>],
-    tasks: &'o [Task<'a>],
-    first: usize,
-    end: usize,
+    depth: &Depth<'o, 'a>,
     tally: &mut M,
 ) -> Result<Vec<Option<Made<K::Beside>>>, Stop>
     requires base { IsBase base.now }
-    requires some { first < end }
-    requires tasks { AreTasks K.means K.formed K.suits base.now steps.now first end tasks.now }
+    requires some { depth.now.first < depth.now.end }
+    requires tasks { AreTasks K.means K.formed K.suits base.now steps.now depth.now.first depth.now.end depth.now.tasks.now }
     requires whole { 1 < crew.now.workers → IsUndivided (M.counts tally.old) }
-    ensures phase { IsPhase K.means K.suits base.now steps.now first end result }
-    ensures tally { let plan = plan_of K.means base.now steps.now in
+    ensures phase { IsPhase K.means K.suits base.now steps.now depth.now.first depth.now.end result }
+    ensures tally { let plan = plan_of K.means base.now steps.now in let first = depth.now.first in let end = depth.now.end in
         RisesBy (62 * (evaluated_to plan end - evaluated_to plan first)) (1000 * (worked_to plan end - worked_to plan first)) (M.counts tally.old) (M.counts tally.new) }
 {
-    let Ok(begun) = begin_all::<K, M, G, R>(crew, base, steps, tasks, tally) else {
+    let Ok(begun) = begin_all::<K, M, G, R>(crew, base, steps, depth.tasks, tally) else {
         return Err(Stop::NoMemory);
     };
     let (jobs, halted) = begun;
     let Ok(answers) = do_jobs::<K, M, G, R>(crew, &jobs, tally) else {
         return Err(Stop::NoMemory);
     };
-    if let Some(stop) = stop_of(tasks, &jobs, &answers, halted) {
+    if let Some(stop) = stop_of(depth.tasks, &jobs, &answers, halted) {
         return Err(stop);
     }
-    match finish_all::<K, M>(
-        crew.alloc, base, steps, tasks, jobs, answers, first, end, tally,
-    ) {
+    match finish_all::<K, M>(crew.alloc, base, steps, depth, jobs, answers, tally) {
         Ok(more) => Ok(more),
         Err(_) => Err(Stop::NoMemory),
     }
@@ -95,8 +91,12 @@ fn repair_phase<'a, K: Maker + Sync, M: Tally + Send, G: Gate + Sync, R: Threads
     let Ok(tasks) = tasks_of::<K>(crew.alloc, base, steps, prepared, end) else {
         return Err(Stop::NoMemory);
     };
-    let first = prepared.len();
-    repair_tasks::<K, M, G, R>(crew, &*base, steps, &tasks, first, end, tally)
+    let depth = Depth {
+        first: prepared.len(),
+        end,
+        tasks: &tasks,
+    };
+    repair_tasks::<K, M, G, R>(crew, &*base, steps, &depth, tally)
 }
 
 /// Repairs all statements, depth by depth, each depth by the workers at hand; it stops at the first depth with a fault.

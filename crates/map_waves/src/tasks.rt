@@ -21,6 +21,14 @@ pub(crate) struct Task<'a> {
     pub(crate) operands: Operands<'a>,
 }
 
+/// The statements of one depth: the places from `first` on, up to `end`, and those of them that are at work.
+#[derive(Clone, Copy)]
+pub(crate) struct Depth<'o, 'a> {
+    pub(crate) first: usize,
+    pub(crate) end: usize,
+    pub(crate) tasks: &'o [Task<'a>],
+}
+
 /// The statements of one depth that don't stay as they were. Those before them are prepared.
 pub(crate) fn tasks_of<'a, K: Maker>(
     alloc: Global,

@@ -79,10 +79,10 @@ module _ (j : StatementJobs) (is : IsSound j) where
   hit = is_hit j.size op (was_in j) j.operands
 
   right : (w : Cells) → was_in j ≡ Some w → WasRight j.size op j.operands w
-  right w e = was_right j.size op j.operands j.kept w is.right e
+  right w e = was_right j.size op j.operands j.kept w is.edited.right e
 
   all_below : (bound : ℕ) → ((t i : ℕ) → t < tiles_in j.size → hit t ≡ true → i < bound → i < cells_in j.size → tile_of j.size i ≡ t → IsFalse (is_wide (cell_at (now_in j) i))) → (i : ℕ) → i < bound → i < cells_in j.size → IsFalse (is_wide (cell_at (now_in j) i))
-  all_below bound good = narrow_below j.size (was_in j) (now_in j) hit is.size (changed_hit j.size op j.operands (was_in j) is.size right is.terms) (was_narrow j.size op j.operands (was_in j) is.size right) bound good
+  all_below bound good = narrow_below j.size (was_in j) (now_in j) hit is.size (changed_hit j.size op j.operands (was_in j) is.size right is.edited.operands_are.count) (was_narrow j.size op j.operands (was_in j) is.size right) bound good
 
   now_count : length (now_in j) ≡ cells_in j.size
   now_count = made_count j.size op (cells_after j.operands)

@@ -16,7 +16,7 @@ use Rattle.map_waves.specs.Operands.{IsOperand}
 use Rattle.map_waves.specs.Statements.{damage_by}
 use Rattle.op_jobs.specs.Classes.{is_region}
 use Rattle.op_jobs.specs.Fresh.{is_banded, AreBothCells, IsCosts, IsFlows, IsLabels, IsBand, IsPart, grounding}
-use Rattle.op_jobs.specs.Ranges.{HasRanges}
+use Rattle.op_jobs.specs.Operands.{AreOperandsOf}
 use Rattle.op_jobs.specs.Sound.{first_by}
 use Rattle.op_jobs.specs.declared.ground.BothCells.{BothCells}
 use Rattle.op_jobs.specs.declared.ground.Part.{Part}
@@ -64,12 +64,12 @@ first_least (an_own.Whole set) d = omega arith
 
 -- ---- a list for each operand
 
-pub grounded_in : (s : Size) (op : Op) (xs : List ChangeState) (n : ℕ) (ground : BothCells) (a b : ChangeState) → xs ≡ a ∷ b ∷ [] → IsTrue (is_banded op) → HasRanges op → All (IsOperand s) xs → 0 < n → n ≤ s.rows → ground.first.items ≡ a.cells → ground.second.items ≡ b.cells → length a.cells ≡ cells_in a.size
+pub grounded_in : (s : Size) (op : Op) (xs : List ChangeState) (n : ℕ) (ground : BothCells) (a b : ChangeState) → xs ≡ a ∷ b ∷ [] → IsTrue (is_banded op) → AreOperandsOf s op xs → 0 < n → n ≤ s.rows → ground.first.items ≡ a.cells → ground.second.items ≡ b.cells → length a.cells ≡ cells_in a.size
     → length b.cells ≡ cells_in b.size → AreBothCells s op xs n ground
-grounded_in s op xs n ground a b both banded formed are some few first second count count' =
-    let these : All (IsOperand s) (a ∷ b ∷ []) = subst (λ (ys : List ChangeState). All (IsOperand s) ys) both are in record {
+grounded_in s op xs n ground a b both banded are some few first second count count' =
+    let these : All (IsOperand s) (a ∷ b ∷ []) = subst (λ (ys : List ChangeState). All (IsOperand s) ys) both are.each in record {
       banded = banded;
-      formed = formed;
+      formed = are.formed;
       some = some;
       few = few;
       first = first ∙ ap (λ (ys : List ChangeState). operand (cells_after ys) 0) (sym both);

@@ -145,11 +145,11 @@ tiles_up j jobs is own = subst IsStrictlyIncreasing (sym (tile_own j jobs is own
 pub patch_is : (j : StatementJobs) (jobs : TileJobs) (k : ℕ) (patch : PatchState) → IsSound j → j.own ≡ an_own.Tiles jobs → length jobs.tiles.items ≤ k → patch.size ≡ j.size → patch.tiles ≡ numbered (tile_block j.size (now_in j)) (filter (is_changed j.size (was_in j) (now_in j)) (take k jobs.tiles.items)) → IsTilePatch j.size (was_in j) (now_in j) patch
 patch_is j jobs k patch is own l size e =
     let c = is_changed j.size (was_in j) (now_in j) in
-    let right : (w : Cells) → was_in j ≡ Some w → WasRight j.size (op_view j.op) j.operands w = λ w f. was_right j.size (op_view j.op) j.operands j.kept w is.right f in
+    let right : (w : Cells) → was_in j ≡ Some w → WasRight j.size (op_view j.op) j.operands w = λ w f. was_right j.size (op_view j.op) j.operands j.kept w is.edited.right f in
     let all : take k jobs.tiles.items ≡ damage_by j.size (op_view j.op) (was_in j) j.operands = take_all k jobs.tiles.items l ∙ (tile_own j jobs is own).tiles in
     record {
       size = size;
-      tiles = e ∙ ap (λ ts. numbered (tile_block j.size (now_in j)) (filter c ts)) all ∙ ap (numbered (tile_block j.size (now_in j))) (sym (changed_within j.size (op_view j.op) j.operands (was_in j) is.size right is.terms));
+      tiles = e ∙ ap (λ ts. numbered (tile_block j.size (now_in j)) (filter c ts)) all ∙ ap (numbered (tile_block j.size (now_in j))) (sym (changed_within j.size (op_view j.op) j.operands (was_in j) is.size right is.edited.operands_are.count));
     }
 
 -- the repaired layer

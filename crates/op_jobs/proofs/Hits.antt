@@ -16,17 +16,21 @@ use Rattle.map_defs.specs.Damage.{is_damaged, op_damage, changed_tiles, has_work
 use Rattle.map_defs.specs.Work.{op_work}
 use Rattle.layer_tiles.specs.Changes.{ChangeState, cells_before}
 use Rattle.layer_tiles.specs.Operands.{cells_after}
+use Rattle.layer_tiles.specs.Tallies.{TallyState, RisesBy}
+use Rattle.layer_tiles.proofs.Rising.{rises_within}
 use Rattle.map_waves.specs.Statements.{cells_were, made, damage_by, work_by, fault_in}
 use Rattle.map_waves.specs.Operands.{IsOperand}
 use Rattle.map_waves.specs.Keeping.{was_of, IsRightKept}
 use Rattle.map_waves.specs.declared.keeping.Kept.{Kept}
 use Rattle.op_jobs.specs.Beside.{suits}
 use Rattle.op_jobs.specs.Changed.{is_changed}
+use Rattle.op_jobs.specs.Operands.{IsEdited}
 use Rattle.op_jobs.specs.Owning.{reached_looks}
 use Rattle.op_jobs.specs.declared.beside.Beside.{Beside}
 use Rattle.op_jobs.proofs.Grids.{made_count}
 use Rattle.op_jobs.proofs.Listing.{filter_all, filter_within, range_all}
 use Rattle.op_jobs.proofs.Patching.{changed_are}
+use Rattle.op_jobs.proofs.Ranges.{terms_few}
 use Rattle.op_jobs.proofs.Ranging.{narrow_of}
 use Rattle.op_jobs.proofs.Reached.{felt_there}
 use Rattle.op_jobs.proofs.Touched.{touched_few}
@@ -78,8 +82,12 @@ pub was_right : (s : Size) (op : Op) (operands : List ChangeState) (kept : Kepts
 was_right s op operands None w is e = absurd cc
 was_right s op operands (Some k) w is e = let same : w ≡ k.layer.cells = cc in record { there = is.there; right = same ∙ is.right; faultless = is.faultless }
 
-pub found_fit : (s : Size) (op : Op) (operands : List ChangeState) (kept : Kepts) → IsRightKept suits s op operands kept → All (IsOperand s) operands → length operands ≤ 8 → reached_looks (was_of kept) operands ≤ 16 * length (damage_by s op (was_of kept) operands)
-found_fit s op operands kept right are few = reached_fit s op (was_of kept) operands are (λ w e. (was_right s op operands kept w right e).there) few
+-- the looks that finding it takes, of an edited statement
+pub found_rises : (s : Size) (op : Op) (operands : List ChangeState) (kept : Kepts) (a b : TallyState) → IsEdited s op operands kept → RisesBy (reached_looks (was_of kept) operands) 0 a b → RisesBy (26 * length (damage_by s op (was_of kept) operands)) 0 a b
+found_rises s op operands kept a b is rise =
+    let are = is.operands_are in
+    let fit = reached_fit s op (was_of kept) operands are.each (λ w e. (was_right s op operands kept w is.right e).there) (omega (arith, are.count, terms_few op are.formed)) in
+    rises_within (reached_looks (was_of kept) operands) 0 (26 * length (damage_by s op (was_of kept) operands)) 0 a b (omega (arith, fit)) (omega arith) rise
 
 module _ (s : Size) (op : Op) (operands : List ChangeState) (was : Option Cells) (size : IsSize s) (right : (w : Cells) → was ≡ Some w → WasRight s op operands w) where
   -- its cells are in range

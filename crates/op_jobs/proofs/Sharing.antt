@@ -20,6 +20,7 @@ use Rattle.map_waves.specs.Jobs.{was_in}
 use Rattle.map_waves.specs.declared.keeping.Kept.{Kept}
 use Rattle.op_jobs.specs.Beside.{suits}
 use Rattle.op_jobs.specs.Classes.{by_reach, is_plain}
+use Rattle.op_jobs.specs.Operands.{AreOperandsOf}
 use Rattle.op_jobs.specs.Owning.{reached, IsOwn, AreTileJobs}
 use Rattle.op_jobs.specs.Sound.{StatementJobs, IsSound}
 use Rattle.op_jobs.specs.declared.beside.Beside.{Beside}
@@ -27,6 +28,7 @@ use Rattle.op_jobs.specs.declared.beside.Beside.TheVariants.{Nothing}
 use Rattle.op_jobs.specs.declared.own.Own.{Own}
 use Rattle.op_jobs.specs.declared.own.Own.TheVariants as an_own
 use Rattle.op_jobs.specs.declared.own.TileJobs.{TileJobs}
+use Rattle.op_jobs.proofs.Ranges.{terms_some}
 use Rattle.op_jobs.proofs.Reached.{reached_list, all_list}
 
 -- ---- operands
@@ -34,6 +36,9 @@ use Rattle.op_jobs.proofs.Reached.{reached_list, all_list}
 pub size_is : (s : Size) (operands : List ChangeState) → 0 < length operands → All (IsOperand s) operands → size_of operands ≡ s
 size_is s [] some are = absurd (omega arith)
 size_is s (c ∷ rest) some are = (are 0 c (omega arith)).size
+
+pub extent_is : (s : Size) (op : Op) (operands : List ChangeState) → AreOperandsOf s op operands → size_of operands ≡ s
+extent_is s op operands are = size_is s operands (omega (arith, are.count, terms_some op are.formed)) are.each
 
 -- ---- what is kept
 

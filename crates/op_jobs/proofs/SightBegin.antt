@@ -8,8 +8,8 @@ use Rattle.map_defs.specs.Ops.{Term, sight_op}
 use Rattle.layer_tiles.specs.Changes.{ChangeState}
 use Rattle.layer_tiles.specs.Tallies.{TallyState, RisesBy}
 use Rattle.damage_sets.specs.Damage.{touched_in}
-use Rattle.map_waves.specs.Operands.{IsOperand}
 use Rattle.map_waves.specs.Statements.{damage_by}
+use Rattle.op_jobs.specs.Operands.{AreBoth}
 use Rattle.op_jobs.specs.Sight.{felt_tiles}
 use Rattle.op_jobs.proofs.SightDamage.{damage_felt, tiles_looks, both_looks, first_looks}
 
@@ -25,9 +25,9 @@ two_of (a ∷ b ∷ c ∷ rest) n = absurd (omega (arith, n))
 two_of (a ∷ b ∷ []) n = (a, (b, refl))
 
 -- the looks of finding the tiles, of a statement that was there
-pub felt_looks : (operands : List ChangeState) (s : Size) (r : ℕ) (k : Bool) (a b : TallyState) → length operands ≡ 2 → All (IsOperand s) operands → k ≡ true → All (λ c. IsSome c.before) operands → RisesBy (2 * touched_in operands) 0 a b → RisesBy (4 * length (felt_tiles k r s operands)) 0 a b
-felt_looks operands s r true a b n all e there h = let p = two_of operands n in tiles_looks operands p.0 p.1.0 p.1.1 s all r there a b h
-felt_looks operands s r false a b n all e there h = cc
+pub felt_looks : (operands : List ChangeState) (s : Size) (r : ℕ) (k : Bool) (a b : TallyState) → AreBoth s operands → k ≡ true → All (λ c. IsSome c.before) operands → RisesBy (2 * touched_in operands) 0 a b → RisesBy (4 * length (felt_tiles k r s operands)) 0 a b
+felt_looks operands s r true a b both e there h = let p = two_of operands both.two in tiles_looks operands p.0 p.1.0 p.1.1 s both.each r there a b h
+felt_looks operands s r false a b both e there h = cc
 
 -- ---- the looks of a beginning
 

@@ -1,6 +1,5 @@
 -- Layers that were not there, of parts.
 use Rattle.std.specs.Prelude.{◌≡◌, ℕ, suc, ◌-◌, ◌*◌, ◌<◌, ◌≤◌, List, length, Option, Some, None, Bool, true, false, IsTrue, slice_get, if◌then◌else◌}
-use Rattle.std.specs.List.{All}
 use Rattle.map_nums.specs.Grids.{Size, Cells, cells_in}
 use Rattle.map_nums.specs.Tiles.{tiles_in}
 use Rattle.map_defs.specs.Ops.{Op, zonal_op, flow_op, spread_op, region_op}
@@ -11,9 +10,9 @@ use Rattle.friction_spread.specs.Costs.{GroundState}
 use Rattle.friction_spread.specs.Bands.{ground_of, IsCostBand}
 use Rattle.drainage_flow.specs.FlowBands.{IsFlowBand}
 use Rattle.zonal_totals.specs.Ranges.{AreTileCounts}
-use Rattle.map_waves.specs.Operands.{IsOperand}
 use Rattle.region_labels.specs.Provisional.{IsLabelBand}
 use Rattle.op_jobs.specs.Classes.{is_zonal, is_region}
+use Rattle.op_jobs.specs.Operands.{AreBoth}
 use Rattle.op_jobs.specs.Parts.{part_start}
 use Rattle.op_jobs.specs.Ranges.{HasRanges}
 use Rattle.op_jobs.specs.declared.ground.BothCells.{BothCells}
@@ -52,8 +51,7 @@ pub record IsCounted (s : Size) (op : Op) (operands : List ChangeState) (n : ℕ
   pub zonal : IsTrue (is_zonal op)
   pub some : 0 < n
   pub few : n ≤ s.rows
-  pub operands_are : All (IsOperand s) operands
-  pub two : length operands ≡ 2
+  pub both : AreBoth s operands
 
 abbrev pub IsGrounded : Size → Op → List ChangeState → ℕ → Ground → Type 0
 IsGrounded s op operands n (a_ground.Cells ground) = AreBothCells s op operands n ground

@@ -1,5 +1,5 @@
 -- What the jobs of one statement share.
-use Rattle.std.specs.Prelude.{◌≡◌, ℕ, ◌*◌, true, List, length, Option, Some, None, IsTrue, IsFalse, nat_lt, replicate}
+use Rattle.std.specs.Prelude.{◌≡◌, ℕ, ◌*◌, true, List, length, Option, Some, None, Result, Ok, Err, IsTrue, IsFalse, nat_lt, replicate}
 use Rattle.map_nums.specs.Grids.{Size, Cells}
 use Rattle.map_nums.specs.Tiles.{tiles_in}
 use Rattle.map_defs.specs.Ops.{Op, terms_of}
@@ -11,7 +11,9 @@ use Rattle.damage_sets.specs.Sets.{TileSetState}
 use Rattle.damage_sets.specs.Damage.{damage_of, touched_in}
 use Rattle.local_ops.specs.Operations.{op_of, Takes}
 use Rattle.local_ops.specs.declared.ops.LocalOp.{LocalOp}
+use Rattle.map_waves.specs.Answers.{LacksJobs}
 use Rattle.map_waves.specs.Statements.{damage_by, viewers_in}
+use Rattle.map_waves.specs.declared.halts.NoJobs.{NoJobs}
 use Rattle.op_jobs.specs.Beside.{suits}
 use Rattle.op_jobs.specs.Classes.{is_local}
 use Rattle.op_jobs.specs.Kernels.{IsKernelOf}
@@ -51,6 +53,11 @@ pub record IsWholeJob (s : Size) (op : Op) (operands : List ChangeState) (was : 
 abbrev pub IsOwn : Size → Op → List ChangeState → Option Cells → Own → Type 0
 IsOwn s op operands was (Tiles jobs) = AreTileJobs s op operands was jobs
 IsOwn s op operands was (Whole set) = IsWholeJob s op operands was set
+
+-- what the jobs share, or why there are none
+abbrev pub IsOwnAnswer : Size → Op → List ChangeState → Option Cells → Result Own NoJobs → Type 0
+IsOwnAnswer s op operands was (Ok own) = IsOwn s op operands was own
+IsOwnAnswer s op operands was (Err halt) = LacksJobs s op (cells_after operands) halt
 
 -- how many jobs
 abbrev pub count_of : Own → ℕ

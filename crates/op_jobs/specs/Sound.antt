@@ -1,22 +1,17 @@
 -- The jobs of a statement that is written: what they rest on, what they read, and what they may answer.
 use Rattle.std.specs.Prelude.{◌≡◌, ℕ, ◌*◌, length, slice_index, slice_get, List, Some, Bool, true, false, Result, Ok}
-use Rattle.std.specs.List.{All}
 use Rattle.map_nums.specs.Grids.{IsSize, Cells}
-use Rattle.map_defs.specs.Ops.{terms_of}
 use Rattle.layer_tiles.specs.Operands.{cells_after}
 use Rattle.layer_tiles.specs.declared.kernels.KernelRefusal.{KernelRefusal}
 use Rattle.statement_parser.specs.Views.{op_view}
 use Rattle.statement_parser.specs.declared.op.Op.{Op}
 use Rattle.map_waves.specs.Statements.{made, damage_by, work_by}
-use Rattle.map_waves.specs.Operands.{IsOperand}
-use Rattle.map_waves.specs.Keeping.{IsRightKept}
 use Rattle.map_waves.specs.Jobs.{JobsState, was_in}
 use Rattle.map_waves.specs.declared.keeping.Made.{Made}
 use Rattle.layer_tiles.specs.Patches.{PatchState}
-use Rattle.op_jobs.specs.Beside.{suits}
+use Rattle.op_jobs.specs.Operands.{IsEdited}
 use Rattle.op_jobs.specs.Owning.{IsOwn, count_of}
 use Rattle.op_jobs.specs.Pieces.{IsTilePiece, IsWholePiece}
-use Rattle.op_jobs.specs.Ranges.{HasRanges}
 use Rattle.op_jobs.specs.declared.beside.Beside.{Beside}
 use Rattle.damage_sets.specs.Sets.{TileSetState}
 use Rattle.op_jobs.specs.Whole.{count_either}
@@ -35,10 +30,7 @@ now_in j = made j.size (op_view j.op) (cells_after j.operands)
 
 pub record IsSound (j : StatementJobs) : Type 0 where
   pub size : IsSize j.size
-  pub formed : HasRanges (op_view j.op)
-  pub terms : length j.operands ≡ length (terms_of (op_view j.op))
-  pub operands_are : All (IsOperand j.size) j.operands
-  pub right : IsRightKept suits j.size (op_view j.op) j.operands j.kept
+  pub edited : IsEdited j.size (op_view j.op) j.operands j.kept
   pub own_is : IsOwn j.size (op_view j.op) j.operands (was_in j) j.own
   pub count_is : j.count ≡ count_of j.own
 

@@ -1,9 +1,10 @@
 -- Zonal statements: the damage, the book that is kept, and what a book tells.
-use Rattle.std.specs.Prelude.{◌≡◌, ◌⊎◌, ℕ, ◌<◌, Bool, true, false, ◌||◌, List, length, filter, slice_index_or, ℤ, Option, Some, None, IsSome, Result}
+use Rattle.std.specs.Prelude.{◌≡◌, ◌≢◌, ◌⊎◌, ℕ, ◌<◌, Bool, true, false, ◌||◌, List, length, filter, slice_index_or, ℤ, Option, Some, None, IsSome, Result}
 use Rattle.std.specs.List.{All, position}
 use Rattle.std.specs.Ordering.{int_cmp}
 use Rattle.std.specs.BTreeMap as tree
 use Rattle.map_nums.specs.declared.Stat.{Stat}
+use Rattle.map_nums.specs.declared.Stat.TheVariants.{Product}
 use Rattle.map_nums.specs.declared.Wide.{Wide}
 use Rattle.map_nums.specs.Answers.{is_wide}
 use Rattle.map_nums.specs.Exact.{IsExact}
@@ -44,8 +45,10 @@ pub record CountsCells (b : BookState) : Type 0 where
 abbrev pub told : Stat → BookState → ℤ → Option ℤ
 told stat b z = statistic_of stat (numbers (part_of z b.values))
 
--- statistics of zones, each as the book tells it
+-- statistics of zones but products, each as a book of some cells tells it
 pub record AreStats (stat : Stat) (b : BookState) (m : tree.BTreeMap ℤ (Result (Option ℤ) Wide)) : Type 0 where
+  pub no_product : stat ≢ Product
+  pub counts : CountsCells b
   pub each : (z : ℤ) (r : Result (Option ℤ) Wide) → tree.get int_cmp m z ≡ Some r → IsExact (told stat b z) r
 
 -- just the tiles that are P were marked

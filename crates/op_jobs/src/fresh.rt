@@ -1,16 +1,14 @@
 //! Layers that were not there, which workers make in bands of rows.
-ghost use Rattle.std.specs.Prelude.{◌≡◌, ◌*◌, ◌<◌, ◌≤◌, length, IfOk, IsTrue};
+ghost use Rattle.std.specs.Prelude.{◌≡◌, ◌*◌, ◌<◌, ◌≤◌, IfOk, IsTrue};
 ghost use Rattle.std.specs.List.{All};
 ghost use Rattle.map_nums.specs.Tiles.{tiles_in};
 ghost use Rattle.map_defs.specs.Damage.{has_work};
-ghost use Rattle.map_defs.specs.Ops.{terms_of};
 ghost use Rattle.layer_tiles.specs.Tallies.{RisesBy};
 ghost use Rattle.statement_parser.specs.Views.{op_view};
 ghost use Rattle.map_waves.specs.Found.{AreFound};
-ghost use Rattle.map_waves.specs.Operands.{IsOperand};
 ghost use Rattle.op_jobs.specs.Fresh.{is_banded, AreBothCells, IsGrounded, IsPart};
 ghost use Rattle.op_jobs.specs.Lists.{IsListMade};
-ghost use Rattle.op_jobs.specs.Ranges.{HasRanges};
+ghost use Rattle.op_jobs.specs.Operands.{AreOperandsOf};
 
 use crate::flow_bands::{find_flows, flow_by};
 use crate::ground::{BothCells, Ground, Part};
@@ -43,10 +41,8 @@ pub(crate) fn lay<M: Tally>(
     parts: u32,
     tally: &mut M,
 ) -> Result<BothCells, NoMemory>
-    requires formed { HasRanges (op_view op.now) }
+    requires operands_are { AreOperandsOf extent (op_view op.now) operands.now }
     requires banded { IsTrue (is_banded (op_view op.now)) }
-    requires operands_are { All (IsOperand extent) operands.now }
-    requires terms { length operands.now ≡ length (terms_of (op_view op.now)) }
     requires some { 0 < parts }
     requires few { parts ≤ extent.rows }
     ensures ground { IfOk result (AreBothCells extent (op_view op.now) operands.now parts) }

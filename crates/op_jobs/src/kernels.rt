@@ -16,12 +16,12 @@ ghost use Rattle.statement_parser.specs.Formed.{IsRadius};
 ghost use Rattle.statement_parser.specs.Forms.{form_of};
 ghost use Rattle.statement_parser.specs.Views.{op_view, reach_view};
 ghost use Rattle.map_waves.specs.Statements.{made};
-ghost use Rattle.map_waves.specs.Operands.{IsOperand};
 ghost use Rattle.op_jobs.specs.Beside.{suits};
+ghost use Rattle.op_jobs.specs.Operands.{AreOperandsOf};
 ghost use Rattle.op_jobs.specs.Owning.{IsLocalOf};
 ghost use Rattle.op_jobs.specs.Ranges.{HasRanges};
 
-use crate::beside::Beside;
+use crate::own::TileJobs;
 use crate::sight_jobs::tile_of_sights;
 use crate::zonal_jobs::tile_of_zones;
 use drainage_flow::direction_tile;
@@ -192,25 +192,21 @@ fn tile_of_local<M: Tally>(
     local_tile(alloc, local, operands, tile, tally)
 }
 
-/// A tile of an operation. At most 25 looks.
+/// A tile of an operation, by what its jobs share. At most 25 looks.
 #[tactic(auto, unfolding(map_defs::specs::Operate::operate))]
 pub(crate) fn make_tile<M: Tally>(
     alloc: Global,
     op: &Op,
-    local: &Option<LocalOp>,
-    beside: &Beside,
+    own: &TileJobs,
     operands: &Operands<'_>,
     extent: Extent,
     tile: u32,
     tally: &mut M,
 ) -> Result<Tile, KernelRefusal>
-    requires formed { HasRanges (op_view op.now) }
+    requires operands_are { AreOperandsOf extent (op_view op.now) operands.now }
     requires class { IsFalse (has_work (op_view op.now)) }
-    requires local { IsLocalOf (op_view op.now) local.now }
-    requires beside { suits extent (op_view op.now) (cells_after operands.now) beside.now }
-    requires operands_are { All (IsOperand extent) operands.now }
-    requires terms { length operands.now ≡ length (terms_of (op_view op.now)) }
-    requires one_size { All (λ c. c.size ≡ extent) operands.now }
+    requires local { IsLocalOf (op_view op.now) own.now.local }
+    requires beside { suits extent (op_view op.now) (cells_after operands.now) own.now.beside }
     requires within { tile < tiles_in extent }
     ensures answer { IsTileAnswer extent (made extent (op_view op.now) (cells_after operands.now)) tile result }
     ensures tally { RisesBy 25 0 (M.counts tally.old) (M.counts tally.new) }
@@ -222,7 +218,7 @@ pub(crate) fn make_tile<M: Tally>(
         Op::Incremental { form, .. } => tile_of_form(alloc, *form, operands, extent, tile, tally),
         Op::Direction { .. } => tile_of_directions(alloc, operands, extent, tile, tally),
         Op::Zonal { stat, .. } => {
-            tile_of_zones(alloc, *stat, beside, operands, extent, tile, tally)
+            tile_of_zones(alloc, *stat, &own.beside, operands, extent, tile, tally)
         }
         Op::Sight {
             from,
@@ -235,9 +231,9 @@ pub(crate) fn make_tile<M: Tally>(
                 to: *to,
                 reach: *reach,
             };
-            tile_of_sights(alloc, sight, beside, operands, extent, tile, tally)
+            tile_of_sights(alloc, sight, &own.beside, operands, extent, tile, tally)
         }
-        _ => match local {
+        _ => match &own.local {
             Some(local) => tile_of_local(alloc, op, local, operands, extent, tile, tally),
             None => unreachable!(),
         },

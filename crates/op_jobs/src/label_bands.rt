@@ -3,16 +3,14 @@ ghost use Rattle.std.specs.Prelude.{◌≡◌, ℕ, ◌*◌, ◌<◌, ◌≤◌,
 ghost use Rattle.std.specs.List.{All};
 ghost use Rattle.map_nums.specs.Grids.{Size, Cells, cells_in};
 ghost use Rattle.map_nums.specs.Tiles.{tiles_in};
-ghost use Rattle.map_defs.specs.Ops.{terms_of};
 ghost use Rattle.layer_tiles.specs.Tallies.{RisesBy};
 ghost use Rattle.region_labels.specs.Provisional.{IsLabelList};
 ghost use Rattle.region_labels.specs.declared.bands.LabelBand.{LabelBand};
 ghost use Rattle.statement_parser.specs.Views.{op_view};
-ghost use Rattle.map_waves.specs.Operands.{IsOperand};
 ghost use Rattle.op_jobs.specs.Classes.{is_region};
 ghost use Rattle.op_jobs.specs.Fresh.{AreOnlyCells, IsLabels, IsPart};
+ghost use Rattle.op_jobs.specs.Operands.{AreOperandsOf};
 ghost use Rattle.op_jobs.specs.Parts.{part_start};
-ghost use Rattle.op_jobs.specs.Ranges.{HasRanges};
 ghost use Rattle.op_jobs.specs.declared.ground.Part.{Part};
 ghost use Rattle.op_jobs.specs.declared.ground.Part.TheVariants.{Labels};
 
@@ -35,10 +33,8 @@ pub(crate) fn lay_only<M: Tally>(
     parts: u32,
     tally: &mut M,
 ) -> Result<Vec<Cell>, NoMemory>
-    requires formed { HasRanges (op_view op.now) }
+    requires operands_are { AreOperandsOf extent (op_view op.now) operands.now }
     requires regions { IsTrue (is_region (op_view op.now)) }
-    requires operands_are { All (IsOperand extent) operands.now }
-    requires terms { length operands.now ≡ length (terms_of (op_view op.now)) }
     requires some { 0 < parts }
     requires few { parts ≤ extent.rows }
     ensures ground { IfOk result (λ cells. AreOnlyCells extent (op_view op.now) operands.now parts cells.items) }

@@ -13,8 +13,8 @@ ghost use Rattle.sight_lines.specs.Heights.{AreHeights};
 ghost use Rattle.sight_lines.specs.Puts.{sighting_of};
 ghost use Rattle.sight_lines.specs.Viewed.{viewers_of};
 ghost use Rattle.map_waves.specs.Answers.{LacksJobs};
-ghost use Rattle.map_waves.specs.Operands.{IsOperand};
 ghost use Rattle.map_waves.specs.Statements.{damage_by, made};
+ghost use Rattle.op_jobs.specs.Operands.{AreBoth};
 ghost use Rattle.op_jobs.specs.Sight.{AreRightViewers, felt_tiles};
 
 use crate::damage::{all_tiles, tiles_of};
@@ -39,8 +39,7 @@ pub(crate) fn sight_begin<M: Tally>(
     extent: Extent,
     tally: &mut M,
 ) -> Result<(Viewers, Vec<u32>), NoJobs>
-    requires two { length operands.now ≡ 2 }
-    requires operands { All (IsOperand extent) operands.now }
+    requires both { AreBoth extent operands.now }
     requires reach { reach ≤ 64 }
     requires right { IfSome kept (λ viewers. AreRightViewers extent operands.now viewers.now) }
     ensures viewers { IfOk result (λ r. r.0 ≡ viewers_of extent (operand (cells_after operands.now) 0)) }
@@ -68,8 +67,7 @@ fn viewers_after<M: Tally>(
     extent: Extent,
     tally: &mut M,
 ) -> Result<Viewers, NoJobs>
-    requires two { length operands.now ≡ 2 }
-    requires operands { All (IsOperand extent) operands.now }
+    requires both { AreBoth extent operands.now }
     requires right { IfSome kept (λ viewers. AreRightViewers extent operands.now viewers.now) }
     ensures viewers { IfOk result (λ viewers. viewers ≡ viewers_of extent (operand (cells_after operands.now) 0)) }
     ensures few { IfOk result (λ viewers. viewer_count (operand (cells_after operands.now) 0) ≤ most_viewers) }
@@ -95,8 +93,7 @@ fn felt<M: Tally>(
     extent: Extent,
     tally: &mut M,
 ) -> Result<Vec<u32>, NoMemory>
-    requires two { length operands.now ≡ 2 }
-    requires operands { All (IsOperand extent) operands.now }
+    requires both { AreBoth extent operands.now }
     requires reach { reach ≤ 64 }
     requires before { there ≡ true → All (λ c. IsSome c.before) operands.now }
     ensures tiles { IfOk result (λ tiles. tiles.items ≡ felt_tiles there reach extent operands.now) }
@@ -123,8 +120,7 @@ pub(crate) fn sight_piece<M: Tally>(
     tile: u32,
     tally: &mut M,
 ) -> Result<Tile, KernelRefusal>
-    requires two { length operands.now ≡ 2 }
-    requires operands { All (IsOperand extent) operands.now }
+    requires both { AreBoth extent operands.now }
     requires reach { sight.reach ≤ 64 }
     requires heights { AreHeights sight.from sight.to }
     requires within { tile < tiles_in extent }

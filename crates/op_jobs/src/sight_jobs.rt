@@ -1,9 +1,8 @@
 //! The jobs of sight statements: a job for each tile of the damage, over the viewers after the edit.
 ghost use Rattle.std.specs.Prelude.{◌≡◌, ◌*◌, ◌<◌, ◌≤◌, length, IfErr, IfOk, IsTrue};
-ghost use Rattle.std.specs.List.{All};
 ghost use Rattle.std.specs.Option.{option_copied};
 ghost use Rattle.map_defs.specs.Operate.{operand};
-ghost use Rattle.map_defs.specs.Ops.{Term, terms_of, sight_op};
+ghost use Rattle.map_defs.specs.Ops.{Term, sight_op};
 ghost use Rattle.layer_tiles.specs.Answers.{IsTileAnswer};
 ghost use Rattle.layer_tiles.specs.Operands.{cells_after};
 ghost use Rattle.layer_tiles.specs.Tallies.{RisesBy};
@@ -12,13 +11,12 @@ ghost use Rattle.sight_lines.specs.Heights.{AreHeights};
 ghost use Rattle.sight_lines.specs.Puts.{sighting_of};
 ghost use Rattle.statement_parser.specs.Views.{op_view};
 ghost use Rattle.map_waves.specs.Answers.{LacksJobs};
-ghost use Rattle.map_waves.specs.Keeping.{kept_now, was_of, IsRightKept};
-ghost use Rattle.map_waves.specs.Operands.{IsOperand};
+ghost use Rattle.map_waves.specs.Keeping.{kept_now, was_of};
 ghost use Rattle.map_waves.specs.Statements.{damage_by, made};
-ghost use Rattle.op_jobs.specs.Beside.{suits, kept_viewers, AreViewers};
+ghost use Rattle.op_jobs.specs.Beside.{kept_viewers, AreViewers};
 ghost use Rattle.op_jobs.specs.Classes.{is_sight};
+ghost use Rattle.op_jobs.specs.Operands.{AreBoth, IsEdited};
 ghost use Rattle.op_jobs.specs.Owning.{AreTileJobs};
-ghost use Rattle.op_jobs.specs.Ranges.{HasRanges};
 
 use crate::beside::Beside;
 use crate::own::TileJobs;
@@ -51,11 +49,8 @@ pub(crate) fn sight_jobs<M: Tally>(
     extent: Extent,
     tally: &mut M,
 ) -> Result<TileJobs, NoJobs>
-    requires formed { HasRanges (op_view op.now) }
+    requires edited { IsEdited extent (op_view op.now) operands.now (kept_now kept) }
     requires sight { IsTrue (is_sight (op_view op.now)) }
-    requires operands_are { All (IsOperand extent) operands.now }
-    requires terms { length operands.now ≡ length (terms_of (op_view op.now)) }
-    requires right { IsRightKept suits extent (op_view op.now) operands.now (kept_now kept) }
     ensures jobs { IfOk result (AreTileJobs extent (op_view op.entry.now) operands.entry.now (was_of (kept_now kept.entry))) }
     ensures halt { IfErr result (LacksJobs extent (op_view op.entry.now) (cells_after operands.entry.now)) }
     ensures looks { RisesBy (5 * length (damage_by extent (op_view op.entry.now) (was_of (kept_now kept.entry)) operands.entry.now)) 0 (M.counts tally.old) (M.counts tally.new) }
@@ -83,8 +78,7 @@ pub(crate) fn tile_of_sights<M: Tally>(
     tile: u32,
     tally: &mut M,
 ) -> Result<Tile, KernelRefusal>
-    requires two { length operands.now ≡ 2 }
-    requires operands_are { All (IsOperand extent) operands.now }
+    requires both { AreBoth extent operands.now }
     requires reach { sight.reach ≤ 64 }
     requires heights { AreHeights sight.from sight.to }
     requires within { tile < tiles_in extent }

@@ -1,22 +1,16 @@
 //! The jobs of each class of statements.
 
-ghost use Rattle.std.specs.Prelude.{◌≡◌, ◌*◌, length, None, IfOk, IfErr, IfSome, IsTrue};
-ghost use Rattle.std.specs.List.{All};
+ghost use Rattle.std.specs.Prelude.{◌≡◌, ◌*◌, length, None, IfOk, IfSome, IsTrue};
 ghost use Rattle.map_defs.specs.Damage.{has_work};
-ghost use Rattle.map_defs.specs.Ops.{terms_of};
-ghost use Rattle.layer_tiles.specs.Operands.{cells_after};
 ghost use Rattle.layer_tiles.specs.Tallies.{RisesBy};
 ghost use Rattle.statement_parser.specs.Views.{op_view};
-ghost use Rattle.map_waves.specs.Answers.{LacksJobs};
 ghost use Rattle.map_waves.specs.Found.{AreFound};
-ghost use Rattle.map_waves.specs.Keeping.{kept_now, was_of, IsRightKept};
-ghost use Rattle.map_waves.specs.Operands.{IsOperand};
-ghost use Rattle.map_waves.specs.Statements.{damage_by, work_by};
-ghost use Rattle.op_jobs.specs.Beside.{suits};
+ghost use Rattle.map_waves.specs.Keeping.{kept_now, was_of};
+ghost use Rattle.map_waves.specs.Statements.{damage_by};
 ghost use Rattle.op_jobs.specs.Fresh.{IsGrounded, IsPart};
 ghost use Rattle.op_jobs.specs.Classes.{is_plain, is_sight, is_zonal};
-ghost use Rattle.op_jobs.specs.Owning.{IsOwn, count_of};
-ghost use Rattle.op_jobs.specs.Ranges.{HasRanges};
+ghost use Rattle.op_jobs.specs.Operands.{IsEdited};
+ghost use Rattle.op_jobs.specs.Owning.{IsOwn, IsOwnAnswer, count_of};
 ghost use Rattle.op_jobs.specs.Sound.{is_whole};
 
 use crate::beside::Beside;
@@ -48,13 +42,9 @@ fn plain_own<M: Tally>(
     extent: Extent,
     tally: &mut M,
 ) -> Result<Own, NoJobs>
-    requires formed { HasRanges (op_view op.now) }
+    requires edited { IsEdited extent (op_view op.now) operands.now (kept_now kept) }
     requires plain { IsTrue (is_plain (op_view op.now)) }
-    requires operands_are { All (IsOperand extent) operands.now }
-    requires terms { length operands.now ≡ length (terms_of (op_view op.now)) }
-    requires right { IsRightKept suits extent (op_view op.now) operands.now (kept_now kept) }
-    ensures own { IfOk result (IsOwn extent (op_view op.entry.now) operands.entry.now (was_of (kept_now kept.entry))) }
-    ensures halt { IfErr result (LacksJobs extent (op_view op.entry.now) (cells_after operands.entry.now)) }
+    ensures answer { IsOwnAnswer extent (op_view op.entry.now) operands.entry.now (was_of (kept_now kept.entry)) result }
     ensures looks { RisesBy (26 * length (damage_by extent (op_view op.entry.now) (was_of (kept_now kept.entry)) operands.entry.now)) 0 (M.counts tally.old) (M.counts tally.new) }
 {
     match tile_jobs(alloc, op, operands, kept, extent, tally) {
@@ -73,14 +63,10 @@ fn zonal_own<M: Tally>(
     found: Option<(Ground, Vec<Part>)>,
     tally: &mut M,
 ) -> Result<Own, NoJobs>
-    requires formed { HasRanges (op_view op.now) }
+    requires edited { IsEdited extent (op_view op.now) operands.now (kept_now kept) }
     requires zonal { IsTrue (is_zonal (op_view op.now)) }
-    requires operands_are { All (IsOperand extent) operands.now }
-    requires terms { length operands.now ≡ length (terms_of (op_view op.now)) }
-    requires right { IsRightKept suits extent (op_view op.now) operands.now (kept_now kept) }
     requires found { IfSome found (λ q. AreFound IsGrounded IsPart extent (op_view op.now) operands.now q.0 q.1.items) }
-    ensures own { IfOk result (IsOwn extent (op_view op.entry.now) operands.entry.now (was_of (kept_now kept.entry))) }
-    ensures halt { IfErr result (LacksJobs extent (op_view op.entry.now) (cells_after operands.entry.now)) }
+    ensures answer { IsOwnAnswer extent (op_view op.entry.now) operands.entry.now (was_of (kept_now kept.entry)) result }
     ensures looks { RisesBy (26 * length (damage_by extent (op_view op.entry.now) (was_of (kept_now kept.entry)) operands.entry.now)) 0 (M.counts tally.old) (M.counts tally.new) }
 {
     match zonal_jobs(alloc, op, operands, kept, extent, found, tally) {
@@ -98,13 +84,9 @@ fn sight_own<M: Tally>(
     extent: Extent,
     tally: &mut M,
 ) -> Result<Own, NoJobs>
-    requires formed { HasRanges (op_view op.now) }
+    requires edited { IsEdited extent (op_view op.now) operands.now (kept_now kept) }
     requires sight { IsTrue (is_sight (op_view op.now)) }
-    requires operands_are { All (IsOperand extent) operands.now }
-    requires terms { length operands.now ≡ length (terms_of (op_view op.now)) }
-    requires right { IsRightKept suits extent (op_view op.now) operands.now (kept_now kept) }
-    ensures own { IfOk result (IsOwn extent (op_view op.entry.now) operands.entry.now (was_of (kept_now kept.entry))) }
-    ensures halt { IfErr result (LacksJobs extent (op_view op.entry.now) (cells_after operands.entry.now)) }
+    ensures answer { IsOwnAnswer extent (op_view op.entry.now) operands.entry.now (was_of (kept_now kept.entry)) result }
     ensures looks { RisesBy (26 * length (damage_by extent (op_view op.entry.now) (was_of (kept_now kept.entry)) operands.entry.now)) 0 (M.counts tally.old) (M.counts tally.new) }
 {
     match sight_jobs(alloc, op, operands, kept, extent, tally) {
@@ -147,14 +129,10 @@ fn whole_own<M: Tally>(
     found: Option<(Ground, Vec<Part>)>,
     tally: &mut M,
 ) -> Result<Own, NoJobs>
-    requires formed { HasRanges (op_view op.now) }
+    requires edited { IsEdited extent (op_view op.now) operands.now (kept_now kept) }
     requires class { IsTrue (has_work (op_view op.now)) }
-    requires operands_are { All (IsOperand extent) operands.now }
-    requires terms { length operands.now ≡ length (terms_of (op_view op.now)) }
-    requires right { IsRightKept suits extent (op_view op.now) operands.now (kept_now kept) }
     requires found { IfSome found (λ q. AreFound IsGrounded IsPart extent (op_view op.now) operands.now q.0 q.1.items) }
-    ensures own { IfOk result (IsOwn extent (op_view op.entry.now) operands.entry.now (was_of (kept_now kept.entry))) }
-    ensures halt { IfErr result (LacksJobs extent (op_view op.entry.now) (cells_after operands.entry.now)) }
+    ensures answer { IsOwnAnswer extent (op_view op.entry.now) operands.entry.now (was_of (kept_now kept.entry)) result }
     ensures looks { RisesBy (26 * length (damage_by extent (op_view op.entry.now) (was_of (kept_now kept.entry)) operands.entry.now)) 0 (M.counts tally.old) (M.counts tally.new) }
 {
     if kept.is_none() {
@@ -181,13 +159,9 @@ fn own_of<M: Tally>(
     found: Option<(Ground, Vec<Part>)>,
     tally: &mut M,
 ) -> Result<Own, NoJobs>
-    requires formed { HasRanges (op_view op.now) }
-    requires operands_are { All (IsOperand extent) operands.now }
-    requires terms { length operands.now ≡ length (terms_of (op_view op.now)) }
-    requires right { IsRightKept suits extent (op_view op.now) operands.now (kept_now kept) }
+    requires edited { IsEdited extent (op_view op.now) operands.now (kept_now kept) }
     requires found { IfSome found (λ q. AreFound IsGrounded IsPart extent (op_view op.now) operands.now q.0 q.1.items) }
-    ensures own { IfOk result (IsOwn extent (op_view op.entry.now) operands.entry.now (was_of (kept_now kept.entry))) }
-    ensures halt { IfErr result (LacksJobs extent (op_view op.entry.now) (cells_after operands.entry.now)) }
+    ensures answer { IsOwnAnswer extent (op_view op.entry.now) operands.entry.now (was_of (kept_now kept.entry)) result }
     ensures looks { RisesBy (26 * length (damage_by extent (op_view op.entry.now) (was_of (kept_now kept.entry)) operands.entry.now)) 0 (M.counts tally.old) (M.counts tally.new) }
 {
     match op {

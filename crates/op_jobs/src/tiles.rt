@@ -1,7 +1,5 @@
 //! Statements that are repaired tile by tile: a job for each tile of the damage.
 ghost use Rattle.std.specs.Prelude.{◌≡◌, ◌^◌, ◌<◌, ◌++◌, length, slice_index, IfOk, IfSome, IsTrue, OnOk};
-ghost use Rattle.std.specs.List.{All};
-ghost use Rattle.map_defs.specs.Ops.{terms_of};
 ghost use Rattle.layer_tiles.specs.Answers.{IsTileAnswer};
 ghost use Rattle.layer_tiles.specs.Patches.{IsAboveLast};
 ghost use Rattle.layer_tiles.specs.Tallies.{RisesBy};
@@ -9,14 +7,13 @@ ghost use Rattle.layer_tiles.specs.Tiles.{tiles_in};
 ghost use Rattle.statement_parser.specs.Views.{op_view};
 ghost use Rattle.map_waves.specs.Gathered.{IsRepaired};
 ghost use Rattle.map_waves.specs.Jobs.{was_in};
-ghost use Rattle.map_waves.specs.Keeping.{kept_now, was_of, IsRightKept};
-ghost use Rattle.map_waves.specs.Operands.{IsOperand};
+ghost use Rattle.map_waves.specs.Keeping.{kept_now, was_of};
 ghost use Rattle.op_jobs.specs.Beside.{suits};
 ghost use Rattle.op_jobs.specs.Classes.{is_plain};
+ghost use Rattle.op_jobs.specs.Operands.{IsEdited};
 ghost use Rattle.op_jobs.specs.Others.{IsOther};
 ghost use Rattle.op_jobs.specs.Owning.{AreTileJobs, reached_looks, count_of};
 ghost use Rattle.op_jobs.specs.Pieces.{IsTilePiece, IsTilePatch, FitsTile, tiles_at};
-ghost use Rattle.op_jobs.specs.Ranges.{HasRanges};
 ghost use Rattle.op_jobs.specs.Sound.{IsSound, now_in, ArePieces, are_tiles, IsMadeOf};
 ghost use Rattle.op_jobs.specs.declared.own.Own.TheVariants.{Tiles};
 
@@ -41,11 +38,8 @@ pub(crate) fn tile_jobs<M: Tally>(
     extent: Extent,
     tally: &mut M,
 ) -> Result<TileJobs, NoMemory>
-    requires formed { HasRanges (op_view op.now) }
+    requires edited { IsEdited extent (op_view op.now) operands.now (kept_now kept) }
     requires plain { IsTrue (is_plain (op_view op.now)) }
-    requires operands_are { All (IsOperand extent) operands.now }
-    requires terms { length operands.now ≡ length (terms_of (op_view op.now)) }
-    requires right { IsRightKept suits extent (op_view op.now) operands.now (kept_now kept) }
     ensures jobs { IfOk result (AreTileJobs extent (op_view op.entry.now) operands.entry.now (was_of (kept_now kept.entry))) }
     ensures looks { RisesBy (reached_looks (was_of (kept_now kept.entry)) operands.entry.now) 0 (M.counts tally.old) (M.counts tally.new) }
 {
@@ -98,16 +92,7 @@ fn tile_by<M: Tally>(
     if let Some(list) = &own.list {
         return list_tile(alloc, jobs.extent, tile, list);
     }
-    make_tile(
-        alloc,
-        jobs.op,
-        &own.local,
-        &own.beside,
-        jobs.operands,
-        jobs.extent,
-        tile,
-        tally,
-    )
+    make_tile(alloc, jobs.op, own, jobs.operands, jobs.extent, tile, tally)
 }
 
 /// Makes the tile of a job, at most 25 looks, and looks at the kept one.

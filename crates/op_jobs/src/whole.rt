@@ -1,16 +1,13 @@
 //! Statements that one job repairs whole: flow, spreading, regions.
 ghost use Rattle.std.specs.Prelude.{◌≡◌, ◌*◌, ◌∷◌, [], length, IsTrue};
-ghost use Rattle.std.specs.List.{All};
 ghost use Rattle.std.specs.Option.{option_copied};
 ghost use Rattle.map_defs.specs.Damage.{has_work};
-ghost use Rattle.map_defs.specs.Ops.{terms_of};
 ghost use Rattle.layer_tiles.specs.Operands.{size_of};
 ghost use Rattle.layer_tiles.specs.Tallies.{RisesBy};
 ghost use Rattle.tile_work.specs.Working.{before_of};
 ghost use Rattle.statement_parser.specs.Views.{op_view};
-ghost use Rattle.map_waves.specs.Operands.{IsOperand};
 ghost use Rattle.map_waves.specs.Statements.{damage_by, work_by};
-ghost use Rattle.op_jobs.specs.Ranges.{HasRanges};
+ghost use Rattle.op_jobs.specs.Operands.{AreOperandsOf};
 ghost use Rattle.op_jobs.specs.Whole.{IsRightBefore, IsWholeAnswer};
 
 use crate::whole_flow::repair_flow;
@@ -58,10 +55,8 @@ pub(crate) fn repair_whole<M: Tally>(
     old: Option<&Layer>,
     tally: &mut M,
 ) -> Result<(Patch, u64), KernelRefusal>
-    requires formed { HasRanges (op_view op.now) }
+    requires operands_are { AreOperandsOf (size_of operands.now) (op_view op.now) operands.now }
     requires works { IsTrue (has_work (op_view op.now)) }
-    requires terms { length operands.now ≡ length (terms_of (op_view op.now)) }
-    requires operands { All (IsOperand (size_of operands.now)) operands.now }
     requires right { IsRightBefore (size_of operands.now) (op_view op.now) operands.now (option_copied old) }
     ensures answer { IsWholeAnswer (size_of operands.now) (op_view op.now) (before_of (option_copied old.entry)) operands.now result }
     ensures tally { RisesBy (32 * length (damage_by (size_of operands.now) (op_view op.now) (before_of (option_copied old.entry)) operands.now)) (1000 * work_by (size_of operands.now) (op_view op.now) (before_of (option_copied old.entry)) operands.now) (M.counts tally.old) (M.counts tally.new) }

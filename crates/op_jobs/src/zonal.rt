@@ -1,6 +1,5 @@
 //! Zonal statements: their damage, and the book that is kept beside their layer.
 ghost use Rattle.std.specs.Prelude.{◌≡◌, ◌≢◌, ◌*◌, ◌<◌, length, is_some, Option, IfOk, IfSome};
-ghost use Rattle.std.specs.List.{All};
 ghost use Rattle.map_nums.specs.Grids.{Cells};
 ghost use Rattle.map_defs.specs.Ops.{Term, zonal_op};
 ghost use Rattle.map_defs.specs.Operate.{operand};
@@ -9,9 +8,9 @@ ghost use Rattle.layer_tiles.specs.Answers.{IsTileAnswer};
 ghost use Rattle.layer_tiles.specs.Operands.{cells_after};
 ghost use Rattle.layer_tiles.specs.Tallies.{RisesBy};
 ghost use Rattle.zonal_totals.specs.Books.{IsBookOf};
-ghost use Rattle.map_waves.specs.Operands.{IsOperand};
 ghost use Rattle.map_waves.specs.Statements.{damage_by, made};
 ghost use Rattle.op_jobs.specs.Fresh.{AreAllCounts};
+ghost use Rattle.op_jobs.specs.Operands.{AreBoth};
 ghost use Rattle.op_jobs.specs.Zonal.{IsRightBook, zonal_tiles};
 
 use crate::damage::{all_tiles, tiles_of};
@@ -36,8 +35,7 @@ pub(crate) fn zonal_begin<M: Tally>(
     found: Option<(Ground, Vec<Part>)>,
     tally: &mut M,
 ) -> Result<(Book, Vec<u32>), NoMemory>
-    requires two { length operands.now ≡ 2 }
-    requires operands { All (IsOperand extent) operands.now }
+    requires both { AreBoth extent operands.now }
     requires found { IfSome found (λ q. AreAllCounts extent (operand (cells_after operands.now) 0) (operand (cells_after operands.now) 1) q.1.items) }
     requires no_product { stat ≢ Stat.Product }
     requires right { IfSome kept (λ book. IsRightBook stat extent operands.now book.now) }
@@ -60,8 +58,7 @@ fn fresh_book<M: Tally>(
     found: Option<(Ground, Vec<Part>)>,
     tally: &mut M,
 ) -> Result<Book, NoMemory>
-    requires two { length operands.now ≡ 2 }
-    requires operands { All (IsOperand extent) operands.now }
+    requires both { AreBoth extent operands.now }
     requires found { IfSome found (λ q. AreAllCounts extent (operand (cells_after operands.now) 0) (operand (cells_after operands.now) 1) q.1.items) }
     ensures size { IfOk result (λ book. book.size ≡ extent) }
     ensures book { IfOk result (λ book. IsBookOf book (operand (cells_after operands.now) 0) (operand (cells_after operands.now) 1)) }
@@ -89,8 +86,7 @@ fn first_book<M: Tally>(
     found: Option<(Ground, Vec<Part>)>,
     tally: &mut M,
 ) -> Result<(Book, Vec<u32>), NoMemory>
-    requires two { length operands.now ≡ 2 }
-    requires operands { All (IsOperand extent) operands.now }
+    requires both { AreBoth extent operands.now }
     requires found { IfSome found (λ q. AreAllCounts extent (operand (cells_after operands.now) 0) (operand (cells_after operands.now) 1) q.1.items) }
     ensures size { IfOk result (λ r. r.0.size ≡ extent) }
     ensures book { IfOk result (λ r. IsBookOf r.0 (operand (cells_after operands.now) 0) (operand (cells_after operands.now) 1)) }
@@ -110,8 +106,7 @@ fn changed_book<M: Tally>(
     book: &Book,
     tally: &mut M,
 ) -> Result<(Book, Vec<u32>), NoMemory>
-    requires two { length operands.now ≡ 2 }
-    requires operands { All (IsOperand book.now.size) operands.now }
+    requires both { AreBoth book.now.size operands.now }
     requires no_product { stat ≢ Stat.Product }
     requires right { IsRightBook stat book.now.size operands.now book.now }
     ensures size { IfOk result (λ r. r.0.size ≡ book.now.size) }
@@ -146,8 +141,7 @@ pub(crate) fn zonal_piece<M: Tally>(
     tile: u32,
     tally: &mut M,
 ) -> Result<Tile, KernelRefusal>
-    requires two { length operands.now ≡ 2 }
-    requires operands { All (IsOperand extent) operands.now }
+    requires both { AreBoth extent operands.now }
     requires no_product { stat ≢ Stat.Product }
     requires within { tile < tiles_in extent }
     requires size { book.now.size ≡ extent }

@@ -1,23 +1,21 @@
 //! The jobs of Zonal statements: a job for each tile of the damage, over the book after the edit.
 ghost use Rattle.std.specs.Prelude.{◌≡◌, ◌≢◌, ◌*◌, ◌<◌, length, IfOk, IfSome, IsTrue};
-ghost use Rattle.std.specs.List.{All};
 ghost use Rattle.std.specs.Option.{option_copied};
 ghost use Rattle.map_defs.specs.Operate.{operand};
-ghost use Rattle.map_defs.specs.Ops.{Term, terms_of, zonal_op};
+ghost use Rattle.map_defs.specs.Ops.{Term, zonal_op};
 ghost use Rattle.layer_tiles.specs.Answers.{IsTileAnswer};
 ghost use Rattle.layer_tiles.specs.Operands.{cells_after};
 ghost use Rattle.layer_tiles.specs.Tallies.{RisesBy};
 ghost use Rattle.layer_tiles.specs.Tiles.{tiles_in};
 ghost use Rattle.statement_parser.specs.Views.{op_view};
 ghost use Rattle.map_waves.specs.Found.{AreFound};
-ghost use Rattle.map_waves.specs.Keeping.{kept_now, was_of, IsRightKept};
-ghost use Rattle.map_waves.specs.Operands.{IsOperand};
+ghost use Rattle.map_waves.specs.Keeping.{kept_now, was_of};
 ghost use Rattle.map_waves.specs.Statements.{damage_by, made};
-ghost use Rattle.op_jobs.specs.Beside.{suits, book_in, IsBook};
+ghost use Rattle.op_jobs.specs.Beside.{book_in, IsBook};
 ghost use Rattle.op_jobs.specs.Classes.{is_zonal};
 ghost use Rattle.op_jobs.specs.Fresh.{IsGrounded, IsPart};
+ghost use Rattle.op_jobs.specs.Operands.{AreBoth, IsEdited};
 ghost use Rattle.op_jobs.specs.Owning.{AreTileJobs};
-ghost use Rattle.op_jobs.specs.Ranges.{HasRanges};
 
 use crate::beside::Beside;
 use crate::ground::{Ground, Part};
@@ -53,11 +51,8 @@ pub(crate) fn zonal_jobs<M: Tally>(
     found: Option<(Ground, Vec<Part>)>,
     tally: &mut M,
 ) -> Result<TileJobs, NoMemory>
-    requires formed { HasRanges (op_view op.now) }
+    requires edited { IsEdited extent (op_view op.now) operands.now (kept_now kept) }
     requires zonal { IsTrue (is_zonal (op_view op.now)) }
-    requires operands_are { All (IsOperand extent) operands.now }
-    requires terms { length operands.now ≡ length (terms_of (op_view op.now)) }
-    requires right { IsRightKept suits extent (op_view op.now) operands.now (kept_now kept) }
     requires found { IfSome found (λ q. AreFound IsGrounded IsPart extent (op_view op.now) operands.now q.0 q.1.items) }
     ensures jobs { IfOk result (AreTileJobs extent (op_view op.entry.now) operands.entry.now (was_of (kept_now kept.entry))) }
     ensures looks { RisesBy (8 * length (damage_by extent (op_view op.entry.now) (was_of (kept_now kept.entry)) operands.entry.now)) 0 (M.counts tally.old) (M.counts tally.new) }
@@ -85,8 +80,7 @@ pub(crate) fn tile_of_zones<M: Tally>(
     tile: u32,
     tally: &mut M,
 ) -> Result<Tile, KernelRefusal>
-    requires two { length operands.now ≡ 2 }
-    requires operands_are { All (IsOperand extent) operands.now }
+    requires both { AreBoth extent operands.now }
     requires no_product { stat ≢ Stat.Product }
     requires within { tile < tiles_in extent }
     requires beside { IsBook extent (operand (cells_after operands.now) 0) (operand (cells_after operands.now) 1) beside.now }

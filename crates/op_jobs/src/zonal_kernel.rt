@@ -63,8 +63,6 @@ fn tile_of_zones(
     requires within { tile < tiles_in extent }
     requires height { view.now.height ≡ tile_height extent tile }
     requires width { view.now.width ≡ tile_width extent tile }
-    requires no_product { stat ≢ Stat.Product }
-    requires counts { CountsCells book.now }
     requires stats { AreStats stat book.now known.now }
     ensures { IsPlacesAnswer (by_row (tile_width extent tile) (λ r c. option_and_then (told stat book.now) (cell_at (block_row view.now r) c))) extent tile result }
 {
@@ -87,15 +85,14 @@ struct ZonalTile<'a, 'b> {
 }
 
 impl<'a, 'b> TileMaker for ZonalTile<'a, 'b> {
-    ghost use Rattle.std.specs.Prelude.{◌≡◌, ◌≢◌, option_and_then};
-    ghost use Rattle.map_nums.specs.declared.Stat.TheVariants.{Product};
+    ghost use Rattle.std.specs.Prelude.{◌≡◌, option_and_then};
     ghost use Rattle.map_nums.specs.Grids.{cell_at};
     ghost use Rattle.layer_tiles.specs.Tiles.{tile_height, tile_width, block_row};
-    ghost use Rattle.op_jobs.specs.Zonal.{CountsCells, AreStats, told};
+    ghost use Rattle.op_jobs.specs.Zonal.{AreStats, told};
 
     ghost value = { λ m r c. option_and_then (told m.stat m.book.now) (cell_at (block_row m.view.now r) c) };
 
-    ghost makes = { λ m s t. (m.view.now.height ≡ tile_height s t) × (m.view.now.width ≡ tile_width s t) × (m.stat ≢ Product) × CountsCells m.book.now × AreStats m.stat m.book.now m.known.now };
+    ghost makes = { λ m s t. (m.view.now.height ≡ tile_height s t) × (m.view.now.width ≡ tile_width s t) × AreStats m.stat m.book.now m.known.now };
 
     fn row(&self, extent: Extent, tile: u32, r: u32, made: &mut Tile) -> Result<(), KernelRefusal> {
         let maker = ZonalRow {
@@ -118,14 +115,13 @@ struct ZonalRow<'a> {
 }
 
 impl<'a> RowMaker for ZonalRow<'a> {
-    ghost use Rattle.std.specs.Prelude.{◌≢◌, ◌<◌, length, option_and_then};
-    ghost use Rattle.map_nums.specs.declared.Stat.TheVariants.{Product};
+    ghost use Rattle.std.specs.Prelude.{◌<◌, length, option_and_then};
     ghost use Rattle.map_nums.specs.Grids.{cell_at};
-    ghost use Rattle.op_jobs.specs.Zonal.{CountsCells, AreStats, told};
+    ghost use Rattle.op_jobs.specs.Zonal.{AreStats, told};
 
     ghost value = { λ m c. option_and_then (told m.stat m.book.now) (cell_at m.cells.now c) };
 
-    ghost has = { λ m c. (c < length m.cells.now) × (m.stat ≢ Product) × CountsCells m.book.now × AreStats m.stat m.book.now m.known.now };
+    ghost has = { λ m c. (c < length m.cells.now) × AreStats m.stat m.book.now m.known.now };
 
     fn value_at(&self, c: u32) -> Result<Option<Value>, Wide> {
         match self.cells[c as usize].get() {
@@ -150,8 +146,6 @@ fn stats_of(alloc: Global, stat: Stat, book: &Book, view: &TileView<'_>) -> Resu
 
 /// Adds the statistics of the zones of a row.
 fn add_stats(stat: Stat, book: &Book, row: &[Cell], known: &mut Stats) -> Result<(), NoMemory>
-    requires no_product { stat ≢ Stat.Product }
-    requires counts { CountsCells book.now }
     requires stats { AreStats stat book.now known.old }
     ensures { IfOk result (λ done. AreStats stat book.now known.new) }
 {
@@ -168,8 +162,6 @@ fn add_stats(stat: Stat, book: &Book, row: &[Cell], known: &mut Stats) -> Result
 
 /// Adds the statistic of a zone, where it is not known.
 fn add_stat(stat: Stat, book: &Book, zone: Option<Value>, known: &mut Stats) -> Result<(), NoMemory>
-    requires no_product { stat ≢ Stat.Product }
-    requires counts { CountsCells book.now }
     requires stats { AreStats stat book.now known.old }
     ensures { IfOk result (λ done. AreStats stat book.now known.new) }
 {
@@ -185,8 +177,6 @@ fn add_stat(stat: Stat, book: &Book, zone: Option<Value>, known: &mut Stats) -> 
 
 /// The statistic of a zone, from the known ones or from the book.
 fn known_stat(stat: Stat, book: &Book, known: &Stats, zone: Value) -> Result<Option<Value>, Wide>
-    requires no_product { stat ≢ Stat.Product }
-    requires counts { CountsCells book.now }
     requires stats { AreStats stat book.now known.now }
     ensures { IsExact (told stat book.now zone) result }
 {

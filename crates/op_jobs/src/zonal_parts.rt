@@ -1,6 +1,5 @@
 //! The book of a Zonal statement that was not there, counted by workers in parts of its tiles.
 ghost use Rattle.std.specs.Prelude.{◌≡◌, ℕ, suc, ◌-◌, ◌*◌, ◌<◌, ◌≤◌, length, Some, slice_get, IfOk};
-ghost use Rattle.std.specs.List.{All};
 ghost use Rattle.map_nums.specs.Grids.{Size, Cells};
 ghost use Rattle.map_nums.specs.Tiles.{tiles_in};
 ghost use Rattle.map_defs.specs.Operate.{operand};
@@ -8,8 +7,8 @@ ghost use Rattle.layer_tiles.specs.Operands.{cells_after};
 ghost use Rattle.layer_tiles.specs.Tallies.{RisesBy};
 ghost use Rattle.zonal_totals.specs.Books.{IsBookOf};
 ghost use Rattle.zonal_totals.specs.Ranges.{CountsState};
-ghost use Rattle.map_waves.specs.Operands.{IsOperand};
 ghost use Rattle.op_jobs.specs.Fresh.{IsCounts, AreAllCounts};
+ghost use Rattle.op_jobs.specs.Operands.{AreBoth};
 ghost use Rattle.op_jobs.specs.Parts.{part_start};
 ghost use Rattle.op_jobs.specs.declared.ground.Part.{Part};
 ghost use Rattle.op_jobs.specs.declared.ground.Part.TheVariants.{Counts};
@@ -31,8 +30,7 @@ pub(crate) fn count_part<M: Tally>(
     k: u64,
     tally: &mut M,
 ) -> Result<Part, NoMemory>
-    requires two { length operands.now ≡ 2 }
-    requires operands { All (IsOperand extent) operands.now }
+    requires both { AreBoth extent operands.now }
     requires few { count ≤ extent.rows }
     requires below { k < count }
     ensures counts { IfOk result (IsCounts extent (operand (cells_after operands.now) 0) (operand (cells_after operands.now) 1) count k) }

@@ -17,6 +17,13 @@ use map_words::Name;
 use statement_parser::{Procedure, Term, Written, terms_with};
 use std::alloc::Global;
 
+/// What calls are expanded within: the procedures that they may name, and memory.
+#[derive(Clone, Copy)]
+pub(crate) struct Scope<'a> {
+    pub alloc: Global,
+    pub procedures: &'a [Procedure],
+}
+
 /// The first procedure of the name.
 pub(crate) fn find_in<'a>(procedures: &'a [Procedure], name: &Name) -> Option<&'a Procedure>
     ensures { option_map procedure_view (option_copied result) ≡ find_procedure (procedures_view procedures.now) name.now }
@@ -50,8 +57,7 @@ fn inner_name(alloc: Global, name: &Name, longer: &Name, inner: &Name) -> Result
 
 #[cycle(expansion)]
 fn expand_inner(
-    alloc: Global,
-    procedures: &[Procedure],
+    scope: &Scope<'_>,
     depth: usize,
     bindings: &Bindings,
     name: Name,
@@ -59,36 +65,26 @@ fn expand_inner(
     written: &Written,
     out: &mut Vec<Flat>,
 ) -> Result<(), ExpandRefusal>
-    requires short { HaveShortNames (procedures_view procedures.now) }
+    requires short { HaveShortNames (procedures_view scope.now.procedures.now) }
     requires prefix { IsPrefix depth prefix.now }
     requires few { length (flats_view out.old.items) ≤ most_flats }
-    ensures { Gives (flats_view out.new.items) (both_flats (Ok (flats_view out.old.items)) (inner_flats (call_flats depth (procedures_view procedures.now)) (bound_view bindings.now) name prefix.now (written_view written.now))) result }
+    ensures { Gives (flats_view out.new.items) (both_flats (Ok (flats_view out.old.items)) (inner_flats (call_flats depth (procedures_view scope.now.procedures.now)) (bound_view bindings.now) name prefix.now (written_view written.now))) result }
 {
     match written {
         Written::Plain(op) => {
-            let op = op.with_terms(alloc, bindings)?;
+            let op = op.with_terms(scope.alloc, bindings)?;
             put(out, Flat { name, op })
         }
         Written::Call { procedure, given } => {
-            let terms = terms_with(alloc, bindings, given.as_slice())?;
-            expand_call(
-                alloc,
-                procedures,
-                depth,
-                name,
-                prefix,
-                procedure,
-                terms.as_slice(),
-                out,
-            )
+            let terms = terms_with(scope.alloc, bindings, given.as_slice())?;
+            expand_call(scope, depth, name, prefix, procedure, terms.as_slice(), out)
         }
     }
 }
 
 #[cycle(expansion)]
 fn expand_body(
-    alloc: Global,
-    procedures: &[Procedure],
+    scope: &Scope<'_>,
     depth: usize,
     name: &Name,
     prefix: &Name,
@@ -96,28 +92,25 @@ fn expand_body(
     body: &[(Name, Written)],
     out: &mut Vec<Flat>,
 ) -> Result<(), ExpandRefusal>
-    requires short { HaveShortNames (procedures_view procedures.now) }
+    requires short { HaveShortNames (procedures_view scope.now.procedures.now) }
     requires body { AreShort (body_view body.now) }
     requires prefix { IsPrefix (depth + 1) prefix.now }
     requires few { length (flats_view out.old.items) ≤ most_flats }
-    ensures { Gives (flats_view out.new.items) (both_flats (Ok (flats_view out.old.items)) (body_flats (call_flats depth (procedures_view procedures.now)) name.now prefix.now (bound_view bindings) (body_view body.now))) result }
+    ensures { Gives (flats_view out.new.items) (both_flats (Ok (flats_view out.old.items)) (body_flats (call_flats depth (procedures_view scope.now.procedures.now)) name.now prefix.now (bound_view bindings) (body_view body.now))) result }
 {
     for inner in body {
-        let longer = prefix.join(alloc, &inner.0)?;
-        let own = inner_name(alloc, name, &longer, &inner.0)?;
-        let meant = own.copy(alloc)?;
-        expand_inner(
-            alloc, procedures, depth, &bindings, own, &longer, &inner.1, out,
-        )?;
-        bindings.bind(inner.0.copy(alloc)?, Term::Layer(meant))?;
+        let longer = prefix.join(scope.alloc, &inner.0)?;
+        let own = inner_name(scope.alloc, name, &longer, &inner.0)?;
+        let meant = own.copy(scope.alloc)?;
+        expand_inner(scope, depth, &bindings, own, &longer, &inner.1, out)?;
+        bindings.bind(inner.0.copy(scope.alloc)?, Term::Layer(meant))?;
     }
     Ok(())
 }
 
 #[cycle(expansion)]
 pub(crate) fn expand_call(
-    alloc: Global,
-    procedures: &[Procedure],
+    scope: &Scope<'_>,
     depth: usize,
     name: Name,
     prefix: &Name,
@@ -125,25 +118,24 @@ pub(crate) fn expand_call(
     given: &[Term],
     out: &mut Vec<Flat>,
 ) -> Result<(), ExpandRefusal>
-    requires short { HaveShortNames (procedures_view procedures.now) }
+    requires short { HaveShortNames (procedures_view scope.now.procedures.now) }
     requires prefix { IsPrefix depth prefix.now }
     requires few { length (flats_view out.old.items) ≤ most_flats }
-    ensures { Gives (flats_view out.new.items) (both_flats (Ok (flats_view out.old.items)) (call_flats depth (procedures_view procedures.now) name prefix.now called.now (terms_view given.now))) result }
+    ensures { Gives (flats_view out.new.items) (both_flats (Ok (flats_view out.old.items)) (call_flats depth (procedures_view scope.now.procedures.now) name prefix.now called.now (terms_view given.now))) result }
 {
     if depth == 0 {
-        return Err(ExpandRefusal::Unknown(called.copy(alloc)?));
+        return Err(ExpandRefusal::Unknown(called.copy(scope.alloc)?));
     }
-    let procedure = match find_in(procedures, called) {
-        None => return Err(ExpandRefusal::Unknown(called.copy(alloc)?)),
+    let procedure = match find_in(scope.procedures, called) {
+        None => return Err(ExpandRefusal::Unknown(called.copy(scope.alloc)?)),
         Some(procedure) => procedure,
     };
     if given.len() != procedure.takes.len() {
         return Err(ExpandRefusal::Count(given.len() as u64, procedure.takes.len() as u64));
     }
-    let bindings = Bindings::given(alloc, procedure.takes.as_slice(), given)?;
+    let bindings = Bindings::given(scope.alloc, procedure.takes.as_slice(), given)?;
     expand_body(
-        alloc,
-        procedures,
+        scope,
         depth - 1,
         &name,
         prefix,

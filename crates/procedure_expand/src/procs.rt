@@ -12,7 +12,7 @@ ghost use Rattle.procedure_expand.specs.Flats.{flats_view};
 ghost use Rattle.procedure_expand.specs.Answers.{Gives, Finds, IsExpanded, IsRefused, IsPrefix, most_flats};
 
 use crate::checking::{check_body, check_written};
-use crate::expansion::{expand_call, find_in};
+use crate::expansion::{Scope, expand_call, find_in};
 use crate::flat::{Flat, put};
 use crate::refusal::ExpandRefusal;
 use map_nums::NoMemory;
@@ -135,16 +135,18 @@ fn put_written(
             let op = op.copy(alloc)?;
             put(out, Flat { name: own, op })
         }
-        Written::Call { procedure, given } => expand_call(
-            alloc,
-            procedures,
-            procedures.len(),
-            own,
-            name,
-            procedure,
-            given.as_slice(),
-            out,
-        ),
+        Written::Call { procedure, given } => {
+            let scope = Scope { alloc, procedures };
+            expand_call(
+                &scope,
+                procedures.len(),
+                own,
+                name,
+                procedure,
+                given.as_slice(),
+                out,
+            )
+        }
     }
 }
 

@@ -14,6 +14,14 @@ use crate::lists::LabelList;
 use layer_tiles::{Cell, Extent, NoMemory};
 use std::alloc::Global;
 
+/// Places that follow one another along a row: the first, its column, and how many they are.
+#[derive(Clone, Copy)]
+struct Run {
+    at: u32,
+    column: u32,
+    count: u32,
+}
+
 /// Labels the places of a row from place `at` on, to before place `end`, as long as they have no label and have the cell. The
 /// place where it stopped.
 fn reach_run(
@@ -46,35 +54,32 @@ fn reach_run(
     Ok(end)
 }
 
-/// Labels the places of a row next to one of `count` places from place `at` on, whose column is told, and those that follow
-/// along the row, where they have the cell.
+/// Labels the places of a row next to one of a run, and those that follow along the row, where they have the cell.
 fn reach_row(
     cells: &[Cell],
     value: Cell,
     label: Cell,
-    at: u32,
-    column: u32,
-    count: u32,
+    run: &Run,
     row: u32,
     list: &mut LabelList,
 ) -> Result<(), NoMemory>
     requires count { length cells.now ≡ cells_in list.old.size }
     requires label { IsSome label }
-    requires within { at < cells_in list.old.size }
-    requires column { column ≡ column_of list.old.size at }
-    requires some { 0 < count }
-    requires run { column + count ≤ list.old.size.columns }
+    requires within { run.now.at < cells_in list.old.size }
+    requires column { run.now.column ≡ column_of list.old.size run.now.at }
+    requires some { 0 < run.now.count }
+    requires run { run.now.column + run.now.count ≤ list.old.size.columns }
     requires row { row < list.old.size.rows }
-    requires close { gap (row_of list.old.size at) row ≤ 1 }
-    ensures grown { IsRunGrown list.old.size cells.now value at count (flood_of list.old) (flood_of list.new) }
+    requires close { gap (row_of list.old.size run.now.at) row ≤ 1 }
+    ensures grown { IsRunGrown list.old.size cells.now value run.now.at run.now.count (flood_of list.old) (flood_of list.new) }
     ensures labels { MayGet label list.old.labels list.new.labels }
-    ensures near { OnOk result (IsRunRow list.old.size cells.now value at count row (labelled list.new.labels)) }
+    ensures near { OnOk result (IsRunRow list.old.size cells.now value run.now.at run.now.count row (labelled list.new.labels)) }
 {
     let columns = list.extent().columns();
     let start = row * columns;
     let end = start + columns;
-    let high = start + (column + count + 1).min(columns);
-    let mut next = list.bare_from(start + column.saturating_sub(1), high);
+    let high = start + (run.column + run.count + 1).min(columns);
+    let mut next = list.bare_from(start + run.column.saturating_sub(1), high);
     while next < high {
         let past = reach_run(cells, value, label, next, end, list)? + 1;
         next = list.bare_from(past.min(high), high);
@@ -103,11 +108,15 @@ fn reach_round(
 {
     let extent = list.extent();
     let row = extent.row_of(at);
-    let column = extent.column_of(at);
+    let run = Run {
+        at,
+        column: extent.column_of(at),
+        count,
+    };
     let low = row.saturating_sub(1);
     let high = (row + 2).min(extent.rows());
     for r in low..high {
-        reach_row(cells, value, label, at, column, count, r, list)?;
+        reach_row(cells, value, label, &run, r, list)?;
     }
     Ok(())
 }

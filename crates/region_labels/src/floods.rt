@@ -109,6 +109,14 @@ impl Flood {
     }
 }
 
+/// A place whose neighbours are reached, its column, and the first column of those that are.
+#[derive(Clone, Copy)]
+struct Front {
+    at: u32,
+    column: u32,
+    low: u32,
+}
+
 /// Reaches the place of a row and a column where it was not reached and has the cell. At most one pick.
 fn reach<M: Tally>(
     of: &Change<'_>,
@@ -139,32 +147,30 @@ fn reach<M: Tally>(
     flood.add(at)
 }
 
-/// Reaches the places of a row next to a place, whose column is told, from column `low` on. At most three picks.
+/// Reaches the places of a row next to the front, from its first column on. At most three picks.
 fn reach_row<M: Tally>(
     of: &Change<'_>,
     value: Cell,
-    from: u32,
+    from: &Front,
     row: u32,
-    column: u32,
-    low: u32,
     flood: &mut Flood,
     tally: &mut M,
 ) -> Result<(), NoMemory>
-    requires within { from < cells_in of.now.size }
+    requires within { from.now.at < cells_in of.now.size }
     requires row { row < of.now.size.rows }
-    requires close { gap (row_of of.now.size from) row ≤ 1 }
-    requires column { column ≡ column_of of.now.size from }
-    requires least { column ≤ low + 1 }
-    requires most { low ≤ column + 1 }
+    requires close { gap (row_of of.now.size from.now.at) row ≤ 1 }
+    requires column { from.now.column ≡ column_of of.now.size from.now.at }
+    requires least { from.now.column ≤ from.now.low + 1 }
+    requires most { from.now.low ≤ from.now.column + 1 }
     requires extent { flood.old.size ≡ of.now.size }
     requires marks { length flood.old.marks ≡ cells_in of.now.size }
-    ensures grown { IsGrown of.now.size of.now.cells value from flood.old flood.new }
-    ensures near { OnOk result (IsRowMarked of.now.size of.now.cells value from row low flood.new.marks) }
+    ensures grown { IsGrown of.now.size of.now.cells value from.now.at flood.old flood.new }
+    ensures near { OnOk result (IsRowMarked of.now.size of.now.cells value from.now.at row from.now.low flood.new.marks) }
     ensures picks { RisesBy 0 3 (M.counts tally.old) (M.counts tally.new) }
 {
     let columns = of.extent().columns();
-    let high = (column + 2).min(columns);
-    for c in low..high {
+    let high = (from.column + 2).min(columns);
+    for c in from.low..high {
         reach(of, value, columns, row, c, flood, tally)?;
     }
     Ok(())
@@ -203,11 +209,15 @@ fn reach_all<M: Tally>(
     let extent = of.extent();
     let row = extent.row_of(from);
     let column = extent.column_of(from);
-    let first = first_column(column, after);
+    let front = Front {
+        at: from,
+        column,
+        low: first_column(column, after),
+    };
     let low = row.saturating_sub(1);
     let high = (row + 2).min(extent.rows());
     for r in low..high {
-        reach_row(of, value, from, r, column, first, flood, tally)?;
+        reach_row(of, value, &front, r, flood, tally)?;
     }
     Ok(())
 }

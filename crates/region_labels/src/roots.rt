@@ -12,7 +12,7 @@ pub fn told(labels: &[Cell], at: u32) -> u32
     ensures back { result ≤ at }
 {
     match labels[at as usize].get() {
-        Some(label) => label as u32 - 1,
+        Some(label) => (label - 1) as u32,
         None => at,
     }
 }

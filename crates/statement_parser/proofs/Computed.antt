@@ -64,7 +64,7 @@ rows = record {
   not_yet = refused_row first_rows (codes "C = FocalSum of A") _ refl refl refl refl;
   reserved_name = refused_row first_rows (codes "end = LocalSum of A and 1") _ refl refl refl refl;
   reserved_layer = refused_row first_rows (codes "new of 1") _ refl refl refl refl;
-  beyond = refused_row first_rows (codes "new C 2000000001") _ refl refl refl refl;
+  beyond = refused_row first_rows (codes "new C 1000000000000001") _ refl refl refl refl;
   later_form = refused_row first_rows (codes "label C 1 x") _ refl refl refl refl;
   bad_byte = bad_byte refl refl refl;
   ninth = refused_row first_rows (codes "B = LocalSum of 1 and 2 and 3 and 4 and 5 and 6 and 7 and 8 and 9") _ refl refl refl refl;

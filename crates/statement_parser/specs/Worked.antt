@@ -65,7 +65,7 @@ pub record Worked : Type 0 where
   pub not_yet : IsRefused (codes "C = FocalSum of A") (operation 5)
   pub reserved_name : IsRefused (codes "end = LocalSum of A and 1") (syntax 1)
   pub reserved_layer : IsRefused (codes "new of 1") (syntax 5)
-  pub beyond : IsRefused (codes "new C 2000000001") (number 7)
+  pub beyond : IsRefused (codes "new C 1000000000000001") (number 7)
   pub later_form : IsRefused (codes "label C 1 x") (syntax 1)
   pub bad_byte : IsRefused (codes "C = LocalSun of " ++ 127 ∷ []) (syntax 17)
   pub ninth : IsRefused (codes "B = LocalSum of 1 and 2 and 3 and 4 and 5 and 6 and 7 and 8 and 9") (syntax 61)

@@ -14,7 +14,7 @@ loop-k-preserved g c =
       size = e.size ∙ i.size;
       seeded = e.seeded;
       marked = e.stays c.args.at i.marked;
-      around = λ k j l m. elim (cases_lt k c.loop-k.k) as (λ _. is_marked c.renew_neighbour.new.marks.marks j ≡ true) [
+      around = λ k j l m. elim (cases_lt k c.loop-k.k) as (λ _. is_marked c.renew_neighbour.new.seeds.marks.marks j ≡ true) [
         | inl b ↦ e.stays j (i.around k j b m)
         | inr b ↦ (let q : c.loop-k.k ≡ k = omega (arith, l, b) in e.marked j (ap (λ n. moved c.args.surface.now.size c.args.at (offset_at n)) q ∙ m))
       ];

@@ -6,4 +6,4 @@ use Rattle.focal_ops.specs.Masks.{statistic_round}
 use Rattle.focal_ops.proofs.numbers.numbers_rows.Given as goal
 
 abbrev pub invariant-loop-r : goal.invariant-loop-r
-invariant-loop-r l = IsMade (by_row (tile_width l.extent l.tile) (statistic_round l.stat l.mask.reach l.mask.halves l.near.cells l.near.width)) (tile_height l.extent l.tile) (tile_width l.extent l.tile) (l.r * tile_width l.extent l.tile) l.made
+invariant-loop-r l = IsMade (by_row (tile_width l.extent l.tile) (statistic_round l.maker.stat l.maker.mask.now.reach l.maker.mask.now.halves l.maker.near.now.cells l.maker.near.now.width)) (tile_height l.extent l.tile) (tile_width l.extent l.tile) (l.r * tile_width l.extent l.tile) l.made

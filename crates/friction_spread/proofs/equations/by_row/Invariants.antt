@@ -6,7 +6,7 @@ use Rattle.friction_spread.specs.Rows.{IsLowered, RowLoweredTo}
 
 abbrev pub invariant-loop-c : goal.invariant-loop-c
 invariant-loop-c g l = record {
-  lowered : IsLowered (net_of l.ground) (values l.ground.limit l.labels.cells) l.to.at l.fn.best l.least;
-  near : RowLoweredTo (net_of l.ground) l.ground.size (values l.ground.limit l.labels.cells) l.to.at l.row l.c l.least;
+  lowered : IsLowered (net_of l.ground) (values l.ground.limit l.labels.cells) l.to.spot.at l.fn.best l.least;
+  near : RowLoweredTo (net_of l.ground) l.ground.size (values l.ground.limit l.labels.cells) l.to.spot.at l.row l.c l.least;
   picks : RisesBy 0 (2 * (l.c - l.low)) (g.M.Tally.counts l.initial.tally) (g.M.Tally.counts l.tally);
 }

@@ -6,7 +6,7 @@ use Rattle.friction_spread.specs.Rows.{IsLowered, RoundLoweredTo}
 
 abbrev pub invariant-loop-r : goal.invariant-loop-r
 invariant-loop-r g l = record {
-  lowered : IsLowered (net_of l.ground) (values l.ground.limit l.labels.cells) l.to.at (suc l.ground.limit) l.least;
-  near : RoundLoweredTo (net_of l.ground) l.ground.size (values l.ground.limit l.labels.cells) l.to.at l.r l.least;
+  lowered : IsLowered (net_of l.ground) (values l.ground.limit l.labels.cells) l.focus.spot.at (suc l.ground.limit) l.least;
+  near : RoundLoweredTo (net_of l.ground) l.ground.size (values l.ground.limit l.labels.cells) l.focus.spot.at l.r l.least;
   picks : RisesBy 0 (6 * (l.r - l.low)) (g.M.Tally.counts l.initial.tally) (g.M.Tally.counts l.tally);
 }

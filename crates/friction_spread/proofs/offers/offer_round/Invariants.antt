@@ -8,7 +8,7 @@ use Rattle.friction_spread.specs.Rows.{RoundOfferedTo}
 abbrev pub invariant-loop-r : goal.invariant-loop-r
 invariant-loop-r g l = record {
   kept : IsKept l.initial.queue l.queue;
-  offered : RoundOfferedTo (net_of l.ground) l.ground.size (values l.ground.limit l.labels.cells) l.queue l.from.at l.r;
+  offered : RoundOfferedTo (net_of l.ground) l.ground.size (values l.ground.limit l.labels.cells) l.queue l.focus.spot.at l.r;
   len : length l.queue ≤ length l.initial.queue + 3 * (l.r - l.low);
   picks : RisesBy 0 (6 * (l.r - l.low)) (g.M.Tally.counts l.initial.tally) (g.M.Tally.counts l.tally);
 }

@@ -8,7 +8,7 @@ use Rattle.friction_spread.specs.Rows.{RowOfferedTo}
 abbrev pub invariant-loop-c : goal.invariant-loop-c
 invariant-loop-c g l = record {
   kept : IsKept l.initial.queue l.queue;
-  offered : RowOfferedTo (net_of l.ground) l.ground.size (values l.ground.limit l.labels.cells) l.queue l.from.at l.row l.c;
+  offered : RowOfferedTo (net_of l.ground) l.ground.size (values l.ground.limit l.labels.cells) l.queue l.from.spot.at l.row l.c;
   len : length l.queue ≤ length l.initial.queue + (l.c - l.low);
   picks : RisesBy 0 (2 * (l.c - l.low)) (g.M.Tally.counts l.initial.tally) (g.M.Tally.counts l.tally);
 }

@@ -11,28 +11,28 @@ use Rattle.friction_spread.proofs.raises.raise.Goals.{After-weigh}
 use Rattle.least_costs.proofs.Queues.{pushed_kept, pushed_there, pushed_length}
 
 pub returns-then-from-to-clause-risen : goal.returns-then-from-to-clause-risen
-returns-then-from-to-clause-risen g c = λ l. absurd (omega (arith, l, step_same c.args.ground.now c.args.from.at c.args.to.at c.if-from-to.true))
+returns-then-from-to-clause-risen g c = λ l. absurd (omega (arith, l, step_same c.args.ground.now c.args.from.now.spot.at c.args.to.at c.if-from-to.true))
 
 pub returns-then-there-value-clause-risen : goal.returns-then-there-value-clause-risen
 returns-then-there-value-clause-risen g c = λ l.
-    let s = (step_least c.args.ground.now c.args.from.at c.args.to.at l).0 in
+    let s = (step_least c.args.ground.now c.args.from.now.spot.at c.args.to.at l).0 in
     let v = c.cost_at-there.ensures.value in
-    let k : c.cost_at-there.result < c.args.value + step_of c.args.ground.now c.args.from.at c.args.to.at = omega (arith, s, c.requires.own.0, c.least_step.ensures, c.if-there-value.true) in
+    let k : c.cost_at-there.result < c.args.value + step_of c.args.ground.now c.args.from.now.spot.at c.args.to.at = omega (arith, s, c.requires.own.0, c.least_step.ensures, c.if-there-value.true) in
     record { above = λ m. absurd (omega (arith, m, k, v)); level = λ m. absurd (omega (arith, m, k, v)) }
 
 pub returns-then-friction-eq0-clause-risen : goal.returns-then-friction-eq0-clause-risen
-returns-then-friction-eq0-clause-risen g c = λ l. absurd (omega (arith, l, step_to_barrier c.args.ground.now c.args.from.at c.args.to.at (sym c.friction-friction.ensures.value ∙ c.if-friction-eq0.true)))
+returns-then-friction-eq0-clause-risen g c = λ l. absurd (omega (arith, l, step_to_barrier c.args.ground.now c.args.from.now.spot.at c.args.to.at (sym c.friction-friction.ensures.value ∙ c.if-friction-eq0.true)))
 
 there : (g : Over) (c : After-weigh g) → c.cost_at-there.result ≡ values c.args.ground.now.limit c.args.labels.now.cells c.args.to.at
 there g c = c.cost_at-there.ensures.value
 
-step : (g : Over) (c : After-weigh g) → c.weigh.result ≡ step_of c.args.ground.now c.args.from.at c.args.to.at
+step : (g : Over) (c : After-weigh g) → c.weigh.result ≡ step_of c.args.ground.now c.args.from.now.spot.at c.args.to.at
 step g c =
     let f = friction_at c.args.ground.now.friction c.args.to.at in
     let o : 0 < f = omega (arith, c.friction-friction.ensures.value, c.if-friction-eq0.false) in
-    let u : 0 < friction_at c.args.ground.now.friction c.args.from.at = omega (arith, c.requires.own.0, c.requires.own.1) in
-    let e = step_weighed c.args.ground.now c.args.from c.args.to c.requires.spots.0 c.requires.spots.1 c.requires.near c.if-from-to.false u o in
-    c.weigh.ensures.value ∙ ap (λ n. weighed c.args.from c.args.to n c.friction-friction.result) c.requires.own.0 ∙ ap (λ n. weighed c.args.from c.args.to (friction_at c.args.ground.now.friction c.args.from.at) n) c.friction-friction.ensures.value ∙ sym e
+    let u : 0 < friction_at c.args.ground.now.friction c.args.from.now.spot.at = omega (arith, c.requires.own.0, c.requires.own.1) in
+    let e = step_weighed c.args.ground.now c.args.from.now.spot c.args.to c.requires.spots.0 c.requires.spots.1 c.requires.near c.if-from-to.false u o in
+    c.weigh.ensures.value ∙ ap (λ n. weighed c.args.from.now.spot c.args.to n c.friction-friction.result) c.requires.own.0 ∙ ap (λ n. weighed c.args.from.now.spot c.args.to (friction_at c.args.ground.now.friction c.args.from.now.spot.at) n) c.friction-friction.ensures.value ∙ sym e
 
 pub returns-then-there-cost-clause-risen : goal.returns-then-there-cost-clause-risen
 returns-then-there-cost-clause-risen g c = λ l.

@@ -3,7 +3,6 @@ use Rattle.std.proofs.lemmas.Int.{to_z-of_z}
 use Rattle.map_nums.specs.Widths.{value_width}
 use Rattle.map_nums.specs.Exact.{IsExact}
 use Rattle.map_nums.specs.Stats.{minimum_of}
-use Rattle.local_ops.proofs.Numbers.{widened}
 use Rattle.local_ops.proofs.Twos.{is_least}
 use Rattle.local_ops.proofs.pairs.statistic_of_pair.Goals as goal
 
@@ -14,4 +13,4 @@ returns-in-Minimum c =
     let lesser = c.lesser.result in
     let fits : FitsSigned value_width lesser = search rules in
     let least : minimum_of (left ∷ right ∷ []) ≡ Some lesser = rw (to_z-of_z value_width left c.ranges.left, to_z-of_z value_width right c.ranges.right) at c.lesser.ensures in
-    subst (λ s. IsExact s c.kept-in-Minimum.result) (ap Some (widened lesser fits) ∙ sym least ∙ sym (is_least c.args.stat left right c.in-Minimum.is)) c.kept-in-Minimum.ensures
+    subst (λ s. IsExact s c.kept-in-Minimum.result) (ap Some (to_z-of_z value_width lesser fits) ∙ sym least ∙ sym (is_least c.args.stat left right c.in-Minimum.is)) c.kept-in-Minimum.ensures

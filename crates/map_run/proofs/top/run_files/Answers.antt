@@ -1,6 +1,7 @@
 use Rattle.std.proofs.Common.{refl}
 use Rattle.std.proofs.lemmas.Result.{err_from_is_err_and}
 use Rattle.map_run.specs.Forms.{pairs_read, model_read}
+use Rattle.map_run.specs.Shown.{progress}
 use Rattle.map_run.specs.Stops.{status_of}
 use Rattle.map_run.proofs.RunLemmas.{runs_played, runs_stopped}
 use Rattle.map_run.proofs.WordLemmas.{pairs_served}
@@ -22,7 +23,7 @@ returns-clause-runs g c =
       left = g.S.Source.left c.args.source.now;
       shelf = g.F.Shelf.faults c.open_files.new.shelf;
       source = g.S.Source.faults c.args.source.now;
-      progress = record { held = K.held c.open_files.new.sink; faults = K.faults c.open_files.new.sink; tally = g.M.Tally.counts c.open_files.new.tally };
+      progress = progress K.held K.faults c.open_files.new.sink (g.M.Tally.counts c.open_files.new.tally);
     }) _ c.in_ok-session.session (status_of c.play_session.result) c.in_ok-session.ensures.loads (c.in_ok-session.ensures.counts (g.S.Source.faults c.args.source.now))
     c.play_session.ensures.plays (c.play_session.ensures.counts (g.F.Shelf.faults c.open_files.new.shelf))
 

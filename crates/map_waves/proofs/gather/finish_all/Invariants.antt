@@ -13,10 +13,10 @@ abbrev pub invariant-turns : goal.invariant-turns
 invariant-turns g l = record {
   queue : into_iter_items l.queue ≡ drop l.place l.fn.jobs.items;
   waiting : into_iter_len l.queue + l.place ≡ length l.fn.jobs.items;
-  finished : IsFinished g.K.Maker.means g.K.Maker.formed g.K.Maker.suits l.base l.steps l.first l.end l.tasks l.place l.more.items;
+  finished : IsFinished g.K.Maker.means g.K.Maker.formed g.K.Maker.suits l.base l.steps l.depth.first l.depth.end l.depth.tasks.now l.place l.more.items;
   rest : into_iter_items l.rest ≡ drop (all_jobs (take l.place l.fn.jobs.items)) l.fn.answers.items;
   left : into_iter_len l.rest + all_jobs (take l.place l.fn.jobs.items) ≡ length l.fn.answers.items;
-  tally : RisesBy (2 * sum_by (λ k. length (damage_at (plan_of g.K.Maker.means l.base l.steps) k)) (places_of (take l.place l.tasks))) 0 (g.M.Tally.counts l.fn.tally) (g.M.Tally.counts l.tally);
+  tally : RisesBy (2 * sum_by (λ k. length (damage_at (plan_of g.K.Maker.means l.base l.steps) k)) (places_of (take l.place l.depth.tasks.now))) 0 (g.M.Tally.counts l.fn.tally) (g.M.Tally.counts l.tally);
 }
 
 abbrev pub decreases-turns : goal.decreases-turns

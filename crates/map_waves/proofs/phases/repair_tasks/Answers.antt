@@ -14,9 +14,9 @@ returns-in_default-clause-tally g c =
     let k = g.K.Maker in
     let base = c.args.base.now in
     let steps = c.args.steps.now in
-    let ts = c.args.tasks.now in
-    let low = c.args.first in
-    let end = c.args.end in
+    let ts = c.args.depth.now.tasks.now in
+    let low = c.args.depth.now.first in
+    let end = c.args.depth.now.end in
     short_rises k.means k.formed k.suits k.sound k.first k.looks k.picks k.pieces base steps low end ts _ _ c.requires.tasks (omega arith) c.in_default.ensures.short
 
 pub do_jobs-requires-clause-jobs : goal.do_jobs-requires-clause-jobs
@@ -24,7 +24,7 @@ do_jobs-requires-clause-jobs g c ks lives =
     let k = g.K.Maker in
     let base = c.args.base.now in
     let steps = c.args.steps.now in
-    let ts = c.args.tasks.now in
+    let ts = c.args.depth.now.tasks.now in
     subst (λ js. All (AreJobs k.means k.sound k.first k.looks k.picks k.pieces) js) (sym c.deref.ensures.value) (begun_jobs k.means k.formed k.suits k.sound k.first k.looks k.picks k.pieces base steps ts c.in-Ok.begun.0.items c.in-Ok.ensures.begun)
 
 pub stop_of-requires-clause-few : goal.stop_of-requires-clause-few
@@ -32,7 +32,7 @@ stop_of-requires-clause-few g c =
     let k = g.K.Maker in
     let base = c.args.base.now in
     let steps = c.args.steps.now in
-    let ts = c.args.tasks.now in
+    let ts = c.args.depth.now.tasks.now in
     subst (λ (js : List (JobsState _ _ _)). length js ≤ length ts) (sym c.deref-2.ensures.value) (begun_short k.means k.formed k.suits k.sound k.first k.looks k.picks k.pieces base steps ts c.in-Ok.begun.0.items c.in-Ok.ensures.begun)
 
 pub returns-in_default-do_jobs-clause-tally : goal.returns-in_default-do_jobs-clause-tally
@@ -40,9 +40,9 @@ returns-in_default-do_jobs-clause-tally g c =
     let k = g.K.Maker in
     let base = c.args.base.now in
     let steps = c.args.steps.now in
-    let ts = c.args.tasks.now in
-    let low = c.args.first in
-    let end = c.args.end in
+    let ts = c.args.depth.now.tasks.now in
+    let low = c.args.depth.now.first in
+    let end = c.args.depth.now.end in
     depth_within k.means k.formed k.suits k.sound k.first k.looks k.picks k.pieces base steps low end _ _ (depth_rises k.means k.formed k.suits k.sound k.first k.looks k.picks k.pieces base steps low end ts c.in-Ok.begun.0.items c.in-Ok.begun.1 _ _ _ c.requires.tasks (omega arith) c.in-Ok.ensures.begun c.in-Ok.ensures.halted c.in-Ok.ensures.rises (subst (λ (js : List (JobsState _ _ _)). RisesBy (all_rises k.looks js) (all_rises k.picks js) (g.M.Tally.counts c.begin_all.new.tally) (g.M.Tally.counts c.do_jobs.new.tally)) c.deref.ensures.value c.in_default-do_jobs.ensures.tally))
 
 pub returns-in-Some-clause-tally : goal.returns-in-Some-clause-tally
@@ -50,9 +50,9 @@ returns-in-Some-clause-tally g c =
     let k = g.K.Maker in
     let base = c.args.base.now in
     let steps = c.args.steps.now in
-    let ts = c.args.tasks.now in
-    let low = c.args.first in
-    let end = c.args.end in
+    let ts = c.args.depth.now.tasks.now in
+    let low = c.args.depth.now.first in
+    let end = c.args.depth.now.end in
     depth_within k.means k.formed k.suits k.sound k.first k.looks k.picks k.pieces base steps low end _ _ (depth_rises k.means k.formed k.suits k.sound k.first k.looks k.picks k.pieces base steps low end ts c.in-Ok.begun.0.items c.in-Ok.begun.1 _ _ _ c.requires.tasks (omega arith) c.in-Ok.ensures.begun c.in-Ok.ensures.halted c.in-Ok.ensures.rises (subst (λ (js : List (JobsState _ _ _)). RisesBy (all_rises k.looks js) (all_rises k.picks js) (g.M.Tally.counts c.begin_all.new.tally) (g.M.Tally.counts c.do_jobs.new.tally)) c.deref.ensures.value c.in-Ok-do_jobs.ensures.tally))
 
 pub returns-in-Some-clause-phase : goal.returns-in-Some-clause-phase
@@ -60,16 +60,16 @@ returns-in-Some-clause-phase g c =
     let k = g.K.Maker in
     let base = c.args.base.now in
     let steps = c.args.steps.now in
-    let ts = c.args.tasks.now in
-    let low = c.args.first in
-    let end = c.args.end in
+    let ts = c.args.depth.now.tasks.now in
+    let low = c.args.depth.now.first in
+    let end = c.args.depth.now.end in
     is_stop k.means k.formed k.suits k.sound k.first k.looks k.picks k.pieces base steps low end ts c.in-Ok.begun.0.items c.in-Ok-do_jobs.answers.items c.requires.tasks c.in-Ok.ensures.begun
     (subst (λ (js : List (JobsState _ _ _)). AreAnswered k.pieces js c.in-Ok-do_jobs.answers.items) c.deref.ensures.value c.in-Ok-do_jobs.ensures.answers) c.in-Ok.begun.1 c.in-Some.stop c.in-Ok.ensures.halted
     (stop_as ts c.in-Ok.begun.0.items c.deref-2.result.now c.in-Ok-do_jobs.answers.items c.deref-3.result.now c.deref-2.ensures.value c.deref-3.ensures.value c.in-Ok.begun.1 c.in-Some.stop c.in-Some.ensures)
 
 pub finish_all-requires-clause-ok : goal.finish_all-requires-clause-ok
 finish_all-requires-clause-ok g c ks lives =
-    let ts = c.args.tasks.now in
+    let ts = c.args.depth.now.tasks.now in
     ok_as ts c.in-Ok.begun.0.items c.deref-2.result.now c.in-Ok-do_jobs.answers.items c.deref-3.result.now c.deref-2.ensures.value c.deref-3.ensures.value c.in_default-stop_of.ensures.1
 
 pub returns-in-Ok-finish_all-clause-tally : goal.returns-in-Ok-finish_all-clause-tally
@@ -77,9 +77,9 @@ returns-in-Ok-finish_all-clause-tally g c =
     let k = g.K.Maker in
     let base = c.args.base.now in
     let steps = c.args.steps.now in
-    let ts = c.args.tasks.now in
-    let low = c.args.first in
-    let end = c.args.end in
+    let ts = c.args.depth.now.tasks.now in
+    let low = c.args.depth.now.first in
+    let end = c.args.depth.now.end in
     phase_rises k.means k.formed k.suits k.sound k.first k.looks k.picks k.pieces base steps low end ts c.in-Ok.begun.0.items c.in-Ok.begun.1 _ _ _ _ c.requires.tasks (omega arith) c.in-Ok.ensures.begun c.in-Ok.ensures.halted c.in-Ok.ensures.rises (subst (λ (js : List (JobsState _ _ _)). RisesBy (all_rises k.looks js) (all_rises k.picks js) (g.M.Tally.counts c.begin_all.new.tally) (g.M.Tally.counts c.do_jobs.new.tally)) c.deref.ensures.value c.in-Ok-do_jobs.ensures.tally) c.in-Ok-finish_all.ensures.tally
 
 pub returns-in-Err-clause-tally : goal.returns-in-Err-clause-tally
@@ -87,7 +87,7 @@ returns-in-Err-clause-tally g c =
     let k = g.K.Maker in
     let base = c.args.base.now in
     let steps = c.args.steps.now in
-    let ts = c.args.tasks.now in
-    let low = c.args.first in
-    let end = c.args.end in
+    let ts = c.args.depth.now.tasks.now in
+    let low = c.args.depth.now.first in
+    let end = c.args.depth.now.end in
     phase_rises k.means k.formed k.suits k.sound k.first k.looks k.picks k.pieces base steps low end ts c.in-Ok.begun.0.items c.in-Ok.begun.1 _ _ _ _ c.requires.tasks (omega arith) c.in-Ok.ensures.begun c.in-Ok.ensures.halted c.in-Ok.ensures.rises (subst (λ (js : List (JobsState _ _ _)). RisesBy (all_rises k.looks js) (all_rises k.picks js) (g.M.Tally.counts c.begin_all.new.tally) (g.M.Tally.counts c.do_jobs.new.tally)) c.deref.ensures.value c.in-Ok-do_jobs.ensures.tally) c.in-Err.ensures.tally

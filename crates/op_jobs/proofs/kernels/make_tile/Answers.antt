@@ -40,4 +40,4 @@ tile_of_sights-requires-clause-heights g c =
     let to = c.in-Sight.to in
     let f : SFits value_width from = search rules in
     let h : SFits value_width to = search rules in
-    rw (to_z-of_z value_width from f, to_z-of_z value_width to h) (written_heights (record { from = from; to = to; reach = c.in-Sight.reach }) (term_view c.in-Sight.of) (term_view c.in-Sight.surface) (op_view c.args.op.now) (ap op_view c.in-Sight.is) c.requires.formed)
+    rw (to_z-of_z value_width from f, to_z-of_z value_width to h) (written_heights (record { from = from; to = to; reach = c.in-Sight.reach }) (term_view c.in-Sight.of) (term_view c.in-Sight.surface) (op_view c.args.op.now) (ap op_view c.in-Sight.is) c.requires.operands_are.formed)

@@ -7,48 +7,48 @@ pub of-requires : goal.of-requires
 of-requires g c =
     let operands = c.args.operands.now in
     let v = c.in-Some.viewers.now in
-    let p = first_are operands v c.requires.two (sym c.in-Some.ensures) in
-    record { old = kept_are operands v p.0 p.1 c.args.extent c.requires.operands c.args.kept c.requires.right }
+    let p = first_are operands v c.requires.both.two (sym c.in-Some.ensures) in
+    record { old = kept_are operands v p.0 p.1 c.args.extent c.requires.both.each c.args.kept c.requires.right }
 
 pub returns-in-Ok-clause-viewers : goal.returns-in-Ok-clause-viewers
 returns-in-Ok-clause-viewers g c =
     let operands = c.args.operands.now in
     let v = c.in-Some.viewers.now in
-    let p = first_are operands v c.requires.two (sym c.in-Some.ensures) in
-    found_are operands v p.0 p.1 c.args.extent c.requires.operands c.in-Ok.found c.in-Ok.ensures.answer.0
+    let p = first_are operands v c.requires.both.two (sym c.in-Some.ensures) in
+    found_are operands v p.0 p.1 c.args.extent c.requires.both.each c.in-Ok.found c.in-Ok.ensures.answer.0
 
 pub returns-in-Ok-clause-few : goal.returns-in-Ok-clause-few
 returns-in-Ok-clause-few g c =
     let operands = c.args.operands.now in
     let v = c.in-Some.viewers.now in
-    let p = first_are operands v c.requires.two (sym c.in-Some.ensures) in
-    found_few operands v p.0 p.1 c.args.extent c.requires.operands c.in-Ok.ensures.answer.1
+    let p = first_are operands v c.requires.both.two (sym c.in-Some.ensures) in
+    found_few operands v p.0 p.1 c.args.extent c.requires.both.each c.in-Ok.ensures.answer.1
 
 pub returns-in-Ok-clause-looks : goal.returns-in-Ok-clause-looks
 returns-in-Ok-clause-looks g c = λ r.
     let operands = c.args.operands.now in
     let v = c.in-Some.viewers.now in
-    let p = first_are operands v c.requires.two (sym c.in-Some.ensures) in
-    kept_looks operands v p.0 p.1 c.args.extent c.requires.operands c.args.kept r _ _ c.requires.right c.of.ensures.looks
+    let p = first_are operands v c.requires.both.two (sym c.in-Some.ensures) in
+    kept_looks operands v p.0 p.1 c.args.extent c.requires.both.each c.args.kept r _ _ c.requires.right c.of.ensures.looks
 
 pub returns-in-Err-Viewers-clause-halt : goal.returns-in-Err-Viewers-clause-halt
 returns-in-Err-Viewers-clause-halt g c = λ sight t u.
     let operands = c.args.operands.now in
     let v = c.in-Some.viewers.now in
-    let p = first_are operands v c.requires.two (sym c.in-Some.ensures) in
+    let p = first_are operands v c.requires.both.two (sym c.in-Some.ensures) in
     let a = rw (c.in-Err-Viewers.field-0-is) at c.in-Err-Viewers.ensures.answer in
-    halted operands v p.0 p.1 c.args.extent c.requires.operands sight t u c.in-Err-Viewers.count a.0 a.1
+    halted operands v p.0 p.1 c.args.extent c.requires.both.each sight t u c.in-Err-Viewers.count a.0 a.1
 
 pub returns-in-Err-Viewers-clause-looks : goal.returns-in-Err-Viewers-clause-looks
 returns-in-Err-Viewers-clause-looks g c = λ r.
     let operands = c.args.operands.now in
     let v = c.in-Some.viewers.now in
-    let p = first_are operands v c.requires.two (sym c.in-Some.ensures) in
-    kept_looks operands v p.0 p.1 c.args.extent c.requires.operands c.args.kept r _ _ c.requires.right c.of.ensures.looks
+    let p = first_are operands v c.requires.both.two (sym c.in-Some.ensures) in
+    kept_looks operands v p.0 p.1 c.args.extent c.requires.both.each c.args.kept r _ _ c.requires.right c.of.ensures.looks
 
 pub returns-in-Err-NoMemory-clause-looks : goal.returns-in-Err-NoMemory-clause-looks
 returns-in-Err-NoMemory-clause-looks g c = λ r.
     let operands = c.args.operands.now in
     let v = c.in-Some.viewers.now in
-    let p = first_are operands v c.requires.two (sym c.in-Some.ensures) in
-    kept_looks operands v p.0 p.1 c.args.extent c.requires.operands c.args.kept r _ _ c.requires.right c.of.ensures.looks
+    let p = first_are operands v c.requires.both.two (sym c.in-Some.ensures) in
+    kept_looks operands v p.0 p.1 c.args.extent c.requires.both.each c.args.kept r _ _ c.requires.right c.of.ensures.looks

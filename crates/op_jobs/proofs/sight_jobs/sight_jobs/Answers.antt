@@ -26,7 +26,7 @@ returns-in_err-viewers-clause-looks g c =
     let sight : Sighting = record { from = c.in-Sight.from; to = c.in-Sight.to; reach = c.in-Sight.reach } in
     let was = was_of (kept_now c.args.kept) in
     let P : Op → Type 0 = λ o. IsRightKept suits c.args.extent o c.args.operands.now (kept_now c.args.kept) in
-    let there = viewers_there c.args.extent sight t u c.args.operands.now (kept_now c.args.kept) c.viewers_of.result c.viewers_of.ensures (subst P (ap op_view c.in-Sight.is) c.requires.right) in
+    let there = viewers_there c.args.extent sight t u c.args.operands.now (kept_now c.args.kept) c.viewers_of.result c.viewers_of.ensures (subst P (ap op_view c.in-Sight.is) c.requires.edited.right) in
     let Q : Op → Type 0 = λ o. RisesBy (5 * length (damage_by c.args.extent o was c.args.operands.now)) 0 (g.M.Tally.counts c.args.tally.now) (g.M.Tally.counts c.sight_begin.new.tally) in
     subst Q (sym (ap op_view c.in-Sight.is)) (c.sight_begin.ensures.looks sight t u was refl there)
 
@@ -37,6 +37,6 @@ returns-clause-looks g c =
     let sight : Sighting = record { from = c.in-Sight.from; to = c.in-Sight.to; reach = c.in-Sight.reach } in
     let was = was_of (kept_now c.args.kept) in
     let P : Op → Type 0 = λ o. IsRightKept suits c.args.extent o c.args.operands.now (kept_now c.args.kept) in
-    let there = viewers_there c.args.extent sight t u c.args.operands.now (kept_now c.args.kept) c.viewers_of.result c.viewers_of.ensures (subst P (ap op_view c.in-Sight.is) c.requires.right) in
+    let there = viewers_there c.args.extent sight t u c.args.operands.now (kept_now c.args.kept) c.viewers_of.result c.viewers_of.ensures (subst P (ap op_view c.in-Sight.is) c.requires.edited.right) in
     let Q : Op → Type 0 = λ o. RisesBy (5 * length (damage_by c.args.extent o was c.args.operands.now)) 0 (g.M.Tally.counts c.args.tally.now) (g.M.Tally.counts c.sight_begin.new.tally) in
     subst Q (sym (ap op_view c.in-Sight.is)) (c.sight_begin.ensures.looks sight t u was refl there)

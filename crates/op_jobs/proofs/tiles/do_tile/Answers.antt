@@ -20,7 +20,7 @@ unless_same-requires g c =
     let j = c.args.jobs.now in
     let t = c.index-tile.result.now in
     subst (λ (x : StatementJobs). IfSome x.kept (λ k. t < tiles_in k.layer.size)) (sym c.jobs.view_is)
-    (kept_size j.size (op_view j.op) j.operands j.kept t c.requires.sound.right (job_tile j c.args.own.now c.args.job t c.requires.sound c.requires.own c.requires.below c.index-tile.ensures))
+    (kept_size j.size (op_view j.op) j.operands j.kept t c.requires.sound.edited.right (job_tile j c.args.own.now c.args.job t c.requires.sound c.requires.own c.requires.below c.index-tile.ensures))
 
 pub returns-clause-piece : goal.returns-clause-piece
 returns-clause-piece g c =
@@ -30,4 +30,4 @@ returns-clause-piece g c =
     let other = subst (λ (x : StatementJobs). IsOther x.kept t c.in_ok-made.made c.unless_same.result) c.jobs.view_is c.unless_same.ensures.other in
     let at = c.index-tile.ensures ∙ get_or_default c.args.own.now.tiles.items c.args.job t 0 c.requires.below in
     subst (λ u. IsTileMade j.size (was_in j) (now_in j) u c.unless_same.result) at
-    (piece_told j.size (now_in j) t j.kept c.in_ok-made.made c.unless_same.result c.requires.sound.size (job_tile j c.args.own.now c.args.job t c.requires.sound c.requires.own c.requires.below c.index-tile.ensures) (size_kept j.size (op_view j.op) j.operands j.kept c.requires.sound.right) answer other)
+    (piece_told j.size (now_in j) t j.kept c.in_ok-made.made c.unless_same.result c.requires.sound.size (job_tile j c.args.own.now c.args.job t c.requires.sound c.requires.own c.requires.below c.index-tile.ensures) (size_kept j.size (op_view j.op) j.operands j.kept c.requires.sound.edited.right) answer other)

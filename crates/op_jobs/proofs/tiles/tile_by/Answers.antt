@@ -6,10 +6,14 @@ use Rattle.layer_tiles.proofs.Rising.{rises_none, rises_within}
 use Rattle.statement_parser.specs.Views.{op_view}
 use Rattle.map_waves.specs.Jobs.{was_in}
 use Rattle.op_jobs.specs.Lists.{IsList, list_cells}
+use Rattle.op_jobs.specs.Operands.{AreOperandsOf}
 use Rattle.op_jobs.specs.Sound.{StatementJobs, now_in}
 use Rattle.op_jobs.proofs.LayerLists.{class_told, made_told, answer_told}
 use Rattle.op_jobs.proofs.Sharing.{tile_own}
 use Rattle.op_jobs.proofs.tiles.tile_by.Goals as goal
+
+pub make_tile-requires-clause-operands_are : goal.make_tile-requires-clause-operands_are
+make_tile-requires-clause-operands_are g c = subst (λ (x : StatementJobs). AreOperandsOf x.size (op_view x.op) x.operands) (sym c.jobs.view_is) c.requires.sound.edited.operands_are
 
 pub make_tile-requires-clause-class : goal.make_tile-requires-clause-class
 make_tile-requires-clause-class g c =

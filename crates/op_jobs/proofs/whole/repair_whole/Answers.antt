@@ -14,15 +14,15 @@ returns-in-Flow-clause-tally g c = flow_reads c.args.operands.now _ _ c.both_of.
 
 pub repair_spread-requires-clause-before : goal.repair_spread-requires-clause-before
 repair_spread-requires-clause-before g c =
-    spread_right c.args.operands.now _ _ c.both_of-in-Spread.ensures (op_view c.args.op.now) _ _ _ _ (limit_is (op_view c.args.op.now) _ c.in-Spread.limit _ _ (ap op_view c.in-Spread.is) c.requires.formed c.unsigned_abs-limit.ensures.value) c.requires.right
+    spread_right c.args.operands.now _ _ c.both_of-in-Spread.ensures (op_view c.args.op.now) _ _ _ _ (limit_is (op_view c.args.op.now) _ c.in-Spread.limit _ _ (ap op_view c.in-Spread.is) c.requires.operands_are.formed c.unsigned_abs-limit.ensures.value) c.requires.right
 
 pub returns-in-Spread-clause-answer : goal.returns-in-Spread-clause-answer
 returns-in-Spread-clause-answer g c =
-    spread_answer c.args.operands.now _ _ c.both_of-in-Spread.ensures (op_view c.args.op.now) _ _ _ _ _ (limit_is (op_view c.args.op.now) _ c.in-Spread.limit _ _ (ap op_view c.in-Spread.is) c.requires.formed c.unsigned_abs-limit.ensures.value) c.repair_spread.ensures.answer
+    spread_answer c.args.operands.now _ _ c.both_of-in-Spread.ensures (op_view c.args.op.now) _ _ _ _ _ (limit_is (op_view c.args.op.now) _ c.in-Spread.limit _ _ (ap op_view c.in-Spread.is) c.requires.operands_are.formed c.unsigned_abs-limit.ensures.value) c.repair_spread.ensures.answer
 
 pub returns-in-Spread-clause-tally : goal.returns-in-Spread-clause-tally
 returns-in-Spread-clause-tally g c =
-    spread_reads c.args.operands.now _ _ c.both_of-in-Spread.ensures (op_view c.args.op.now) _ _ _ _ _ _ (limit_is (op_view c.args.op.now) _ c.in-Spread.limit _ _ (ap op_view c.in-Spread.is) c.requires.formed c.unsigned_abs-limit.ensures.value) c.repair_spread.ensures.tally
+    spread_reads c.args.operands.now _ _ c.both_of-in-Spread.ensures (op_view c.args.op.now) _ _ _ _ _ _ (limit_is (op_view c.args.op.now) _ c.in-Spread.limit _ _ (ap op_view c.in-Spread.is) c.requires.operands_are.formed c.unsigned_abs-limit.ensures.value) c.repair_spread.ensures.tally
 
 pub repair_regions-requires-clause-before : goal.repair_regions-requires-clause-before
 repair_regions-requires-clause-before g c = regions_right c.args.operands.now _ c.only_of.ensures (op_view c.args.op.now) _ _ (ap op_view c.in-Region.is) c.requires.right

@@ -1,6 +1,7 @@
-use Rattle.std.proofs.Common.{ℕ, ◌*◌, length, Ok, Err, sym, ◌∙◌, ap, subst, arith}
+use Rattle.std.proofs.Common.{ℕ, ◌*◌, length, Ok, Err, sym, ◌∙◌, ap, subst}
 use Rattle.std.specs.Option.{option_copied}
 use Rattle.std.proofs.lemmas.Result.{err_from_is_err_and}
+use Rattle.map_nums.specs.Grids.{Size}
 use Rattle.layer_tiles.specs.Operands.{size_of}
 use Rattle.layer_tiles.specs.Patches.{PatchState}
 use Rattle.layer_tiles.specs.Tallies.{RisesBy}
@@ -9,27 +10,34 @@ use Rattle.statement_parser.specs.Views.{op_view}
 use Rattle.map_waves.specs.Jobs.{was_in}
 use Rattle.map_waves.specs.Statements.{damage_by, work_by}
 use Rattle.op_jobs.specs.Beside.{layer_in}
+use Rattle.op_jobs.specs.Operands.{AreOperandsOf}
 use Rattle.op_jobs.specs.Sound.{StatementJobs}
 use Rattle.op_jobs.specs.Whole.{IsRightBefore, IsWholeAnswer}
 use Rattle.op_jobs.proofs.Kept.{right_layer, before_is, answer_at_size, rises_at_size, whole_refusal}
-use Rattle.op_jobs.proofs.Ranges.{terms_some}
-use Rattle.op_jobs.proofs.Sharing.{size_is}
+use Rattle.op_jobs.proofs.Sharing.{extent_is}
 use Rattle.op_jobs.proofs.whole_jobs.do_whole.Goals as goal
+
+pub repair_whole-requires-clause-operands_are : goal.repair_whole-requires-clause-operands_are
+repair_whole-requires-clause-operands_are g c =
+    let j = c.args.jobs.now in
+    let are = c.requires.sound.edited.operands_are in
+    subst (λ (x : StatementJobs). AreOperandsOf (size_of x.operands) (op_view x.op) x.operands) (sym c.jobs.view_is)
+    (subst (λ (z : Size). AreOperandsOf z (op_view j.op) j.operands) (sym (extent_is j.size (op_view j.op) j.operands are)) are)
 
 pub repair_whole-requires-clause-right : goal.repair_whole-requires-clause-right
 repair_whole-requires-clause-right g c =
     let j = c.args.jobs.now in
     let is = c.requires.sound in
-    let size = size_is j.size j.operands (omega (arith, is.terms, terms_some (op_view j.op) is.formed)) is.operands_are in
+    let size = extent_is j.size (op_view j.op) j.operands is.edited.operands_are in
     let layer = c.layer_of.ensures ∙ ap (λ (x : StatementJobs). layer_in x.kept) c.jobs.view_is in
     subst (λ (x : StatementJobs). IsRightBefore (size_of x.operands) (op_view x.op) x.operands (option_copied c.layer_of.result)) (sym c.jobs.view_is)
-    (right_layer (size_of j.operands) j.size (op_view j.op) j.operands j.kept (option_copied c.layer_of.result) size layer is.right)
+    (right_layer (size_of j.operands) j.size (op_view j.op) j.operands j.kept (option_copied c.layer_of.result) size layer is.edited.right)
 
 pub returns-in_err-patch-clause-piece : goal.returns-in_err-patch-clause-piece
 returns-in_err-patch-clause-piece g c =
     let j = c.args.jobs.now in
     let is = c.requires.sound in
-    let size = size_is j.size j.operands (omega (arith, is.terms, terms_some (op_view j.op) is.formed)) is.operands_are in
+    let size = extent_is j.size (op_view j.op) j.operands is.edited.operands_are in
     let layer = c.layer_of.ensures ∙ ap (λ (x : StatementJobs). layer_in x.kept) c.jobs.view_is in
     let p = err_from_is_err_and c.from_residual.result c.from_residual.ensures.1 in
     let e = c.in_err-patch.field-0.0 in
@@ -40,7 +48,7 @@ pub returns-clause-piece : goal.returns-clause-piece
 returns-clause-piece g c =
     let j = c.args.jobs.now in
     let is = c.requires.sound in
-    let size = size_is j.size j.operands (omega (arith, is.terms, terms_some (op_view j.op) is.formed)) is.operands_are in
+    let size = extent_is j.size (op_view j.op) j.operands is.edited.operands_are in
     let layer = c.layer_of.ensures ∙ ap (λ (x : StatementJobs). layer_in x.kept) c.jobs.view_is in
     let r : PatchState × ℕ = (c.in_ok-patch.patch, c.in_ok-patch.work) in
     let answer = subst (λ (x : StatementJobs). IsWholeAnswer (size_of x.operands) (op_view x.op) (before_of (option_copied c.layer_of.result)) x.operands (Ok r)) c.jobs.view_is c.in_ok-patch.ensures.answer in
@@ -50,7 +58,7 @@ pub returns-in_err-patch-clause-tally : goal.returns-in_err-patch-clause-tally
 returns-in_err-patch-clause-tally g c =
     let j = c.args.jobs.now in
     let is = c.requires.sound in
-    let size = size_is j.size j.operands (omega (arith, is.terms, terms_some (op_view j.op) is.formed)) is.operands_are in
+    let size = extent_is j.size (op_view j.op) j.operands is.edited.operands_are in
     let layer = c.layer_of.ensures ∙ ap (λ (x : StatementJobs). layer_in x.kept) c.jobs.view_is in
     let a = g.M.Tally.counts c.args.tally.now in
     let b = g.M.Tally.counts c.repair_whole.new.tally in
@@ -61,7 +69,7 @@ pub returns-clause-tally : goal.returns-clause-tally
 returns-clause-tally g c =
     let j = c.args.jobs.now in
     let is = c.requires.sound in
-    let size = size_is j.size j.operands (omega (arith, is.terms, terms_some (op_view j.op) is.formed)) is.operands_are in
+    let size = extent_is j.size (op_view j.op) j.operands is.edited.operands_are in
     let layer = c.layer_of.ensures ∙ ap (λ (x : StatementJobs). layer_in x.kept) c.jobs.view_is in
     let a = g.M.Tally.counts c.args.tally.now in
     let b = g.M.Tally.counts c.repair_whole.new.tally in

@@ -17,7 +17,7 @@ decreases-expand_inner l = 3 * l.depth + 1
 -- what is put out and what is left are all
 abbrev pub invariant-expand_body-loop-inner : goal.invariant-expand_body-loop-inner
 invariant-expand_body-loop-inner l = record {
-  all : both_flats (Ok (flats_view l.out.items)) (body_flats (call_flats l.depth (procedures_view l.procedures)) l.name l.prefix (bound_view l.bindings) (body_view (drop l.inner-index l.body)))
-      ≡ both_flats (Ok (flats_view l.initial.out.items)) (body_flats (call_flats l.depth (procedures_view l.procedures)) l.name l.prefix (bound_view l.initial.bindings) (body_view l.body));
+  all : both_flats (Ok (flats_view l.out.items)) (body_flats (call_flats l.depth (procedures_view l.scope.procedures.now)) l.name l.prefix (bound_view l.bindings) (body_view (drop l.inner-index l.body)))
+      ≡ both_flats (Ok (flats_view l.initial.out.items)) (body_flats (call_flats l.depth (procedures_view l.scope.procedures.now)) l.name l.prefix (bound_view l.initial.bindings) (body_view l.body));
   few : length (flats_view l.out.items) ≤ most_flats;
 }

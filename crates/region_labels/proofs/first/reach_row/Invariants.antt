@@ -5,11 +5,11 @@ use Rattle.region_labels.proofs.first.reach_row.Given as goal
 
 abbrev pub invariant-loop-next : goal.invariant-loop-next
 invariant-loop-next l = record {
-  grown : IsRunGrown l.fn.list.size l.cells l.value l.at l.count (flood_of l.fn.list) (flood_of l.list);
+  grown : IsRunGrown l.fn.list.size l.cells l.value l.run.at l.run.count (flood_of l.fn.list) (flood_of l.list);
   labels : MayGet l.label l.fn.list.labels l.list.labels;
-  near : IsRunRowTo l.fn.list.size l.cells l.value l.at l.count l.row l.next (labelled l.list.labels);
+  near : IsRunRowTo l.fn.list.size l.cells l.value l.run.at l.run.count l.row l.next (labelled l.list.labels);
   begun : l.start ≤ l.next;
-  least : l.start + l.column ≤ l.next + 1;
+  least : l.start + l.run.column ≤ l.next + 1;
   most : l.next ≤ l.end + 1;
 }
 

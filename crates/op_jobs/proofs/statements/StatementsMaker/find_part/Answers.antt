@@ -14,11 +14,8 @@ find_labels-requires-clause-ground g c =
     let P : Cells → Type 0 = λ xs. AreOnlyCells c.args.extent (op_view c.args.op.now) c.args.operands.now c.args.count xs in
     subst P (sym c.deref.ensures.value) (only_of_ground c.args.extent (op_view c.args.op.now) c.args.operands.now c.args.count c.args.ground.now _ c.in-Only.is c.requires.ground)
 
-pub count_part-requires-clause-two : goal.count_part-requires-clause-two
-count_part-requires-clause-two g c = (counted_of c.args.extent (op_view c.args.op.now) c.args.operands.now c.args.count c.args.ground.now c.in-Tiles.is c.requires.ground).two
-
-pub count_part-requires-clause-operands : goal.count_part-requires-clause-operands
-count_part-requires-clause-operands g c = (counted_of c.args.extent (op_view c.args.op.now) c.args.operands.now c.args.count c.args.ground.now c.in-Tiles.is c.requires.ground).operands_are
+pub count_part-requires-clause-both : goal.count_part-requires-clause-both
+count_part-requires-clause-both g c = (counted_of c.args.extent (op_view c.args.op.now) c.args.operands.now c.args.count c.args.ground.now c.in-Tiles.is c.requires.ground).both
 
 pub count_part-requires-clause-few : goal.count_part-requires-clause-few
 count_part-requires-clause-few g c = (counted_of c.args.extent (op_view c.args.op.now) c.args.operands.now c.args.count c.args.ground.now c.in-Tiles.is c.requires.ground).few

@@ -13,11 +13,8 @@ returns-clause-jobs g c =
     (record { size = c.args.extent; op = c.args.op.now; operands = c.args.operands.now; kept = kept_now c.args.kept; count = c.count_of-count.result; own = c.in_ok-own.own })
     (record {
       size = c.tiles-size.ensures.size;
-      formed = c.requires.formed;
-      terms = c.requires.terms;
-      operands_are = c.requires.operands;
-      right = c.requires.right;
-      own_is = c.in_ok-own.ensures.own;
+      edited = record { operands_are = record { formed = c.requires.formed; count = c.requires.terms; each = c.requires.operands }; right = c.requires.right };
+      own_is = c.in_ok-own.ensures.answer;
       count_is = c.count_of-count.ensures;
     })
 
