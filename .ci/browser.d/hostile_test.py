@@ -11,7 +11,7 @@ import threading
 import time
 
 from chromium import Chromium, wait
-from live_run import TOP, Case, Page
+from live_run import RELIEF, TOP, Case, Page
 
 PAINT = 'paint Crater 57 24 60 30 1'
 
@@ -96,6 +96,14 @@ class Requests(Case):
         self.assertEqual(answer['state']['edits'], 8)
         self.assertEqual(self.run_of_live.say(['\tquit \r', 'list'])[1]['entries'][-1]['line'], '\tquit \r')
         wait(lambda: self.run_of_live.state()['ended'] == 'the program ended with status 0', 'the end')
+
+    def test_line_that_sets_the_language_has_a_reply_where_it_is_refused_alone(self):
+        self.run_of_live = self.live(['run', '1', '-', f'Elevation={RELIEF}'])
+        lines = ['model 3', 'model 2', 'value Elevation 68 31', 'model 2', 'X = LocalSum of Elevation and 1 ignoring nulls', 'model 1\r', 'value X 68 31']
+        status, answer = self.run_of_live.say(lines)
+        replies = [entry['reply'] for entry in answer['entries']]
+        self.assertEqual((status, replies), (200, ['refused number 7', '', 'value Elevation 68 31 195', 'refused syntax 1',
+                                                   'ok 2 changed 6 evaluated 6 worked 0', 'refused syntax 1', 'value X 68 31 196']))
 
     def test_bodies_that_no_page_makes_are_refused(self):
         for body in ('', '[]', 'null', '{', '{"lines": 1, "shown": {}}', '{"lines": ["list"]}', '{"lines": [1], "shown": {}}',

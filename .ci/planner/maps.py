@@ -23,11 +23,20 @@ def write_grid(file, rows, side=1, null=NULL_NUMBER):
     file.write_text(f'ncols {len(rows[0])}\nnrows {len(rows)}\nxllcorner 0\nyllcorner 0\ncellsize {side}\nNODATA_value {null}\n{cells}\n')
 
 
-def play(folder, layers, lines, side=1):
+def model_file(folder, language):
+    """The library as a model file that sets the language; 1 is set without a line."""
+    if language == 1:
+        return MODEL
+    file = folder / 'library.model'
+    file.write_text(f'model {language}\n{MODEL.read_text()}')
+    return file
+
+
+def play(folder, layers, lines, side=1, language=1):
     """What a session answers after the loads and the model file, line by line."""
     for name, rows in layers.items():
         write_grid(folder / name, rows, side)
-    words = [PROGRAM, 'run', '1', str(MODEL), *(f'{name}={folder / name}' for name in layers)]
+    words = [PROGRAM, 'run', '1', str(model_file(folder, language)), *(f'{name}={folder / name}' for name in layers)]
     done = subprocess.run(words, input='\n'.join(lines) + '\n', capture_output=True, text=True)
     if done.returncode != 0:
         sys.exit(f'status {done.returncode}: {done.stdout[-400:]}{done.stderr}')

@@ -6,7 +6,8 @@ from collections import namedtuple
 from grids import GREATEST, Refused
 
 # An operation: the name that it is written with (`Sight` for FocalSum radiating, `Flow` for IncrementalDrainage
-# carrying), its terms (names are texts, numbers are whole numbers), and what else is written.
+# carrying), its terms (names are texts, numbers are whole numbers), and what else is written; of a Local statistic
+# that passes null over it is `nulls`.
 Op = namedtuple('Op', 'kind terms extra')
 Call = namedtuple('Call', 'procedure given')
 Procedure = namedtuple('Procedure', 'name takes body')
@@ -38,8 +39,8 @@ def is_any(text):
 class Words:
     """The words of a line from the left on. Each call takes the word that it names, or is refused there."""
 
-    def __init__(self, line):
-        self.line = line
+    def __init__(self, line, language):
+        self.line, self.language = line, language
         self.words = [(m[0], m.start() + 1) for m in re.finditer(r'[=(),;:]|[^ \t=(),;:]+', line)]
         self.words += [('', len(line) + 1)] * 2
         self.next = 0
@@ -124,6 +125,8 @@ def parse_operation(words, fits):
         terms.append(words.term(fits))
         while kind in LOCAL and len(terms) < 8 and words.has('and'):
             terms.append(words.term(fits))
+        if kind in LOCAL and words.language == 2 and words.has('ignoring'):
+            extra = words.word('nulls')
     elif kind == 'LocalRating':
         extra = parse_rates(words)
     elif kind == 'FocalSum' and words.has('radiating'):
@@ -189,12 +192,14 @@ def parse_mark(words, kind):
     return kind, name, value, text
 
 
-def parse_words(words):
+def parse_words(words, is_open):
     first = words.text
     if is_plain(first):
         name = words.take()
         words.word('=')
         return 'define', name, parse_body(words)
+    if first == 'model' and is_open:
+        return words.take(), words.number(1, 2)
     if first not in ('procedure', 'paint', 'new', 'drop', 'value', 'grid', 'show', 'legend', 'table', 'stamps', 'list', 'quit'):
         words.refuse()
     words.take()
@@ -213,8 +218,9 @@ def parse_words(words):
     return (first,) if first in ('list', 'quit') else (first, words.name(is_any))
 
 
-def parse_line(line, length):
-    """-> what the line says, a tuple that begins with its kind; None for a blank line. Refused at its first fault."""
+def parse_line(line, length, language, is_open):
+    """-> what the line says, a tuple that begins with its kind; None for a blank line. Refused at its first fault. Given
+    are the language of the line and whether the place of a `model` line is open."""
     if length > LONGEST_LINE:
         raise Refused(f'long {length}')
     if line.lstrip(b' \t')[:1] in (b'', b'#'):
@@ -222,10 +228,10 @@ def parse_line(line, length):
     for at, byte in enumerate(line, 1):
         if byte != 9 and not 0x20 <= byte <= 0x7E:
             raise Refused(f'syntax {at}')
-    words = Words(line.decode())
+    words = Words(line.decode(), language)
     if words.text in ('label', 'symbol'):
         return parse_mark(words, words.take())
-    said = parse_words(words)
+    said = parse_words(words, is_open)
     words.end()
     return said
 
@@ -252,7 +258,7 @@ def print_body(written):
         return f'{kind} of {first} within {last}'
     if kind in FOCAL and extra is not None:
         return f'{kind} of {first} at {extra}'
-    return f"{kind} of {' and '.join(map(str, terms))}"
+    return f"{kind} of {' and '.join(map(str, terms))}" + (' ignoring nulls' if extra == 'nulls' else '')
 
 
 def print_procedure(procedure):

@@ -13,6 +13,7 @@ LAST_NUMBER = 2 ** 64 - 1
 class Machine:
     def __init__(self, extent, header):
         self.extent, self.header, self.number = extent, header, 0
+        self.language, self.is_open = 1, True  # of the next line, and whether that may be a `model` line
         self.procedures = {}  # in order of definition
         self.names = {}       # what is written under a name, None for a source; in order of first definition
         self.sources = {}
@@ -21,10 +22,16 @@ class Machine:
 
     def copy(self):
         other = Machine(self.extent, self.header)
-        other.number = self.number
+        other.number, other.language, other.is_open = self.number, self.language, self.is_open
         for part in ('procedures', 'names', 'sources', 'labels', 'symbols', 'layers', 'stamps'):
             setattr(other, part, dict(getattr(self, part)))
         return other
+
+    def speaking(self, language):
+        """The machine after a `model` line."""
+        after = self.copy()
+        after.language, after.is_open = language, False
+        return after
 
     # Statements
 
@@ -223,6 +230,7 @@ class Machine:
             after.mark(kind, *parts)
         after.evaluate()
         after.number = min(self.number + 1, LAST_NUMBER)
+        after.is_open = self.is_open and kind == 'load'
         changed, evaluated, worked = after.count(self, written, painted)
         return after, [f'ok {after.number} changed {changed} evaluated {evaluated} worked {worked}']
 

@@ -44,6 +44,8 @@ def neighbours(extent, at):
 
 
 def local_cell(op, cells):
+    if op.extra == 'nulls':
+        cells = [cell for cell in cells if cell is not None]
     if None in cells:
         return None
     if op.kind == 'LocalDifference':

@@ -64,12 +64,14 @@ def play(machine, lines, is_model=False):
     """-> the machine after the lines, up to a `quit`."""
     for line, length in lines:
         try:
-            said = parse_line(line, length)
+            said = parse_line(line, length, machine.language, machine.is_open)
             if said == ('quit',):
                 break
             if said is None:
                 continue
-            if said[0] in ('value', 'grid', 'show', 'legend', 'table', 'stamps', 'list'):
+            if said[0] == 'model':
+                machine = machine.speaking(said[1])
+            elif said[0] in ('value', 'grid', 'show', 'legend', 'table', 'stamps', 'list'):
                 put(machine.asked(*said))
             else:
                 machine, reply = machine.edited(*said)

@@ -11,7 +11,8 @@ from terminal import Terminal
 
 import lines as second
 
-from common.language import EDITS, OPERATIONS, REQUESTS, RESERVED, Names, explain, nearest
+from common import replies
+from common.language import LINES, OPERATIONS, REQUESTS, RESERVED, Names, explain, nearest
 
 EXAMPLES = os.path.join(TOP, 'examples')
 HEIGHTS = [[1, 2], [3, None]]
@@ -162,7 +163,12 @@ class Refusals(Talk):
     def test_carets(self):
         terminal = self.begun()
         for line, column, reply, sentence in (
-                ('Wet = LocalSum of Heights', 26, 'syntax', 'the line ends too early: LocalSum of TERM and TERM {and TERM}'),
+                ('Wet = LocalSum of Heights', 26, 'syntax', 'the line ends too early: LocalSum of TERM and TERM {and TERM} [ignoring nulls]'),
+                ('Wet = LocalSum of Heights and 1 ignoring nulls', 33, 'syntax',
+                 'ignoring nulls is of language 2, for which the line model 2 stands before the first edit'),
+                ('Wet = LocalRatio of Heights and 1 ignoring nulls', 35, 'syntax', "ignoring can't stand here: LocalRatio of TERM and TERM"),
+                ('model 3', 7, 'number', 'the language is 1 or 2'),
+                ('model', 6, 'syntax', 'the line ends too early: model VERSION'),
                 ('Wet = LocalSun of Heights and 1', 7, 'operation', 'LocalSun is no operation; did you mean LocalSum?'),
                 ('Wet = localsum of Heights and 1', 7, 'operation', 'localsum is no operation; did you mean LocalSum?'),
                 ('Wet = FocalMean of Heights at 33', 31, 'number', 'a radius is 1 to 32'),
@@ -240,6 +246,15 @@ class Refusals(Talk):
         shown, status = self.talk('run', '1', 'my.model', 'Heights=a.asc').end()
         self.assertIn('  my.model:2: paint Height 1 1 1 1 1', shown)
 
+    def test_a_line_of_the_model_after_one_without_a_reply(self):
+        for model, number, line in (('value Heights 1 1\nmodel +2\nB = LocalMean of Heights and 1 ignoring nulls\nC = LocalSun of B and 1', 4, 'C = LocalSun of B and 1'),
+                                    ('new B 1\n\nmodel 2\nC = LocalSun of B and 1', 3, 'model 2'), ('model 1\nlist\nmodel 2', 3, 'model 2'),
+                                    ('list\nmodel 3\nmodel 2', 2, 'model 3')):
+            self.write('my.model', model)
+            shown, status = self.talk('run', '1', 'my.model', 'Heights=a.asc').end()
+            self.assertEqual(status, 3)
+            self.assertIn(f'  my.model:{number}: {line}', shown)
+
     def test_a_grid(self):
         self.write('b.asc', grid_text(HEIGHTS).replace('3', '3.5'))
         shown, status = self.talk('run', '1', '-', 'Heights=a.asc', 'B=b.asc').end()
@@ -260,7 +275,8 @@ class Keys(Talk):
                             ('Wet = FocalProximity of Heights sp\ti\tSl\twith\t9', 'Wet = FocalProximity of Heights spreading in Slope within 9'),
                             ('grid Slope.\t', 'grid Slope.rise '), ('table S\tH\t', 'table Slope Heights '), ('Sl\t\t', 'Slope = '),
                             ('.ma\tS\t', '.map Slope '), ('.save Slope fil\t', '.save Slope filled.asc '), ('.log fo\t', '.log folder/'),
-                            ('.help IncrementalDr\t', '.help IncrementalDrainage '), ('drop Zzz\t', 'drop Zzz'),
+                            ('.help IncrementalDr\t', '.help IncrementalDrainage '), ('drop Zzz\t', 'drop Zzz'), ('mod\t2', 'model 2'),
+                            ('Wet = LocalMea\tof H\tand 1 ig\tnu\t', 'Wet = LocalMean of Heights and 1 ignoring nulls '),
                             ('procedure p(aa): bb = LocalSum of a\tand b\t', 'procedure p(aa): bb = LocalSum of aa and bb ')):
             terminal.press(keys)
             terminal.wait_for(typed)
@@ -331,8 +347,17 @@ class Own(Talk):
         again, _ = program(['run', '1', '-', 'Heights=a.asc'], self.read('it.session') + b'list\n', self.folder)
         self.assertEqual(again.decode().splitlines()[-len(listed):], listed)
 
+    def test_log_of_language_2(self):
+        terminal = self.begun()
+        self.assertEqual([terminal.line(line) for line in ('value Heights 1 1', 'model 2')], [['value Heights 1 1 1'], []])
+        terminal.line('Wet = LocalSum of Heights and 1 ignoring nulls')
+        self.assertEqual(terminal.line('model 1'), ['^'.rjust(3), 'refused syntax 1', '  # a line that sets the language stands before the first edit, and only once'])
+        self.assertEqual(terminal.line('.log it.session'), ['  # it.session: accepted edits: 1'])
+        self.assertEqual(self.read('it.session'), b'model 2\nWet = LocalSum of Heights and 1 ignoring nulls\n')
+
     def test_help_and_wrong_words(self):
         terminal = self.begun()
+        self.assertEqual(terminal.line('.help model'), ['  # model VERSION'])
         self.assertEqual(terminal.line('.help FocalSum'), ['  # FocalSum of TERM [at RADIUS]', '  # ' + OPERATIONS['FocalSum'][1]])
         self.assertEqual(terminal.line('.help paint'), ['  # paint NAME ROW COL ROW COL CELL'])
         self.assertEqual(terminal.line('.help qqqqqq'), ['  # qqqqqq is no line and no operation'])
@@ -346,17 +371,23 @@ class Language(Case):
         self.assertEqual(RESERVED, second.RESERVED)
 
     def test_forms(self):
-        """Each form, with all that may be left out and without, is a line that the program takes."""
+        """Each form, with all that may be left out and without, is a line that the program takes in language 2."""
         self.grid('a.asc', [[1, 2]])
         statements = [f'{name} = {line}' for forms in OPERATIONS.values() for form in forms for line in filled(form)
                       for name in (f'X{len(line)}',)]
         lines = [text for line in statements for text in (line, 'drop ' + line.split()[0])]
-        out, status = program(['run', '1', '-', 'A=a.asc'], '\n'.join(lines + ['']).encode(), self.folder)
-        replies = out.decode().splitlines()[1:]
-        self.assertEqual((status, len(replies)), (0, len(lines)))
-        self.assertEqual([line for line, reply in zip(lines, replies) if not reply.startswith('ok ')], [])
-        for form in (*REQUESTS.values(), *EDITS.values()):
+        out, status = program(['run', '1', '-', 'A=a.asc'], '\n'.join(['model 2', *lines, '']).encode(), self.folder)
+        told = out.decode().splitlines()[1:]
+        self.assertEqual((status, len(told)), (0, len(lines)))
+        self.assertEqual([line for line, reply in zip(lines, told) if not reply.startswith('ok ')], [])
+        for form in LINES.values():
             self.assertIn(form.split()[0], RESERVED)
+
+    def test_lines_with_a_reply(self):
+        lines = [b'', b'# model 1', b'value A 1 1', b'\tmodel  +02 ', b'model 2', b'drop A', b' ' * 4097, b'list']
+        self.assertEqual([number for number, _ in replies.answered(lines)], [3, 5, 6, 7, 8])
+        self.assertEqual([number for number, _ in replies.answered([b'new B 1', b'model 2'])], [1, 2])
+        self.assertEqual([number for number, _ in replies.answered([b'list', b'model=2'])], [1, 2])
 
     def test_every_refusal_is_explained(self):
         """Random lines, most of which the program refuses, and some for each of the other causes: each refusal has a sentence."""
@@ -364,7 +395,8 @@ class Language(Case):
         random, words = Random(52), [*RESERVED, *'A B A.b Cc = = ( ) , ; : 1 -1 0 4097 1000000000000001 33 x! procedure paint value'.split()]
         starts = ['', 'B = ', 'B = LocalSum of A and ', 'paint A 1 ', 'procedure P(a): ', 'B = P(', 'value A ', 'label ', 'B = FocalSum of A ']
         lines = [random.choice(starts) + ' '.join(random.choices(words, k=random.randint(0, 5))) for _ in range(1200)]
-        lines = [line for line in lines if line.strip() and line.split() != ['quit'] and line.split()[0] not in REQUESTS or line.startswith('value')]
+        lines = [line for line in lines if line.strip() and line.split()[0] not in (*REQUESTS, 'model') or line.startswith('value')]
+        lines += ['model', 'model 3', 'model 2 2', 'new Bb 1', 'model 2']
         lines += ['drop Zz', 'new A 1', 'paint A 2 1 2 1 1', 'B = Zz(A)', 'procedure Pp(a): result = LocalSum of a and 1', 'B = Pp(A, A)', 'x' * 4097,
                   'B = LocalProduct of A and 1000000000000000', 'D = LocalSum of E and 1', 'E = LocalSum of D and 1', 'paint D 1 1 1 1 1']
         lines += [f'new S{number} 1' for number in range(40)] + [f'T{number} = LocalSum of A and 1' for number in range(70)]

@@ -3,7 +3,7 @@
 import os
 import re
 
-from common.language import EDITS, OPERATIONS, REQUESTS, RESERVED, words_with_columns
+from common.language import LINES, OPERATIONS, REQUESTS, RESERVED, words_with_columns
 
 OWN_LINES = {  # the talk's own lines
     '.map': ('.map LAYER', 'draws a layer in colours'),
@@ -48,7 +48,7 @@ def terms(words, names):
 def after(words, names):
     """The words that may come after these words of a line."""
     if not words:
-        return [*EDITS, *REQUESTS, *OWN_LINES, *names.layers()]
+        return [*LINES, *OWN_LINES, *names.layers()]
     first = words[0]
     if '=' in words:
         body = words[len(words) - words[::-1].index('='):]
@@ -56,11 +56,13 @@ def after(words, names):
             return [*OPERATIONS, *(f'{name}(' for name in names.procedures)]
         return in_operation(body, terms(words, names)) if body[0] in OPERATIONS else terms(words, names)
     if first == '.help':
-        return [*OPERATIONS, *EDITS, *REQUESTS]
+        return [*OPERATIONS, *LINES]
     if len(words) > (2 if first == 'table' else 1):
         return ['null'] if first == 'paint' and len(words) == 6 else []
     if first == 'paint':
         return names.sources
+    if first == 'model':
+        return ['1', '2']
     if first in ('drop', 'label', 'symbol'):
         return names.layers()
     if first in ('.map', '.save') or first in REQUESTS and first not in ('list', 'quit'):

@@ -6,7 +6,7 @@ import re
 STATISTICS = ('Sum', 'Maximum', 'Minimum', 'Mean', 'Median', 'Majority', 'Minority', 'Variety')
 SHAPES = ('Linkage', 'Length', 'Partition', 'Frontage', 'Gradient', 'Aspect')
 OPERATIONS = {
-    **{f'Local{it}': [f'Local{it} of TERM and TERM {{and TERM}}'] for it in (*STATISTICS, 'Product')},
+    **{f'Local{it}': [f'Local{it} of TERM and TERM {{and TERM}} [ignoring nulls]'] for it in (*STATISTICS, 'Product')},
     'LocalDifference': ['LocalDifference of TERM and TERM'],
     'LocalRatio': ['LocalRatio of TERM and TERM'],
     'LocalRating': ['LocalRating of TERM with CELL for NUMBER [to NUMBER] {with CELL for NUMBER [to NUMBER]}'],
@@ -26,13 +26,17 @@ EDITS = {
     'paint': 'paint NAME ROW COL ROW COL CELL', 'new': 'new NAME CELL', 'drop': 'drop NAME', 'label': 'label NAME NUMBER TEXT',
     'symbol': 'symbol NAME NUMBER SIGN', 'procedure': 'procedure NAME(NAME, ..): NAME = OPERATION; ..; result = OPERATION',
 }
+LINES = {**EDITS, **REQUESTS, 'model': 'model VERSION'}
 DEFINITIONS = ('NAME = OPERATION', 'NAME = PROCEDURE(TERM, ..)')
-RESERVED = {*OPERATIONS, *REQUESTS, *EDITS, 'FocalNeighbor', *'''result null of and with for to at within spreading radiating in on from
-    carrying ignoring nulls model undo branch end'''.split()}
+RESERVED = {*OPERATIONS, *LINES, 'FocalNeighbor', *'''result null of and with for to at within spreading radiating in on from carrying
+    ignoring nulls undo branch end'''.split()}
 WORD = re.compile(r'[=(),;:]|[^ \t=(),;:]+')
 NAME = re.compile('[A-Za-z][A-Za-z0-9_]{0,31}')
 
 CELLS = 'a cell is a number from -1000000000000000 to 1000000000000000, or null'
+LANGUAGES = 'the language is 1 or 2'
+LATE_MODEL = 'a line that sets the language stands before the first edit, and only once'
+OF_LANGUAGE_2 = 'ignoring nulls is of language 2, for which the line model 2 stands before the first edit'
 RANGES = {'at': 'a radius is 1 to 32', 'within': 'the reach of a view is 1 to 64, the limit of a way 0 to 1000000000000000'}
 LIMITS = {
     'sources': '32 layers that are loaded or made by new', 'statements': '64 statements, those of calls included',
@@ -120,9 +124,8 @@ def forms_at(words, names):
         return OPERATIONS[called[-1]]
     if called and called[-1] in names.procedures:
         return [names.procedures[called[-1]][0]]
-    line = {**REQUESTS, **EDITS}.get(words[0]) if words else None
-    if line and not called:
-        return [line]
+    if words and words[0] in LINES and not called:
+        return [LINES[words[0]]]
     return list(DEFINITIONS)
 
 
@@ -140,6 +143,10 @@ def explain_place(kind, at, line, names):
         return 'lines are plain ASCII, without accents and signs beyond it'
     if not line[at - 1:].strip(b' \t'):
         return f'the line ends too early: {forms}'
+    if here == 'model' and not before:
+        return LATE_MODEL
+    if here == 'ignoring' and before[-2:-1] == ['and'] and here in forms:
+        return OF_LANGUAGE_2
     if here in RESERVED and (not before or before[-1] in ('new', 'procedure', '=', 'of', 'and', 'in', 'on', 'within', 'carrying', ',', '(')):
         return f"{here} is a word of the language, and can't be a name"
     return f"{here or 'this'} can't stand here: {forms}"
@@ -150,6 +157,8 @@ def explain_number(before):
         return RANGES[before[-1]]
     if before[0] == 'value' or before[0] == 'paint' and len(before) < 6:
         return 'rows and columns are 1 to 4096'
+    if before[0] == 'model':
+        return LANGUAGES
     return CELLS if '=' in before or before[0] in EDITS else 'the number is out of its range'
 
 

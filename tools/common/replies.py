@@ -1,7 +1,38 @@
-"""Replies of a session: how many lines each has."""
+"""Replies of a session: which lines have one, and how many lines each has."""
 
+import re
+
+from common.language import REQUESTS
+
+WIDEST_LINE = 4096
+BLANKS = b' \t'
+SETTING = re.compile(rb'[ \t]*model[ \t]+\+?0*[12][ \t]*')  # sets the language, where its place is open
+ASKING = [[word.encode()] for word in REQUESTS]
 COUNTED = {'show': 2, 'legend': 2, 'stamps': 2, 'table': 3, 'list': 1}  # which word of the first line says how many follow
 HEADER = 6  # lines of a printed grid's header
+
+
+def is_answered(line):
+    """Whether a line of bytes has a reply: it isn't empty and no comment, or is too long to be either. One that sets the language has a reply
+    only where it is refused, and `quit` has none."""
+    words = line.lstrip(BLANKS)
+    return len(line) > WIDEST_LINE or bool(words) and not words.startswith(b'#')
+
+
+def sets_language(line):
+    """Whether a line of bytes has no reply where it is accepted, as its first word tells."""
+    return len(line) <= WIDEST_LINE and line.split()[:1] == [b'model']
+
+
+def answered(lines):
+    """The lines of bytes that have a reply, with their numbers from 1, where all edits but the last line's are accepted."""
+    is_open = True
+    for number, line in enumerate(lines, 1):
+        if is_open and SETTING.fullmatch(line):
+            is_open = False
+        elif is_answered(line):
+            yield number, line
+            is_open = is_open and line.split()[:1] in ASKING
 
 
 def length(lines, first):

@@ -7,13 +7,12 @@ import select
 import subprocess
 import time
 
-from common.replies import COUNTED, HEADER
+from common.replies import BLANKS, COUNTED, HEADER, WIDEST_LINE, is_answered, sets_language
 
 WIDEST_PIPE = 1 << 20
 PIECE = 1 << 20
 MARK = b'all_was_answered_up_to_this_line'  # a layer that isn't there: the reply to its request ends the replies before it
-WIDEST_LINE = 4096
-BLANKS = b' \t'
+ASK_FOR_MARK = b'value ' + MARK + b' 1 1\n'
 
 
 class Ended(Exception):
@@ -34,16 +33,13 @@ class Reply:
         return self.text[:self.text.find(b'\n')].decode('latin-1')
 
 
-def is_answered(line):
-    """Whether a line of bytes has a reply: it isn't empty and no comment, or is too long to be either."""
-    line = line.removesuffix(b'\r')
-    words = line.lstrip(BLANKS)
-    return len(line) > WIDEST_LINE or bool(words) and not words.startswith(b'#')
-
-
 def is_quit(line):
     line = line.removesuffix(b'\r')
     return len(line) <= WIDEST_LINE and line.strip(BLANKS) == b'quit'
+
+
+def is_mark(reply):
+    return reply.startswith((b'undefined ' + MARK, b'value ' + MARK))
 
 
 def lines_after(first, second):
@@ -70,20 +66,20 @@ class Program:
         """The replies to the loads and the model file, as one text. Ended where the program ended over them."""
         text = b''
         try:
-            self.send(b'value ' + MARK + b' 1 1\n')
-            while not (line := self.line()).startswith(b'undefined ' + MARK):
+            self.send(ASK_FOR_MARK)
+            while not is_mark(line := self.line()):
                 text += line
         except EOFError:
             raise Ended([Reply(text, self.passed())]) from None
         return text
 
-    def ask(self, lines, count):
-        """The replies to lines of bytes, of which so many are answered. All are sent before the first reply is waited for."""
+    def ask(self, lines):
+        """The replies to lines of bytes, None for a line that has none. All are sent before the first reply is waited for."""
         replies = []
         with self.to_the_end(replies):
-            self.send(b''.join(line + b'\n' for line in lines))
-            for _ in range(count):
-                replies.append(self.reply())
+            self.send(b''.join(line + b'\n' + ASK_FOR_MARK * sets_language(line) for line in lines))
+            for line in lines:
+                replies.append(self.reply_to(line))
         return replies
 
     def ask_for_lines(self, text, count):
@@ -147,6 +143,17 @@ class Program:
     def line(self):
         """The next line that the program writes, with its line feed."""
         return self.taken(self.end_of_line(self.place))
+
+    def reply_to(self, line):
+        if is_quit(line) or not is_answered(line.removesuffix(b'\r')):
+            return None
+        reply = self.reply()
+        if not sets_language(line):
+            return reply
+        if is_mark(reply.text):
+            return None
+        self.reply()  # the mark's
+        return reply
 
     def reply(self):
         first = self.end_of_line(self.place)

@@ -12,7 +12,7 @@ from bisect import bisect_left
 from common.grid_text import TILE
 from common.language import Names, explain, refused_column
 from common.replies import HEADER, split
-from program import Ended, is_answered, is_quit
+from program import Ended, is_quit
 
 DEAR_AS_CELLS = 40  # asking for one cell takes about as long as printing so many of a grid
 WORTH_A_SIGHT = 0.5  # the share of cells up to which those in sight are asked for first
@@ -100,34 +100,30 @@ class Session:
         quits = [is_quit(line) for line in lines]
         lines = lines[:quits.index(True) + 1] if True in quits else lines
         sent = [Entry(line) for line in lines]
-        answered = [entry for entry in sent if is_answered(entry.line) and not is_quit(entry.line)]
         questions = [] if True in quits else [stamps_of(layer) for layer in layers]
         try:
-            replies = self.program.ask(lines + questions, len(answered) + len(questions))
+            replies = self.program.ask(lines + questions)
         except Ended as ended:
-            replies = ended.replies[:len(answered)]
-        for entry, reply in zip(answered, replies):
-            self.keep_reply(entry, reply)
-        self.close(sent, answered, min(len(answered), len(replies)))
+            replies = ended.replies[:len(sent)]
+        for entry, reply in zip(sent, replies):
+            entry.is_answered = True
+            if reply:
+                self.keep_reply(entry, reply)
+        self.close(sent)
         first = len(self.entries)
         self.entries += sent
-        return list(enumerate(sent, first)), replies[len(answered):]
+        return list(enumerate(sent, first)), replies[len(sent):]
 
-    def close(self, sent, answered, count):
-        """What is to be done after replies: lines without one, counts, names, sentences."""
-        lost = answered[count] if count < len(answered) else None
-        for entry in sent:
-            if entry is lost:
-                break
-            entry.is_answered = True
-        self.count_edits(entry.head for entry in answered[:count])
-        accepted = {(entry.line.split() + [b''])[0] for entry in answered[:count] if entry.head.startswith('ok ')}
+    def close(self, sent):
+        """What is to be done after replies: counts, names, sentences."""
+        self.count_edits(entry.head for entry in sent)
+        accepted = {(entry.line.split() + [b''])[0] for entry in sent if entry.head.startswith('ok ')}
         self.marks += len(accepted & MARKING)
         if accepted - QUIET:
             self.try_to_learn_names()
-        for entry in answered[:count]:
+        for entry in sent:
             entry.sentence = explain(entry.head.partition('\n')[0], entry.line, self.names)
-        if lost or is_quit(sent[-1].line):
+        if is_quit(sent[-1].line) or not sent[-1].is_answered:
             self.program.process.wait()
 
     def keep_reply(self, entry, reply):
@@ -162,7 +158,7 @@ class Session:
 
     def ask(self, *lines):
         """The replies to lines of our own, each of which has one."""
-        return self.program.ask(lines, len(lines))
+        return self.program.ask(lines)
 
     def changes(self, stamps, shown, sight):
         """For each layer with its stamps how it stands: a name for what is missing, or the tiles that changed and a text that has

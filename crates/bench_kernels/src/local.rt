@@ -1,11 +1,13 @@
 //! The Local kernel: so many times a statistic of two layers of 1000 by 1000 cells, tile by tile, in memory.
 //!
-//! The first word is the number of rounds. The second names the statistic, `sum` or `maximum`, so that the compiler doesn't know
-//! it, as in the program; with `copy` the tiles of the left layer are copied cell by cell instead, to compare with. What is printed
-//! is the sum of the first cells of all tiles of the last round. `bench/local` tells the time of a cell from two such runs.
+//! The first word is the number of rounds. The second names the statistic, `sum`, `maximum` or `ignoring`, the sum where nulls are
+//! passed over, so that the compiler doesn't know it, as in the program; with `copy` the tiles of the left layer are copied cell by
+//! cell instead, to compare with. With a third word, `nulls`, a few cells of either layer are null. What is printed is the sum of
+//! the first cells of all tiles of the last round. `bench/local` tells the time of a cell from two such runs.
 
 ghost use Rattle.std.specs.Prelude.{◌≡◌, ◌<◌, length, IfOk};
 ghost use Rattle.layer_tiles.specs.Tiles.{tiles_in};
+ghost use Rattle.local_ops.specs.Operations.{op_of, Takes};
 
 use crate::maps::{cell, layer_of, number_at, word_at};
 use layer_tiles::{Cell, Change, Extent, KernelRefusal, Layer, NoMemory, Operands, Tile};
@@ -21,36 +23,47 @@ const SIDE: u32 = 1000;
 #[derive(Clone, Copy)]
 enum Work {
     Stat(Stat),
+    Ignoring(Stat),
     Copy,
 }
 
-// A layer whose cells rise by rows and by columns, and begin anew at 1000.
-fn waves(alloc: Global, extent: Extent, by_row: u32, by_column: u32) -> Result<Layer, NoMemory>
+// A layer whose cells rise by rows and by columns, and begin anew at 1000. Of so many cells one is null, of 0 none.
+fn waves(
+    alloc: Global,
+    extent: Extent,
+    by_row: u32,
+    by_column: u32,
+    nulls: u32,
+) -> Result<Layer, NoMemory>
     ensures { IfOk result (λ layer. layer.size ≡ extent) }
 {
     layer_of(alloc, extent, |at| {
+        if nulls != 0 && at % nulls == 0 {
+            return Cell::null();
+        }
         let down = (at / SIDE).wrapping_mul(by_row);
         let right = (at % SIDE).wrapping_mul(by_column);
         cell(down.wrapping_add(right) % 1000)
     })
 }
 
-// A tile of a statistic of the two layers.
+// A tile of an operation of the two layers.
 fn both(
     alloc: Global,
-    stat: Stat,
+    op: &LocalOp,
     left: &Layer,
     right: &Layer,
     tile: u32,
     tally: &mut Counts,
 ) -> Result<Tile, KernelRefusal>
+    requires takes { Takes (op_of op.now) 2 }
     requires same { left.now.size ≡ right.now.size }
     requires within { tile < tiles_in left.now.size }
 {
     let mut operands = Operands::new();
     operands.push(Change::same(left));
     operands.push(Change::same(right));
-    local_tile(alloc, &LocalOp::Stat(stat), &operands, tile, tally)
+    local_tile(alloc, op, &operands, tile, tally)
 }
 
 // A copy of a tile of a layer.
@@ -96,7 +109,8 @@ fn corner(
     requires within { tile < tiles_in left.now.size }
 {
     let made = match work {
-        Work::Stat(stat) => both(alloc, stat, left, right, tile, tally)?,
+        Work::Stat(stat) => both(alloc, &LocalOp::Stat(stat), left, right, tile, tally)?,
+        Work::Ignoring(stat) => both(alloc, &LocalOp::Ignoring(stat), left, right, tile, tally)?,
         Work::Copy => copy(alloc, left, tile, tally)?,
     };
     let first = made.row(0).first();
@@ -116,11 +130,12 @@ fn round(alloc: Global, work: Work, left: &Layer, right: &Layer) -> Result<i64, 
     Ok(total)
 }
 
-// So many rounds, and the sum of the last.
-fn rounds(alloc: Global, work: Work, count: u32) -> Option<i64> {
+// So many rounds, and the sum of the last. With holes, one of 37 cells is null on the left, and one of 41 on the right.
+fn rounds(alloc: Global, work: Work, holes: bool, count: u32) -> Option<i64> {
     let extent = Extent::new(SIDE, SIDE)?;
-    let left = waves(alloc, extent, 7, 3).ok()?;
-    let right = waves(alloc, extent, 1, 5).ok()?;
+    let (nulls_left, nulls_right) = if holes { (37, 41) } else { (0, 0) };
+    let left = waves(alloc, extent, 7, 3, nulls_left).ok()?;
+    let right = waves(alloc, extent, 1, 5, nulls_right).ok()?;
     let mut total = 0;
     for _ in 0..count {
         total = round(alloc, work, &left, &right).ok()?;
@@ -133,7 +148,9 @@ pub fn measure(alloc: Global, words: &[&str]) -> Option<i64> {
     let work = match word_at(words, 1) {
         "copy" => Work::Copy,
         "maximum" => Work::Stat(Stat::Maximum),
+        "ignoring" => Work::Ignoring(Stat::Sum),
         _ => Work::Stat(Stat::Sum),
     };
-    rounds(alloc, work, number_at(words, 0))
+    let holes = word_at(words, 2) == "nulls";
+    rounds(alloc, work, holes, number_at(words, 0))
 }

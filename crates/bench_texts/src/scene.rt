@@ -54,6 +54,7 @@ fn sum_of(alloc: Global, names: &[Name]) -> Option<Op>
     Some(Op::Local {
         stat: Stat::Sum,
         terms,
+        ignoring: false,
     })
 }
 

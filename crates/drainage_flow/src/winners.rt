@@ -20,7 +20,7 @@ fn fall(here: Value, k: u8, there: Cell) -> i64
 {
     match there.get() {
         Some(lower) => {
-            let step = here as i64 - lower as i64;
+            let step = here - lower;
             if k % 2 == 0 { step * 7 } else { step * 5 }
         }
         None => 0,

@@ -47,7 +47,7 @@ module _ (t : EngineState) where
           ap (λ cs. Some (operand cs 0)) same
 
   viewers_told : (op : Op) (cells : List Cells) → all_some (map cells_for (terms_of op)) ≡ Some cells → viewers_of t (Some (by_op op)) ≡ viewers_in op cells
-  viewers_told (local_op stat ts) cells e = refl
+  viewers_told (local_op stat ignoring ts) cells e = refl
   viewers_told (difference_op u v) cells e = refl
   viewers_told (ratio_op u v) cells e = refl
   viewers_told (rating_op u rates) cells e = refl

@@ -133,7 +133,7 @@ module _ (touch : Touch) (s t : EngineState) (changes : ChangesOnly touch s t) (
           let before = changes.sources l.name grid e now in
           let was : value_of s l.name ≡ Some grid = value_unfolds s old l.name ∙ ap (made s.size (value_of s)) before in
           let cells : Option Grid → Option Cells = option_map (λ (g : Grid). g.cells) in
-          ap length (counts_nothing nothing s t l.name (local_op stats.Sum []) grid.cells refl refl (ap cells was) (ap cells (value_given t orderly l.name grid now))).changed
+          ap length (counts_nothing nothing s t l.name (local_op stats.Sum false []) grid.cells refl refl (ap cells was) (ap cells (value_given t orderly l.name grid now))).changed
       go (by_op op) is h = absurd cc
 
   no_work : (l : LayerDef) → is_given l.making ≡ true → work_of touch s t l ≡ 0

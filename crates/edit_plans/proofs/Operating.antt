@@ -14,7 +14,7 @@ use Rattle.map_defs.specs.Operate.{operate}
 
 pub operate_size : (s : Size) (op : Op) (operands : List Cells) → operate s op operands ≡ record { size = s; cells = (operate s op operands).cells }
 unfolding operate local_grid focal_grid zonal_grid form_grid direction_grid flow_grid sight_grid spread_grid region_grid
-operate_size s (local_op stat ts) operands = refl
+operate_size s (local_op stat ignoring ts) operands = refl
 operate_size s (difference_op u v) operands = refl
 operate_size s (ratio_op u v) operands = refl
 operate_size s (rating_op u rates) operands = refl

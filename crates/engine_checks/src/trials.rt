@@ -9,7 +9,7 @@ use live_engine::{Accepted, Edit, Engine, Entry, Refusal, Which};
 use map_lines::parse_line;
 use map_outside::Counts;
 use map_words::Name;
-use statement_parser::{Line, LineEdit};
+use statement_parser::{Language, Line, LineEdit, Place};
 use std::alloc::Global;
 use std::process::Abort;
 use std::test::Fail;
@@ -64,7 +64,11 @@ struct Answer {
 fn edit_of(alloc: Global, line: &[u8]) -> Option<LineEdit>
     ensures { IfSome result (λ e. IsEdit (edit_view e)) }
 {
-    match parse_line(alloc, line) {
+    let place = Place {
+        language: Language::One,
+        early: true,
+    };
+    match parse_line(alloc, line, place) {
         Ok(Line::Edit(edit)) => Some(edit),
         _ => None,
     }

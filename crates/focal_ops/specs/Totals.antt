@@ -14,7 +14,7 @@ summed true = Mean
 abbrev pub count_of : List ℤ → ℤ
 count_of zs = pos (length zs)
 
--- n numbers of cells may add up to this, of wider cells too
+-- n numbers of cells may add up to this
 pub record IsWithin (n : ℕ) (z : ℤ) : Type 0 where
   pub low : neg_ℤ (pos (1000000000000000 * n)) ≤ℤ z
   pub high : z ≤ℤ pos (1000000000000000 * n)

@@ -178,7 +178,7 @@ fn answer_of(least: bool, word: Value) -> Result<Option<Value>, Wide>
     if word == NOTHING {
         return Ok(None);
     }
-    if (word as i64) < -VMAX || word as i64 > VMAX {
+    if word < -VMAX || word > VMAX {
         return Err(Wide);
     }
     Ok(Some(if least { -word } else { word }))

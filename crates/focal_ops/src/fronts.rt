@@ -33,7 +33,7 @@ fn number_in(cell: Cell) -> i64
 {
     match cell.get() {
         None => 0,
-        Some(value) => value as i64,
+        Some(value) => value,
     }
 }
 

@@ -158,5 +158,5 @@ fn answer_of(mean: bool, total: i64, count: i64) -> Result<Option<Value>, Wide>
     if number < -VMAX || number > VMAX {
         return Err(Wide);
     }
-    Ok(Some(number as Value))
+    Ok(Some(number))
 }

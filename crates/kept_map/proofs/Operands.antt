@@ -19,7 +19,7 @@ in_ranges : (op : Op) → length (terms_of op) ≤ 8 → Each IsInRange (terms_o
 in_ranges op few each = record { few = few; values = each_value (terms_of op) each }
 
 pub has_operands : (op : Op) → HasRanges op → HasOperands op
-has_operands (local_op s ts) r = in_ranges (local_op s ts) r.1 r.2
+has_operands (local_op s ignoring ts) r = in_ranges (local_op s ignoring ts) r.1 r.2
 has_operands (difference_op l u) r = in_ranges (difference_op l u) (omega arith) (r.0, (r.1, tt))
 has_operands (ratio_op l u) r = in_ranges (ratio_op l u) (omega arith) (r.0, (r.1, tt))
 has_operands (rating_op t rs) r = in_ranges (rating_op t rs) (omega arith) (r.0, tt)

@@ -1,18 +1,39 @@
 //! Whole rows of cells, as a second program gives them.
-ghost use Rattle.std.specs.Prelude.{◌<◌};
+ghost use Rattle.std.specs.Prelude.{◌≡◌, ◌<◌, ◌≤◌, length};
+ghost use Rattle.std.specs.List.{All};
+ghost use Rattle.layer_tiles.specs.Tiles.{tiles_in};
+ghost use Rattle.layer_tiles.specs.Operands.{size_of};
 ghost use Rattle.local_ops.specs.Operations.{op_of, Takes};
 
-use crate::makers::{cell, first_row, layer_of};
+use crate::makers::{NULL, cell, first_row, layer_of};
+use crate::statistics::STATS;
 use layer_tiles::{Cell, Change, Extent, KernelRefusal, Layer, Operands, Value};
 use local_ops::{LocalOp, Rates, local_tile};
-use map_nums::{Rate, Stat};
+use map_nums::{Rate, Stat, VMAX, in_range};
 use map_outside::Counts;
 use std::alloc::Global;
 use std::process::Abort;
 use std::test::Fail;
 
-/// The first row of a tile that an operation makes of a layer and a cell everywhere, or the cell whose value is out of
-/// range. There is no tile where memory is out, or no such tile.
+/// The first row of a tile that an operation makes, or the cell whose value is out of range; none where memory is out.
+fn row_by(
+    alloc: Global,
+    op: &LocalOp,
+    operands: &Operands<'_>,
+    tile: u32,
+) -> Option<Result<Vec<Option<Value>>, u32>>
+    requires takes { Takes (op_of op.now) (length operands.now) }
+    requires one_size { All (λ c. c.size ≡ size_of operands.now) operands.now }
+    requires within { tile < tiles_in (size_of operands.now) }
+{
+    match local_tile(alloc, op, operands, tile, &mut Counts::new()) {
+        Ok(made) => Some(Ok(first_row(alloc, &made).ok()?)),
+        Err(KernelRefusal::Overflow(at)) => Some(Err(at)),
+        Err(KernelRefusal::NoMemory) => None,
+    }
+}
+
+/// The same of a layer and a cell everywhere; none where the layer has no such tile.
 fn row_with(
     alloc: Global,
     op: &LocalOp,
@@ -28,11 +49,7 @@ fn row_with(
     let mut operands = Operands::new();
     operands.push(Change::same(layer));
     operands.push(Change::constant(layer.extent(), cell(other)));
-    match local_tile(alloc, op, &operands, tile, &mut Counts::new()) {
-        Ok(made) => Some(Ok(first_row(alloc, &made).ok()?)),
-        Err(KernelRefusal::Overflow(at)) => Some(Err(at)),
-        Err(KernelRefusal::NoMemory) => None,
-    }
+    row_by(alloc, op, &operands, tile)
 }
 
 /// An operation of a layer of one tile and a number makes this row.
@@ -203,4 +220,86 @@ fn statistics_of_three(rt: HostRuntime) -> Result<(), Fail> {
         is_of_three(&rt, stat, &one, Cell::null(), None);
     }
     Ok(())
+}
+
+/// The first cell that a statistic makes of cells everywhere where nulls are passed over.
+fn cell_of(alloc: Global, stat: Stat, values: &[Value]) -> Option<Result<Option<Value>, u32>>
+    requires least { 2 ≤ length values.now }
+    requires most { length values.now ≤ 8 }
+{
+    let extent = Extent::new(1, 1)?;
+    let mut operands = Operands::new();
+    for value in values {
+        operands.push(Change::constant(extent, cell(*value)));
+    }
+    if operands.get(0)?.extent().tiles() == 0 {
+        return None;
+    }
+    match row_by(alloc, &LocalOp::Ignoring(stat), &operands, 0)? {
+        Ok(row) => Some(Ok(row.first().copied().flatten())),
+        Err(at) => Some(Err(at)),
+    }
+}
+
+/// Cells have these statistics where nulls are passed over, in the order of `STATS`; null ones where none are given.
+fn passes_over(rt: &(impl AllocGlobal + Abort), values: &[Value], wants: Option<[i128; 9]>) {
+    if values.len() < 2 || values.len() > 8 {
+        panic!(rt; "operands");
+    }
+    for (k, stat) in STATS.iter().enumerate() {
+        let wanted = match wants {
+            Some(numbers) => in_range(numbers[k]).map(Some).ok_or(0),
+            None => Ok(None),
+        };
+        assert_eq!(rt;
+            cell_of(rt.alloc(), *stat, values),
+            Some(wanted),
+            "{stat:?}"
+        );
+    }
+}
+
+#[test]
+fn nulls_passed_over(rt: HostRuntime) {
+    let top = VMAX as i128;
+    let rows: [(&[Value], Option<[i128; 9]>); 14] = [
+        (&[5, NULL], Some([5, 5, 5, 5, 5, 5, 5, 5, 1])),
+        (&[NULL, -7], Some([-7, -7, -7, -7, -7, -7, -7, -7, 1])),
+        (&[NULL, NULL], None),
+        (&[-3, -4], Some([-7, 12, -3, -4, -4, -4, -4, -4, 2])),
+        (
+            &[VMAX, NULL],
+            Some([top, top, top, top, top, top, top, top, 1]),
+        ),
+        (
+            &[VMAX, 1],
+            Some([top + 1, top, top, 1, top / 2, 1, 1, 1, 2]),
+        ),
+        (&[NULL, NULL, NULL], None),
+        (&[-7, NULL, 2], Some([-5, -14, 2, -7, -3, -7, -7, -7, 2])),
+        (
+            &[3, -1, 4, 1, -5, 9, 2, -6],
+            Some([7, -6480, 9, -6, 0, 1, -6, -6, 8]),
+        ),
+        (
+            &[NULL, 2, 1, NULL, 2, 1, 3, NULL],
+            Some([9, 12, 3, 1, 1, 2, 1, 3, 3]),
+        ),
+        (
+            &[4, 4, NULL, -6, -6, NULL, NULL, 9],
+            Some([5, 5184, 9, -6, 1, 4, -6, 9, 3]),
+        ),
+        (
+            &[NULL, NULL, NULL, NULL, NULL, NULL, NULL, 4],
+            Some([4, 4, 4, 4, 4, 4, 4, 4, 1]),
+        ),
+        (
+            &[-8, NULL, NULL, NULL, NULL, NULL, NULL, NULL],
+            Some([-8, -8, -8, -8, -8, -8, -8, -8, 1]),
+        ),
+        (&[NULL, NULL, NULL, NULL, NULL, NULL, NULL, NULL], None),
+    ];
+    for (values, wants) in rows {
+        passes_over(&rt, values, wants);
+    }
 }

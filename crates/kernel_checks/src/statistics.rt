@@ -2,7 +2,8 @@
 use map_nums::{Stat, StatRefusal, Value, Wide, in_range, statistic, statistic_in};
 use std::process::Abort;
 
-const STATS: [Stat; 9] = [
+/// Each statistic once.
+pub(crate) const STATS: [Stat; 9] = [
     Stat::Sum,
     Stat::Product,
     Stat::Maximum,

@@ -104,7 +104,7 @@ fn defaults_are_left_out(rt: HostRuntime) {
 /// The refused lines of worked sessions and model files that the grammar alone decides.
 #[test]
 fn refused_lines_of_sessions(rt: HostRuntime) {
-    let lines: [(&[u8], LineRefusal); 10] = [
+    let lines: [(&[u8], LineRefusal); 9] = [
         (b"foo", LineRefusal::Syntax(4)),
         (b"C = LocalSun of A and 1", LineRefusal::Operation(5)),
         (b"C = LocalSum of A and", LineRefusal::Syntax(22)),
@@ -114,10 +114,6 @@ fn refused_lines_of_sessions(rt: HostRuntime) {
         (b"paint A 0 1 1 1 1", LineRefusal::Number(9)),
         (b"symbol A 1 ab", LineRefusal::Syntax(13)),
         (b"ab\x80d", LineRefusal::Syntax(3)),
-        (
-            b"C = LocalSum of A and B ignoring nulls",
-            LineRefusal::Syntax(25),
-        ),
     ];
     for (line, want) in lines {
         gives(&rt, line, Some(want));

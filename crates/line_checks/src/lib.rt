@@ -4,6 +4,8 @@
 #[cfg(test)]
 mod all_rows;
 #[cfg(test)]
+mod languages;
+#[cfg(test)]
 mod lines;
 #[cfg(test)]
 mod names;

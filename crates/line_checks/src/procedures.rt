@@ -1,5 +1,5 @@
 //! Copies of what lines say, procedures, and what calls of them stand for, worked by hand.
-ghost use Rattle.std.specs.Prelude.{◌≡◌, ◌∷◌, [], IfOk, codes, pos};
+ghost use Rattle.std.specs.Prelude.{false, ◌≡◌, ◌∷◌, [], IfOk, codes, pos};
 ghost use Rattle.map_nums.specs.declared.Stat.TheVariants.{Sum, Product};
 ghost use Rattle.map_defs.specs.Ops.{layer_term, number_term, local_op};
 ghost use Rattle.map_defs.specs.Statements.{plain, call};
@@ -22,15 +22,19 @@ fn layer(alloc: Global, name: &[u8]) -> Result<Term, Fail>
 
 /// A Local statistic of two terms.
 fn local(alloc: Global, stat: Stat, left: Term, right: Term) -> Result<Written, Fail>
-    ensures { IfOk result (λ w. written_view w ≡ plain (local_op stat (term_view left ∷ term_view right ∷ []))) }
+    ensures { IfOk result (λ w. written_view w ≡ plain (local_op stat false (term_view left ∷ term_view right ∷ []))) }
 {
     let terms = vec![in alloc; left, right]?;
-    Ok(Written::Plain(Op::Local { stat, terms }))
+    Ok(Written::Plain(Op::Local {
+        stat,
+        terms,
+        ignoring: false,
+    }))
 }
 
 /// `x = LocalSum of P and K`.
 fn sum(alloc: Global) -> Result<Written, Fail>
-    ensures { IfOk result (λ w. written_view w ≡ plain (local_op Sum (layer_term (codes "P") ∷ layer_term (codes "K") ∷ []))) }
+    ensures { IfOk result (λ w. written_view w ≡ plain (local_op Sum false (layer_term (codes "P") ∷ layer_term (codes "K") ∷ []))) }
 {
     let value = layer(alloc, b"P")?;
     let more = layer(alloc, b"K")?;
@@ -39,7 +43,7 @@ fn sum(alloc: Global) -> Result<Written, Fail>
 
 /// `result = LocalProduct of x and 2`.
 fn product(alloc: Global) -> Result<Written, Fail>
-    ensures { IfOk result (λ w. written_view w ≡ plain (local_op Product (layer_term (codes "x") ∷ number_term (pos 2) ∷ []))) }
+    ensures { IfOk result (λ w. written_view w ≡ plain (local_op Product false (layer_term (codes "x") ∷ number_term (pos 2) ∷ []))) }
 {
     let x = layer(alloc, b"x")?;
     local(alloc, Stat::Product, x, Term::Number(2))

@@ -1,8 +1,8 @@
 //! What is seen of lines that are read.
 use map_nums::{Stat, Value};
 use statement_parser::{
-    Command, Form, Line, LineEdit, LineRefusal, Operation, Request, Rows, parse_line,
-    print_procedure, print_written,
+    Command, Form, Language, Line, LineEdit, LineRefusal, Operation, Place, Request, Rows,
+    parse_line, print_procedure, print_written,
 };
 use std::alloc::Global;
 
@@ -11,7 +11,9 @@ use std::alloc::Global;
 pub(crate) enum Table {
     /// The program's own.
     Program,
-    /// All commands, sight, calls and these operations.
+    /// The program's own, in language 2, at a place where the language may be set.
+    Early,
+    /// All commands, sight, calls, nulls that are ignored, and these operations.
     All,
 }
 
@@ -31,7 +33,8 @@ const OPERATIONS: [Operation; 11] = [
     Operation::Drainage,
 ];
 
-const COMMANDS: [Command; 14] = [
+const COMMANDS: [Command; 15] = [
+    Command::Model,
     Command::Procedure,
     Command::Paint,
     Command::New,
@@ -48,15 +51,28 @@ const COMMANDS: [Command; 14] = [
     Command::Quit,
 ];
 
+/// In language 1, which no line sets any more.
+const LATER: Place = Place {
+    language: Language::One,
+    early: false,
+};
+
+const EARLY: Place = Place {
+    language: Language::Two,
+    early: true,
+};
+
 fn read(alloc: Global, table: Table, line: &[u8]) -> Result<Line, LineRefusal> {
     let rows = Rows {
         operations: &OPERATIONS,
         commands: &COMMANDS,
         sight: true,
         calls: true,
+        ignoring: true,
     };
     match table {
-        Table::Program => map_lines::parse_line(alloc, line),
+        Table::Program => map_lines::parse_line(alloc, line, LATER),
+        Table::Early => map_lines::parse_line(alloc, line, EARLY),
         Table::All => parse_line(alloc, &rows, line),
     }
 }
@@ -77,6 +93,8 @@ pub(crate) struct Seen {
 fn form_of(line: &Line) -> &'static str {
     match line {
         Line::Blank => "blank",
+        Line::Model(Language::One) => "language 1",
+        Line::Model(Language::Two) => "language 2",
         Line::Quit => "quit",
         Line::Ask(request) => form_of_request(request),
         Line::Edit(edit) => form_of_edit(edit),

@@ -69,7 +69,7 @@ module _ (p : LayerDef → Bool) where
 -- ---- items
 
 op_zonal : (n : Name) (op : Op) → is_zonal (record { name = n; making = by_op op }) ≡ is_zonal_op op
-op_zonal n (local_op stat ts) = refl
+op_zonal n (local_op stat ignoring ts) = refl
 op_zonal n (difference_op t u) = refl
 op_zonal n (ratio_op t u) = refl
 op_zonal n (rating_op t rates) = refl

@@ -59,7 +59,7 @@ module _ (bs : List Binding) (bound : BoundInRange bs) where
   with_terms (t ∷ ts) h = (with_term t h.0, with_terms ts h.1)
 
   with_op : (op : Op) → HasRanges op → HasRanges (op_with bs op)
-  with_op (local_op s ts) h =
+  with_op (local_op s ignoring ts) h =
       let same : length (map (term_with bs) ts) ≡ length ts = length-map ts (term_with bs) in
       let least : 2 ≤ length ts = h.0 in
       let most : length ts ≤ 8 = h.1 in

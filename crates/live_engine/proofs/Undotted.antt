@@ -17,7 +17,7 @@ terms_undotted [] h = tt
 terms_undotted (t ∷ ts) h = each_join IsUndotted (term_names t) (flat_map term_names ts) (term_undotted t h.0) (terms_undotted ts h.1)
 
 op_undotted : (op : Op) → IsOp op → names.Each IsUndotted (needs_of op)
-op_undotted (local_op s ts) h = terms_undotted ts h.2
+op_undotted (local_op s ignoring ts) h = terms_undotted ts h.2
 op_undotted (difference_op t u) h = terms_undotted (t ∷ u ∷ []) (h.0, (h.1, tt))
 op_undotted (ratio_op t u) h = terms_undotted (t ∷ u ∷ []) (h.0, (h.1, tt))
 op_undotted (rating_op t rs) h = terms_undotted (t ∷ []) (h.0, tt)

@@ -1,7 +1,7 @@
 -- Rows of lent tiles, and the grids that they are tiles of.
 use Rattle.std.proofs.Common.{◌≡◌, ℕ, zero, suc, ◌+◌, ◌*◌, ◌<◌, List, [], ◌∷◌, ◌++◌, length, map, get_or, take, drop, Option, None, ℤ, Result, refl, sym, ◌∙◌, ap, subst, arith, Bor}
 use Rattle.std.specs.List.{All}
-use Rattle.std.proofs.lemmas.List.{get_or-take, get_or-drop, map_more, map-append, get_or-map}
+use Rattle.std.proofs.lemmas.List.{get_or-take, get_or-drop, map_more, map-append, get_or-map, length-map}
 use Rattle.map_nums.specs.Grids.{Size, IsSize, Cells}
 use Rattle.map_defs.specs.Local.{LocalOp, local_cell, local_at, local_grid, cells_at}
 use Rattle.layer_tiles.specs.Tiles.{Block, block_row, tile_block, tile_start, tile_height, tile_width, tiles_in}
@@ -35,6 +35,9 @@ rows-column (row ∷ rows) (b ∷ views) r c e =
     let head : row.now ≡ block_row b r = cc in
     let tail : map (λ row. row.now) rows ≡ map (λ b. block_row b r) views = cc in
     ap (λ (cells : Cells). get_or cells c None ∷ map (λ row. get_or row.now c None) rows) head ∙ ap (λ xs. get_or (block_row b r) c None ∷ xs) (rows-column rows views r c tail)
+
+pub rows-count : (rows : List (Bor Cells)) (views : List Block) → map (λ row. length row.now) rows ≡ map (λ b. b.width) views → length rows ≡ length views
+rows-count rows views e = sym (length-map rows (λ (row : Bor Cells). length row.now)) ∙ ap length e ∙ length-map views (λ (b : Block). b.width)
 
 pub rows-wide : (rows : List (Bor Cells)) (views : List Block) (h w c : ℕ) → map (λ row. length row.now) rows ≡ map (λ b. b.width) views → HaveSize h w views → c < w → All (λ row. c < length row.now) rows
 rows-wide [] views h w c e s l k d m = absurd (omega (arith, m))

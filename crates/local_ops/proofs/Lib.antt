@@ -1,4 +1,5 @@
 pub mod Numbers
 pub mod Twos
+pub mod Ones
 pub mod Lending
 pub mod LentRows

@@ -63,7 +63,7 @@ alike a b = rw (equals_itself a, equals_itself b, same_tests a b) (either_way (i
     either_way true = refl
     either_way false = refl
 
-ties : (t : Bool) (m n : ℕ) (x y : ℤ) → n ≡ m → x ≤ℤ y → (t || ((n == m) && int_le x y)) ≡ true
+pub ties : (t : Bool) (m n : ℕ) (x y : ℤ) → n ≡ m → x ≤ℤ y → (t || ((n == m) && int_le x y)) ≡ true
 ties true m n x y e l = refl
 ties false m n x y e l = grind (arith, nat_tests, ints)
 

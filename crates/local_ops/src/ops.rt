@@ -8,8 +8,10 @@ use std::marker::Model;
 /// A Local operation.
 #[derive(Drop)]
 pub enum LocalOp {
-    /// The statistic of two to eight operands.
+    /// The statistic of two to eight operands; null where one operand is null.
     Stat(Stat),
+    /// The statistic of the values among two to eight operands: nulls are passed over.
+    Ignoring(Stat),
     /// The first operand minus the second.
     Difference,
     /// The first operand over the second, rounded down; null where the second is 0.

@@ -4,33 +4,122 @@ ghost use Rattle.std.specs.Int.{int_div_euclid};
 ghost use Rattle.map_nums.specs.Numbers.{is_value};
 ghost use Rattle.map_nums.specs.Exact.{IsExact};
 ghost use Rattle.map_nums.specs.Stats.{statistic_of, total_of, product_of, maximum_of, minimum_of, variety_of};
-ghost use Rattle.map_defs.specs.Local.{local_cell, of_numbers};
-ghost use Rattle.local_ops.specs.Operations.{op_of, Takes};
 
-use crate::ops::LocalOp;
-use crate::values::{difference, kept, ratio};
+use crate::values::{kept, ratio};
 use layer_tiles::{Cell, Value};
 use map_nums::{Stat, Wide, exact};
 
-/// An operation on two values as a type: so the loop over a row has none to choose.
+/// An operation on two cells as a type: so the loop over a row has none to choose.
 pub(crate) trait Pairing {
-    ghost use Rattle.std.specs.Prelude.{[], ◌∷◌, IsTrue};
-    ghost use Rattle.map_nums.specs.Numbers.{is_value};
+    ghost use Rattle.std.specs.Prelude.{[], ◌∷◌};
     ghost use Rattle.map_nums.specs.Exact.{IsExact};
-    ghost use Rattle.map_defs.specs.Local.{LocalOp, of_numbers};
+    ghost use Rattle.map_defs.specs.Local.{LocalOp, local_cell};
 
     /// The operation.
     ghost op: { Self → LocalOp };
 
-    /// It takes two operands.
-    ghost takes: { Self → Type 0 };
+    /// Its value of two cells.
+    fn of(&self, left: Cell, right: Cell) -> Result<Option<Value>, Wide>
+        ensures { IsExact (local_cell (op self.now) (left ∷ right ∷ [])) result };
+}
+
+/// A statistic of two values as a type.
+pub(crate) trait StatOfTwo {
+    ghost use Rattle.std.specs.Prelude.{◌≡◌, [], ◌∷◌, IsTrue};
+    ghost use Rattle.map_nums.specs.Numbers.{is_value};
+    ghost use Rattle.map_nums.specs.Exact.{IsExact};
+    ghost use Rattle.map_nums.specs.Stats.{statistic_of};
+    ghost use Rattle.map_nums.specs.declared.Stat.{Stat};
+
+    /// The statistic.
+    ghost stat: { Self → Stat };
+
+    /// Its name.
+    fn name(&self) -> Stat
+        ensures { result ≡ stat self.now };
 
     /// Its value of two values of cells.
     fn of(&self, left: Value, right: Value) -> Result<Option<Value>, Wide>
-        requires taken { takes self.now }
         requires left { IsTrue (is_value left) }
         requires right { IsTrue (is_value right) }
-        ensures { IsExact (of_numbers (op self.now) (left ∷ right ∷ [])) result };
+        ensures { IsExact (statistic_of (stat self.now) (left ∷ right ∷ [])) result };
+}
+
+/// A statistic of two cells, null where one is null.
+#[derive(Drop)]
+pub(crate) struct BothPresent<P> {
+    pub(crate) statistic: P,
+}
+
+/// A statistic of those of two cells that aren't null.
+#[derive(Drop)]
+pub(crate) struct AnyPresent<P> {
+    pub(crate) statistic: P,
+}
+
+/// The first cell minus the second, null where one is null.
+#[derive(Drop)]
+pub(crate) struct Differences;
+
+/// The floor of the first cell over the second, null where one is null or the second is 0.
+#[derive(Drop)]
+pub(crate) struct Ratios;
+
+impl<P: StatOfTwo> Pairing for BothPresent<P> {
+    ghost use Rattle.std.specs.Prelude.{false};
+    ghost use Rattle.map_defs.specs.Local.{of_stat};
+
+    ghost op = { λ m. of_stat (P.stat m.statistic) false };
+
+    fn of(&self, left: Cell, right: Cell) -> Result<Option<Value>, Wide> {
+        let (Some(first), Some(second)) = (left.get(), right.get()) else {
+            return Ok(None);
+        };
+        self.statistic.of(first, second)
+    }
+}
+
+impl<P: StatOfTwo> Pairing for AnyPresent<P> {
+    ghost use Rattle.std.specs.Prelude.{true};
+    ghost use Rattle.map_defs.specs.Local.{of_stat};
+
+    ghost op = { λ m. of_stat (P.stat m.statistic) true };
+
+    fn of(&self, left: Cell, right: Cell) -> Result<Option<Value>, Wide> {
+        match (left.get(), right.get()) {
+            (Some(first), Some(second)) => self.statistic.of(first, second),
+            (Some(only), None) | (None, Some(only)) => {
+                statistic_of_one(self.statistic.name(), only)
+            }
+            (None, None) => Ok(None),
+        }
+    }
+}
+
+impl Pairing for Differences {
+    ghost use Rattle.map_defs.specs.Local.{difference};
+
+    ghost op = { λ _. difference };
+
+    fn of(&self, left: Cell, right: Cell) -> Result<Option<Value>, Wide> {
+        let (Some(first), Some(second)) = (left.get(), right.get()) else {
+            return Ok(None);
+        };
+        kept(rest(first, second))
+    }
+}
+
+impl Pairing for Ratios {
+    ghost use Rattle.map_defs.specs.Local.{ratio};
+
+    ghost op = { λ _. ratio };
+
+    fn of(&self, left: Cell, right: Cell) -> Result<Option<Value>, Wide> {
+        let (Some(first), Some(second)) = (left.get(), right.get()) else {
+            return Ok(None);
+        };
+        ratio(first, second)
+    }
 }
 
 /// The sum.
@@ -49,123 +138,80 @@ pub(crate) struct Maxima;
 #[derive(Drop)]
 pub(crate) struct Minima;
 
-/// The first value minus the second.
+/// Any statistic, chosen anew for each pair.
 #[derive(Drop)]
-pub(crate) struct Differences;
+pub(crate) struct AnyStat(pub(crate) Stat);
 
-/// Any operation, chosen anew for each pair.
-#[derive(Drop)]
-pub(crate) struct AnyPairs<'a>(pub(crate) &'a LocalOp);
-
-impl Pairing for Sums {
-    ghost use Rattle.map_defs.specs.Local.{of_stat};
+impl StatOfTwo for Sums {
     ghost use Rattle.map_nums.specs.declared.Stat.TheVariants.{Sum};
 
-    ghost op = { λ _. of_stat Sum };
+    ghost stat = { λ _. Sum };
 
-    ghost takes = { λ _. Unit {0} };
+    fn name(&self) -> Stat {
+        Stat::Sum
+    }
 
     fn of(&self, left: Value, right: Value) -> Result<Option<Value>, Wide> {
         kept(sum(left, right))
     }
 }
 
-impl Pairing for Products {
-    ghost use Rattle.map_defs.specs.Local.{of_stat};
+impl StatOfTwo for Products {
     ghost use Rattle.map_nums.specs.declared.Stat.TheVariants.{Product};
 
-    ghost op = { λ _. of_stat Product };
+    ghost stat = { λ _. Product };
 
-    ghost takes = { λ _. Unit {0} };
+    fn name(&self) -> Stat {
+        Stat::Product
+    }
 
     fn of(&self, left: Value, right: Value) -> Result<Option<Value>, Wide> {
         exact(product(left, right))
     }
 }
 
-impl Pairing for Maxima {
-    ghost use Rattle.map_defs.specs.Local.{of_stat};
+impl StatOfTwo for Maxima {
     ghost use Rattle.map_nums.specs.declared.Stat.TheVariants.{Maximum};
 
-    ghost op = { λ _. of_stat Maximum };
+    ghost stat = { λ _. Maximum };
 
-    ghost takes = { λ _. Unit {0} };
+    fn name(&self) -> Stat {
+        Stat::Maximum
+    }
 
     fn of(&self, left: Value, right: Value) -> Result<Option<Value>, Wide> {
         kept(greater(left, right))
     }
 }
 
-impl Pairing for Minima {
-    ghost use Rattle.map_defs.specs.Local.{of_stat};
+impl StatOfTwo for Minima {
     ghost use Rattle.map_nums.specs.declared.Stat.TheVariants.{Minimum};
 
-    ghost op = { λ _. of_stat Minimum };
+    ghost stat = { λ _. Minimum };
 
-    ghost takes = { λ _. Unit {0} };
+    fn name(&self) -> Stat {
+        Stat::Minimum
+    }
 
     fn of(&self, left: Value, right: Value) -> Result<Option<Value>, Wide> {
         kept(lesser(left, right))
     }
 }
 
-impl Pairing for Differences {
-    ghost use Rattle.map_defs.specs.Local.{difference};
+impl StatOfTwo for AnyStat {
+    ghost stat = { λ m. m.0 };
 
-    ghost op = { λ _. difference };
-
-    ghost takes = { λ _. Unit {0} };
+    fn name(&self) -> Stat {
+        self.0
+    }
 
     fn of(&self, left: Value, right: Value) -> Result<Option<Value>, Wide> {
-        kept(rest(left, right))
-    }
-}
-
-impl<'a> Pairing for AnyPairs<'a> {
-    ghost use Rattle.local_ops.specs.Operations.{op_of, Takes};
-
-    ghost op = { λ m. op_of m.0.now };
-
-    ghost takes = { λ m. Takes (op_of m.0.now) 2 };
-
-    fn of(&self, left: Value, right: Value) -> Result<Option<Value>, Wide> {
-        of_pair(self.0, left, right)
-    }
-}
-
-/// The operation's value of two cells, null where one is null.
-pub(crate) fn of_two<P: Pairing>(
-    pairing: &P,
-    left: Cell,
-    right: Cell,
-) -> Result<Option<Value>, Wide>
-    requires { P.takes pairing.now }
-    ensures { IsExact (local_cell (P.op pairing.now) (left ∷ right ∷ [])) result }
-{
-    let Some(first) = left.get() else {
-        return Ok(None);
-    };
-    let Some(second) = right.get() else {
-        return Ok(None);
-    };
-    pairing.of(first, second)
-}
-
-/// The operation's value of two values.
-fn of_pair(op: &LocalOp, left: Value, right: Value) -> Result<Option<Value>, Wide>
-    requires { Takes (op_of op.now) 2 }
-    ensures { IsExact (of_numbers (op_of op.now) (left ∷ right ∷ [])) result }
-{
-    match op {
-        LocalOp::Stat(stat) => statistic_of_pair(*stat, left, right),
-        LocalOp::Difference => difference(left, right),
-        LocalOp::Ratio => ratio(left, right),
-        LocalOp::Rating(_) => unreachable!(),
+        statistic_of_two(self.0, left, right)
     }
 }
 
 /// A statistic of two values.
-fn statistic_of_pair(stat: Stat, left: Value, right: Value) -> Result<Option<Value>, Wide>
+fn statistic_of_two(stat: Stat, left: Value, right: Value) -> Result<Option<Value>, Wide>
     ensures { IsExact (statistic_of stat (left ∷ right ∷ [])) result }
 {
     match stat {
@@ -176,6 +222,17 @@ fn statistic_of_pair(stat: Stat, left: Value, right: Value) -> Result<Option<Val
         // of two values, the least is in the lower middle, and it leads where both occur as often
         Stat::Minimum | Stat::Median | Stat::Majority | Stat::Minority => kept(lesser(left, right)),
         Stat::Variety => kept(variety(left, right)),
+    }
+}
+
+/// A statistic of one value of a cell.
+fn statistic_of_one(stat: Stat, value: Value) -> Result<Option<Value>, Wide>
+    requires { IsTrue (is_value value) }
+    ensures { IsExact (statistic_of stat (value ∷ [])) result }
+{
+    match stat {
+        Stat::Variety => Ok(Some(1)),
+        _ => Ok(Some(value)),
     }
 }
 

@@ -1,19 +1,23 @@
 //! The rows of a tile that an operation makes of lent ones.
-ghost use Rattle.std.specs.Prelude.{◌≡◌, ◌<◌, ◌≤◌, length, map, take};
+ghost use Rattle.std.specs.Prelude.{◌≡◌, ◌<◌, ◌≤◌, length, map, take, option_and_then};
 ghost use Rattle.std.specs.List.{All};
 ghost use Rattle.map_nums.specs.Exact.{IsExact};
-ghost use Rattle.map_nums.specs.Grids.{cell_at};
-ghost use Rattle.map_defs.specs.Local.{local_cell};
+ghost use Rattle.map_nums.specs.Grids.{cell_at, numbers_in};
+ghost use Rattle.map_nums.specs.Stats.{statistic_of};
+ghost use Rattle.map_defs.specs.Local.{all_numbers, of_numbers, of_stat};
 ghost use Rattle.layer_tiles.specs.Tiles.{block_row, tiles_in, tile_height, tile_width, IsBlockOf};
 ghost use Rattle.tile_frame.specs.Frames.{IsRowAnswer};
 ghost use Rattle.local_ops.specs.Operations.{op_of, Takes};
 ghost use Rattle.local_ops.specs.Operands.{cell_by, HaveSize};
 
 use crate::ops::LocalOp;
-use crate::pairs::{AnyPairs, Differences, Maxima, Minima, Pairing, Products, Sums, of_two};
+use crate::pairs::{
+    AnyPresent, AnyStat, BothPresent, Differences, Maxima, Minima, Pairing, Products, Ratios,
+    StatOfTwo, Sums,
+};
 use crate::values::value_of;
 use layer_tiles::{Cell, Extent, KernelRefusal, Tile, TileView, Value};
-use map_nums::{Stat, Wide};
+use map_nums::{Stat, Wide, statistic_in};
 use tile_frame::{RowMaker, TileMaker, make_row};
 
 /// An operation, and the tiles of its operands.
@@ -56,33 +60,56 @@ impl<'a, P: Pairing> RowMaker for RowOfTwo<'a, P> {
 
     ghost value = { λ m c. local_cell (P.op m.pairing.now) (cell_at m.left.now c ∷ cell_at m.right.now c ∷ []) };
 
-    ghost has = { λ m c. P.takes m.pairing.now × (c < length m.left.now) × (c < length m.right.now) };
+    ghost has = { λ m c. (c < length m.left.now) × (c < length m.right.now) };
 
     fn value_at(&self, c: u32) -> Result<Option<Value>, Wide> {
-        of_two(self.pairing, self.left[c as usize], self.right[c as usize])
+        self.pairing
+            .of(self.left[c as usize], self.right[c as usize])
     }
 }
 
-/// An operation, and a row of each of its operands.
+/// An operation that is null where one operand is, and a row of each of its operands.
 #[derive(Drop)]
-struct RowOfAny<'a, 'b> {
+struct RowOfAll<'a, 'b> {
     op: &'a LocalOp,
     rows: &'a [&'b [Cell]],
 }
 
-impl<'a, 'b> RowMaker for RowOfAny<'a, 'b> {
-    ghost use Rattle.std.specs.Prelude.{◌<◌, length, map};
+impl<'a, 'b> RowMaker for RowOfAll<'a, 'b> {
+    ghost use Rattle.std.specs.Prelude.{◌<◌, length, map, option_and_then};
     ghost use Rattle.std.specs.List.{All};
     ghost use Rattle.map_nums.specs.Grids.{cell_at};
-    ghost use Rattle.map_defs.specs.Local.{local_cell};
+    ghost use Rattle.map_defs.specs.Local.{all_numbers, of_numbers};
     ghost use Rattle.local_ops.specs.Operations.{op_of, Takes};
 
-    ghost value = { λ m c. local_cell (op_of m.op.now) (map (λ row. cell_at row.now c) m.rows.now) };
+    ghost value = { λ m c. option_and_then (of_numbers (op_of m.op.now)) (all_numbers (map (λ row. cell_at row.now c) m.rows.now)) };
 
     ghost has = { λ m c. Takes (op_of m.op.now) (length m.rows.now) × All (λ row. c < length row.now) m.rows.now };
 
     fn value_at(&self, c: u32) -> Result<Option<Value>, Wide> {
         value_of_column(self.op, self.rows, c)
+    }
+}
+
+/// A statistic of the values that are there, and a row of each of its operands.
+#[derive(Drop)]
+struct RowOfPresent<'a, 'b> {
+    stat: Stat,
+    rows: &'a [&'b [Cell]],
+}
+
+impl<'a, 'b> RowMaker for RowOfPresent<'a, 'b> {
+    ghost use Rattle.std.specs.Prelude.{◌<◌, ◌≤◌, length, map};
+    ghost use Rattle.std.specs.List.{All};
+    ghost use Rattle.map_nums.specs.Grids.{cell_at, numbers_in};
+    ghost use Rattle.map_nums.specs.Stats.{statistic_of};
+
+    ghost value = { λ m c. statistic_of m.stat (numbers_in (map (λ row. cell_at row.now c) m.rows.now)) };
+
+    ghost has = { λ m c. (length m.rows.now ≤ 8) × All (λ row. c < length row.now) m.rows.now };
+
+    fn value_at(&self, c: u32) -> Result<Option<Value>, Wide> {
+        statistic_of_column(self.stat, self.rows, c)
     }
 }
 
@@ -96,7 +123,6 @@ fn row_of_two<P: Pairing>(
     made: &mut Tile,
 ) -> Result<(), KernelRefusal>
     requires two { length views.now ≡ 2 }
-    requires takes { P.takes pairing.now }
     requires within { tile < tiles_in extent }
     requires sizes { HaveSize (tile_height extent tile) (tile_width extent tile) views.now }
     requires row { r < tile_height extent tile }
@@ -113,7 +139,7 @@ fn row_of_two<P: Pairing>(
     make_row(&maker, extent, tile, r, made)
 }
 
-/// The same for any operation: each of the simple ones has a loop of its own.
+/// The same for any operation of two operands: each of the simple ones has a loop of its own.
 fn row_of_pair(
     op: &LocalOp,
     views: &[TileView<'_>],
@@ -131,12 +157,59 @@ fn row_of_pair(
     ensures { IsRowAnswer (cell_by (op_of op.now) views.now r) extent tile r made.old made.new result }
 {
     match op {
-        LocalOp::Stat(Stat::Sum) => row_of_two(&Sums, views, extent, tile, r, made),
-        LocalOp::Stat(Stat::Product) => row_of_two(&Products, views, extent, tile, r, made),
-        LocalOp::Stat(Stat::Maximum) => row_of_two(&Maxima, views, extent, tile, r, made),
-        LocalOp::Stat(Stat::Minimum) => row_of_two(&Minima, views, extent, tile, r, made),
+        LocalOp::Stat(stat) => row_of_stat::<false>(*stat, views, extent, tile, r, made),
+        LocalOp::Ignoring(stat) => row_of_stat::<true>(*stat, views, extent, tile, r, made),
         LocalOp::Difference => row_of_two(&Differences, views, extent, tile, r, made),
-        _ => row_of_two(&AnyPairs(op), views, extent, tile, r, made),
+        LocalOp::Ratio => row_of_two(&Ratios, views, extent, tile, r, made),
+        LocalOp::Rating(_) => unreachable!(),
+    }
+}
+
+/// The same for a statistic that ignores nulls or doesn't: so either has loops of its own.
+fn row_of_stat<const IGNORING: bool>(
+    stat: Stat,
+    views: &[TileView<'_>],
+    extent: Extent,
+    tile: u32,
+    r: u32,
+    made: &mut Tile,
+) -> Result<(), KernelRefusal>
+    requires two { length views.now ≡ 2 }
+    requires within { tile < tiles_in extent }
+    requires sizes { HaveSize (tile_height extent tile) (tile_width extent tile) views.now }
+    requires row { r < tile_height extent tile }
+    requires size { IsBlockOf extent tile made.old }
+    ensures { IsRowAnswer (cell_by (of_stat stat IGNORING) views.now r) extent tile r made.old made.new result }
+{
+    match stat {
+        Stat::Sum => row_by_nulls::<_, IGNORING>(Sums, views, extent, tile, r, made),
+        Stat::Product => row_by_nulls::<_, IGNORING>(Products, views, extent, tile, r, made),
+        Stat::Maximum => row_by_nulls::<_, IGNORING>(Maxima, views, extent, tile, r, made),
+        Stat::Minimum => row_by_nulls::<_, IGNORING>(Minima, views, extent, tile, r, made),
+        _ => row_by_nulls::<_, IGNORING>(AnyStat(stat), views, extent, tile, r, made),
+    }
+}
+
+/// The same for a statistic as a type.
+fn row_by_nulls<P: StatOfTwo + Drop, const IGNORING: bool>(
+    statistic: P,
+    views: &[TileView<'_>],
+    extent: Extent,
+    tile: u32,
+    r: u32,
+    made: &mut Tile,
+) -> Result<(), KernelRefusal>
+    requires two { length views.now ≡ 2 }
+    requires within { tile < tiles_in extent }
+    requires sizes { HaveSize (tile_height extent tile) (tile_width extent tile) views.now }
+    requires row { r < tile_height extent tile }
+    requires size { IsBlockOf extent tile made.old }
+    ensures { IsRowAnswer (cell_by (of_stat (P.stat statistic) IGNORING) views.now r) extent tile r made.old made.new result }
+{
+    if IGNORING {
+        row_of_two(&AnyPresent { statistic }, views, extent, tile, r, made)
+    } else {
+        row_of_two(&BothPresent { statistic }, views, extent, tile, r, made)
     }
 }
 
@@ -158,8 +231,12 @@ fn row_of_any(
 {
     let all = rows_of(views, r);
     let rows = &all[..views.len()];
-    let maker = RowOfAny { op, rows };
-    make_row(&maker, extent, tile, r, made)
+    match op {
+        LocalOp::Ignoring(stat) => {
+            make_row(&RowOfPresent { stat: *stat, rows }, extent, tile, r, made)
+        }
+        _ => make_row(&RowOfAll { op, rows }, extent, tile, r, made),
+    }
 }
 
 /// Row `r` of each operand, then empty ones.
@@ -180,7 +257,7 @@ fn rows_of<'a, 'b>(views: &'a [TileView<'b>], r: u32) -> [&'a [Cell]; 8]
 fn value_of_column(op: &LocalOp, rows: &[&[Cell]], c: u32) -> Result<Option<Value>, Wide>
     requires takes { Takes (op_of op.now) (length rows.now) }
     requires within { All (λ row. c < length row.now) rows.now }
-    ensures { IsExact (local_cell (op_of op.now) (map (λ row. cell_at row.now c) rows.now)) result }
+    ensures { IsExact (option_and_then (of_numbers (op_of op.now)) (all_numbers (map (λ row. cell_at row.now c) rows.now))) result }
 {
     let mut values = [0; 8];
     for (k, row) in rows.iter().enumerate() {
@@ -190,4 +267,22 @@ fn value_of_column(op: &LocalOp, rows: &[&[Cell]], c: u32) -> Result<Option<Valu
         }
     }
     value_of(op, &mut values[..rows.len()])
+}
+
+/// The statistic of the values in column `c` of rows: nulls are passed over.
+fn statistic_of_column(stat: Stat, rows: &[&[Cell]], c: u32) -> Result<Option<Value>, Wide>
+    requires most { length rows.now ≤ 8 }
+    requires within { All (λ row. c < length row.now) rows.now }
+    ensures { IsExact (statistic_of stat (numbers_in (map (λ row. cell_at row.now c) rows.now))) result }
+{
+    let mut values = [0; 8];
+    let mut count = 0;
+    for row in rows {
+        let Some(value) = row[c as usize].get() else {
+            continue;
+        };
+        values[count] = value;
+        count += 1;
+    }
+    statistic_in(stat, &mut values[..count])
 }

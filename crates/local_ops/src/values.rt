@@ -7,13 +7,13 @@ ghost use Rattle.local_ops.specs.Operations.{op_of, Takes};
 use crate::ops::LocalOp;
 use map_nums::{Rate, VMAX, Value, Wide, exact, floor_div, statistic_in};
 
-/// The operation's value, where all operands have one. It may bring the values into another order.
+/// The operation's value of its operands' values. It may bring the values into another order.
 pub(crate) fn value_of(op: &LocalOp, values: &mut [Value]) -> Result<Option<Value>, Wide>
     requires { Takes (op_of op.now) (length values.old) }
     ensures { IsExact (of_numbers (op_of op.now) values.old) result }
 {
     match op {
-        LocalOp::Stat(stat) => statistic_in(*stat, values),
+        LocalOp::Stat(stat) | LocalOp::Ignoring(stat) => statistic_in(*stat, values),
         LocalOp::Difference => difference(values[0], values[1]),
         LocalOp::Ratio => ratio(values[0], values[1]),
         LocalOp::Rating(rates) => found(rated(rates.as_slice(), values[0])),
@@ -21,7 +21,7 @@ pub(crate) fn value_of(op: &LocalOp, values: &mut [Value]) -> Result<Option<Valu
 }
 
 /// `left - right`.
-pub(crate) fn difference(left: Value, right: Value) -> Result<Option<Value>, Wide>
+fn difference(left: Value, right: Value) -> Result<Option<Value>, Wide>
     ensures { IsExact (Some (left -ℤ right)) result }
 {
     exact(left as i128 - right as i128)
@@ -66,5 +66,5 @@ pub(crate) fn kept(number: i64) -> Result<Option<Value>, Wide>
     if number < -VMAX || number > VMAX {
         return Err(Wide);
     }
-    Ok(Some(number as Value))
+    Ok(Some(number))
 }

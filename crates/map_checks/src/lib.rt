@@ -4,6 +4,8 @@
 #![tactic(auto)]
 
 #[cfg(test)]
+mod gates;
+#[cfg(test)]
 mod graphs;
 #[cfg(test)]
 mod grids;
@@ -17,3 +19,7 @@ mod runs;
 mod sessions;
 #[cfg(test)]
 mod shelves_and_sinks;
+#[cfg(test)]
+mod steady_forms;
+#[cfg(test)]
+mod taken_whole;

@@ -87,8 +87,8 @@ fn said<R: AllocGlobal + Threads + Sync>(
 #[derive(Clone, Copy)]
 pub(crate) enum Step<'a> {
     Line(&'a str, &'a str),
-    /// A line that ends the session, and is answered by nothing.
-    Ends(&'a str),
+    /// A line of this kind, which is answered by nothing.
+    Silent(&'a str, Kind),
     /// A grid for a name.
     Load(&'a str, &'a str, Kind, &'a str),
 }
@@ -104,9 +104,9 @@ fn answer<R: AllocGlobal + Abort + Threads + Sync>(
             let reply = said(rt, session, line)?;
             assert_eq!(rt; reply.bytes.as_slice(), want.as_bytes(), "{line}");
         }
-        Step::Ends(line) => {
+        Step::Silent(line, kind) => {
             let reply = said(rt, session, line)?;
-            assert_eq!(rt; (reply.kind, reply.bytes.len()), (Kind::Quit, 0), "{line}");
+            assert_eq!(rt; (reply.kind, reply.bytes.len()), (kind, 0), "{line}");
         }
         Step::Load(name, grid, kind, want) => {
             let reply = loaded(rt, session, name, grid)?;

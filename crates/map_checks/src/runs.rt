@@ -6,15 +6,16 @@ use map_outside::{
 };
 use map_run::{Limits, Means, Status, run, run_within};
 use std::alloc::{AllocError, Global};
+use std::fs;
 use std::fs::Files;
 use std::process::Abort;
 use std::test::Fail;
 use std::thread::Threads;
 use tile_workers::NoGate;
 
-const WORDS: [&str; 4] = ["run", "1", "-", "A=a"];
+pub(crate) const WORDS: [&str; 4] = ["run", "1", "-", "A=a"];
 
-const FILE: &[u8] =
+pub(crate) const FILE: &[u8] =
     b"ncols 3\nnrows 3\nxllcorner 0\nyllcorner 0\ncellsize 1\n1 2 3\n4 5 6\n7 8 9\n";
 
 const SEVEN: &[u8] = b"ncols 1\nnrows 1\nxllcorner 0\nyllcorner 0\ncellsize 1\n7\n";
@@ -22,14 +23,14 @@ const SEVEN: &[u8] = b"ncols 1\nnrows 1\nxllcorner 0\nyllcorner 0\ncellsize 1\n7
 const SPACED: &[u8] =
     b"NCOLS        2\r\nNROWS        2\r\nXLLCORNER    100.5\r\nYLLCORNER    -20.000000000000\r\nCELLSIZE     60.000000000000\r\n 1 2\r\n -9999 4\r\n";
 
-const SESSION: &[u8] = b"B = LocalSum of A and 3\ngrid B\n";
+pub(crate) const SESSION: &[u8] = b"B = LocalSum of A and 3\ngrid B\n";
 
 // The replies to the load, then to the first line too, then to both lines.
-const LOADED: &[u8] = b"ok 1 changed 1 evaluated 1 worked 0\n";
+pub(crate) const LOADED: &[u8] = b"ok 1 changed 1 evaluated 1 worked 0\n";
 
 const SUMMED: &[u8] = b"ok 1 changed 1 evaluated 1 worked 0\nok 2 changed 1 evaluated 1 worked 0\n";
 
-const SHOWN: &[u8] =
+pub(crate) const SHOWN: &[u8] =
     b"ok 1 changed 1 evaluated 1 worked 0\nok 2 changed 1 evaluated 1 worked 0\nncols 3\nnrows 3\nxllcorner 0\nyllcorner 0\ncellsize 1\nNODATA_value -1000000000000001\n4 5 6\n7 8 9\n10 11 12\n";
 
 /// The numbers of the calls that fail. No call has the number 0.
@@ -46,7 +47,7 @@ const NONE: Fails = Fails {
     sink: 0,
 };
 
-fn owned(alloc: Global, texts: &[&str]) -> Result<Vec<String>, AllocError> {
+pub(crate) fn owned(alloc: Global, texts: &[&str]) -> Result<Vec<String>, AllocError> {
     let mut words = Vec::new(alloc);
     for text in texts {
         words.push(String::from_str(alloc, text)?)?;
@@ -491,6 +492,18 @@ fn play_files<R: AllocGlobal + Files + Threads + Sync>(
 fn misses_a_file_of_the_system(rt: HostRuntime) -> Result<(), Fail> {
     let words = owned(rt.alloc(), &["run", "1", "-", "A=no/such/file"])?;
     assert_eq!(rt; play_files(&rt, &words), (Status::ShelfFault, 0));
+    Ok(())
+}
+
+#[test]
+fn loads_a_file_by_its_very_name(rt: HostRuntime) -> Result<(), Fail> {
+    const NAME: &str = "map_checks_test_run ";
+    fs::write(&rt, NAME, FILE)?;
+    let words = owned(rt.alloc(), &["run", "1", "-", "A=map_checks_test_run "])?;
+    assert_eq!(rt; play_files(&rt, &words), (Status::Done, SHOWN.len()));
+    let words = owned(rt.alloc(), &["run", "1", "-", "A=map_checks_test_run"])?;
+    assert_eq!(rt; play_files(&rt, &words), (Status::ShelfFault, 0));
+    fs::remove_file(&rt, NAME)?;
     Ok(())
 }
 

@@ -1,5 +1,5 @@
 //! Sessions byte for byte; another program gave what they say.
-use crate::plays::Step::{Ends, Line, Load};
+use crate::plays::Step::{Line, Load, Silent};
 use crate::plays::{CELL, SQUARE, answers, plays};
 use layer_tiles::{Cell, Extent, Layer};
 use map_machine::Kind;
@@ -163,8 +163,73 @@ fn letters(alloc: Global, count: u32) -> Result<String, Fail> {
 #[test]
 fn long_line_and_end(rt: HostRuntime) -> Result<(), Fail> {
     let line = letters(rt.alloc(), 4097)?;
-    let steps = [Line(&line, "refused long 4097\n"), Ends("quit")];
+    let steps = [
+        Line(&line, "refused long 4097\n"),
+        Silent("quit", Kind::Quit),
+    ];
     plays(&rt, "A", CELL, &steps)
+}
+
+/// One row with a gap.
+const GAPS: &str = "ncols 3\nnrows 1\nxllcorner 0\nyllcorner 0\ncellsize 1\n1 -9999 3\n";
+
+const OTHER_GAPS: &str = "ncols 3\nnrows 1\nxllcorner 0\nyllcorner 0\ncellsize 1\n5 7 -9999\n";
+
+#[test]
+fn languages(rt: HostRuntime) -> Result<(), Fail> {
+    let steps = [
+        Load(
+            "B",
+            OTHER_GAPS,
+            Kind::Accepted,
+            "ok 2 changed 1 evaluated 1 worked 0\n",
+        ),
+        Line(
+            "C = LocalSum of A and B ignoring nulls",
+            "refused syntax 25\n",
+        ),
+        Line("model 3", "refused number 7\n"),
+        Silent("", Kind::Silent),
+        Silent("model 2", Kind::Model),
+        Line("model 2", "refused syntax 1\n"),
+        Line(
+            "C = LocalSum of A and B ignoring nulls",
+            "ok 3 changed 1 evaluated 1 worked 0\n",
+        ),
+        Line(
+            "procedure P(K): result = LocalMean of K and B ignoring nulls",
+            "refused syntax 45\n",
+        ),
+        Line(
+            "procedure P(K, M): result = LocalMean of K and M ignoring nulls",
+            "ok 4 changed 0 evaluated 0 worked 0\n",
+        ),
+        Line("D = P(A, C)", "ok 5 changed 1 evaluated 1 worked 0\n"),
+        Line("value C 1 2", "value C 1 2 7\n"),
+        Line("value D 1 2", "value D 1 2 7\n"),
+        Line(
+            "list",
+            "list 5\nprocedure P(K, M): result = LocalMean of K and M ignoring nulls\nsource A\nsource B\nC = LocalSum of A and B ignoring nulls\nD = P(A, C)\n",
+        ),
+        Line(
+            "paint B 1 2 1 2 null",
+            "ok 6 changed 3 evaluated 3 worked 0\n",
+        ),
+        Line("value D 1 2", "value D 1 2 null\n"),
+        Line("model 1", "refused syntax 1\n"),
+    ];
+    plays(&rt, "A", GAPS, &steps)
+}
+
+#[test]
+fn language_closed_by_an_edit(rt: HostRuntime) -> Result<(), Fail> {
+    let steps = [
+        Line("value A 1 2", "value A 1 2 null\n"),
+        Line("paint A 1 1 2 2 0", "refused size 1 3\n"),
+        Line("label A 1 one", "ok 2 changed 0 evaluated 0 worked 0\n"),
+        Line("model 2", "refused syntax 1\n"),
+    ];
+    plays(&rt, "A", GAPS, &steps)
 }
 
 #[test]

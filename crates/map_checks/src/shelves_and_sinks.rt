@@ -1,4 +1,5 @@
 //! Each form of what a run reads from and writes to, where all goes well and where it fails.
+use crate::taken_whole::bytes_of;
 use map_outside::{
     Failed, FetchFault, FileShelf, MemoryShelf, MemorySink, MemorySource, PutFault, ReadSource,
     Shelf, Sink, Source, WriteSink,
@@ -9,8 +10,25 @@ use std::process::Abort;
 use std::test::Fail;
 use std::{fs, io};
 
-fn named(alloc: Global, name: &str, bytes: &[u8]) -> Result<(String, Vec<u8>), AllocError> {
+pub(crate) fn named(
+    alloc: Global,
+    name: &str,
+    bytes: &[u8],
+) -> Result<(String, Vec<u8>), AllocError> {
     Ok((String::from_str(alloc, name)?, bytes.to_vec(alloc)?))
+}
+
+/// What was fetched is these bytes, or this fault.
+pub(crate) fn is_fetched(
+    rt: &impl Abort,
+    fetched: Result<Vec<u8>, FetchFault>,
+    want: Result<&[u8], FetchFault>,
+) {
+    match (fetched, want) {
+        (Ok(bytes), Ok(wanted)) => assert!(rt; bytes.as_slice() == wanted),
+        (Err(fault), Err(wanted)) => assert_eq!(rt; fault, wanted),
+        _ => assert!(rt; false, "{want:?}"),
+    }
 }
 
 /// A shelf gives these bytes of a file, or this fault.
@@ -21,11 +39,7 @@ fn fetches(
     limit: u64,
     want: Result<&[u8], FetchFault>,
 ) {
-    match (shelf.fetch(rt.alloc(), name, limit), want) {
-        (Ok(bytes), Ok(wanted)) => assert_eq!(rt; bytes.as_slice(), wanted),
-        (Err(fault), Err(wanted)) => assert_eq!(rt; fault, wanted),
-        _ => assert!(rt; false, "{name} {limit}"),
-    }
+    is_fetched(rt, shelf.fetch(rt.alloc(), name, limit), want);
 }
 
 #[test]
@@ -58,7 +72,7 @@ fn taken<S: Source>(source: &mut S, is_short: bool) -> Result<(usize, [u8; 3]), 
 }
 
 /// A source gives this many bytes into three dots, or into the first of them.
-fn takes<S: Source>(
+pub(crate) fn takes<S: Source>(
     rt: &impl Abort,
     source: &mut S,
     is_short: bool,
@@ -91,7 +105,12 @@ fn read_source(rt: HostRuntime) {
 }
 
 /// A sink answers this to bytes.
-fn puts<S: Sink>(rt: &impl Abort, sink: &mut S, bytes: &[u8], want: Result<(), PutFault>) {
+pub(crate) fn puts<S: Sink>(
+    rt: &impl Abort,
+    sink: &mut S,
+    bytes: &[u8],
+    want: Result<(), PutFault>,
+) {
     assert_eq!(rt; sink.put(bytes), want);
 }
 
@@ -132,14 +151,43 @@ fn full_writer(rt: HostRuntime) {
 fn file_shelf(rt: HostRuntime) -> Result<(), Fail> {
     const NAME: &str = "map_checks_test_file";
     fs::write(&rt, NAME, b"three".as_slice())?;
+    let alloc = rt.alloc();
     let mut shelf = FileShelf::new(&rt);
-    let whole = shelf.fetch(rt.alloc(), NAME, 5);
-    assert!(rt; matches!(&whole, Ok(bytes) if bytes.as_slice() == b"three".as_slice()));
-    let long = shelf.fetch(rt.alloc(), NAME, 4);
-    assert!(rt; matches!(long, Err(FetchFault::Long)));
+    is_fetched(&rt, shelf.fetch(alloc, NAME, 5), Ok(b"three"));
+    is_fetched(&rt, shelf.fetch(alloc, NAME, 4), Err(FetchFault::Long));
     fs::remove_file(&rt, NAME)?;
-    let missing = shelf.fetch(rt.alloc(), NAME, 5);
-    assert!(rt; matches!(missing, Err(FetchFault::Failed)));
+    is_fetched(&rt, shelf.fetch(alloc, NAME, 5), Err(FetchFault::Failed));
+    Ok(())
+}
+
+#[test]
+fn a_blank_at_the_end_of_a_name(rt: HostRuntime) -> Result<(), Fail> {
+    const NAME: &str = "map_checks_test_name";
+    const BLANK: &str = "map_checks_test_name ";
+    fs::write(&rt, BLANK, b"three".as_slice())?;
+    let alloc = rt.alloc();
+    let mut shelf = FileShelf::new(&rt);
+    is_fetched(&rt, shelf.fetch(alloc, BLANK, 5), Ok(b"three"));
+    is_fetched(&rt, shelf.fetch(alloc, NAME, 5), Err(FetchFault::Failed));
+    fs::remove_file(&rt, BLANK)?;
+    Ok(())
+}
+
+#[test]
+fn a_file_of_more_than_a_mebibyte(rt: HostRuntime) -> Result<(), Fail> {
+    const NAME: &str = "map_checks_test_large";
+    const SIZE: u64 = 1_048_577;
+    let alloc = rt.alloc();
+    let bytes = bytes_of(alloc, SIZE as usize)?;
+    fs::write(&rt, NAME, bytes.as_slice())?;
+    let mut shelf = FileShelf::new(&rt);
+    is_fetched(&rt, shelf.fetch(alloc, NAME, SIZE), Ok(&bytes));
+    is_fetched(
+        &rt,
+        shelf.fetch(alloc, NAME, SIZE - 1),
+        Err(FetchFault::Long),
+    );
+    fs::remove_file(&rt, NAME)?;
     Ok(())
 }
 
@@ -173,4 +221,24 @@ fn each_put_is_flushed(rt: HostRuntime) {
         assert_eq!(rt; sink.put(b"abc"), Ok(()));
     }
     assert_eq!(rt; writer.flushed, 3);
+}
+
+/// Takes all bytes, and fails to flush.
+#[derive(Drop)]
+struct Unflushed;
+
+impl Write for Unflushed {
+    fn write(&mut self, buf: &[u8]) -> io::Result<usize> {
+        Ok(buf.len())
+    }
+
+    fn flush(&mut self) -> io::Result<()> {
+        Err(io::Error::from(io::ErrorKind::Other))
+    }
+}
+
+#[test]
+fn a_flush_that_fails_is_a_fault(rt: HostRuntime) {
+    let mut sink = WriteSink::new(Unflushed);
+    assert_eq!(rt; sink.put(b"abc"), Err(PutFault::Failed));
 }

@@ -8,7 +8,7 @@ use Rattle.map_defs.specs.MadeProcedures.{IsUndotted}
 use Rattle.map_defs.proofs.FlatNames.{each_join, each_front, each_rest, each_more, after, met_after}
 
 pub terms_with : (f : Term → Term) (op : Op) → terms_of (with_terms f op) ≡ map f (terms_of op)
-terms_with f (local_op stat ts) = refl
+terms_with f (local_op stat ignoring ts) = refl
 terms_with f (difference_op t u) = refl
 terms_with f (ratio_op t u) = refl
 terms_with f (rating_op t rates) = refl

@@ -54,7 +54,7 @@ zone_none stat s b (Some z) = ap not (same_so (zone_statistic stat s (operand b 
 
 module _ (s : Size) (b : List Cells) (w : Cells) where
   at_none : (op : Op) (i : ℕ) → is_damaged_at op s b b w w i ≡ false
-  at_none (local_op stat ts) i = refl
+  at_none (local_op stat ignoring ts) i = refl
   at_none (difference_op u v) i = refl
   at_none (ratio_op u v) i = refl
   at_none (rating_op u rates) i = refl
@@ -99,7 +99,7 @@ module _ (s : Size) (b : List Cells) (w : Cells) where
 
   pub work_none : (op : Op) → op_work op s b b (Some w) w ≡ 0
   unfolding op_work
-  work_none (local_op stat ts) = refl
+  work_none (local_op stat ignoring ts) = refl
   work_none (difference_op u v) = refl
   work_none (ratio_op u v) = refl
   work_none (rating_op u rates) = refl

@@ -1,5 +1,5 @@
 -- The words of worked sessions: a map of one cell, statements, a procedure and edits.
-use Rattle.std.specs.Prelude.{ℕ, pos, [], ◌∷◌, Some, codes}
+use Rattle.std.specs.Prelude.{false, ℕ, pos, [], ◌∷◌, Some, codes}
 use Rattle.map_nums.specs.Grids.{Size, Grid}
 use Rattle.map_nums.specs.declared.Stat.{Stat}
 use Rattle.map_nums.specs.declared.Stat.TheVariants as stats
@@ -22,14 +22,14 @@ beyond_corner = record { top = 1; left = 1; bottom = 2; right = 1 }
 
 -- a statistic of a layer and a number
 abbrev pub with_number : Stat → Name → ℕ → Written
-with_number stat n k = plain (local_op stat (layer_term n ∷ number_term (pos k) ∷ []))
+with_number stat n k = plain (local_op stat false (layer_term n ∷ number_term (pos k) ∷ []))
 
 -- takes a layer and a number, and doubles their sum
 abbrev pub twice : Procedure
 twice = record {
   name = codes "Twice";
   takes = codes "P" ∷ codes "K" ∷ [];
-  body = record { name = codes "x"; written = plain (local_op stats.Sum (layer_term (codes "P") ∷ layer_term (codes "K") ∷ [])) }
+  body = record { name = codes "x"; written = plain (local_op stats.Sum false (layer_term (codes "P") ∷ layer_term (codes "K") ∷ [])) }
       ∷ record { name = codes "result"; written = with_number stats.Product (codes "x") 2 } ∷ [];
 }
 

@@ -1,7 +1,7 @@
 -- Lines that are refused, names that are missing, and model files.
 use Rattle.std.specs.Prelude.{[], ◌∷◌, ◌++◌, codes}
 use Rattle.map_machine.specs.Openings.{goes_on, turned_back}
-use Rattle.map_examples.specs.Runs.{loading, with_model, A, map_of, ok, Comes}
+use Rattle.map_examples.specs.Runs.{loading, with_model, A, B, map_of, grid_of, ok, Comes}
 
 pub record LineRows : Type 0 where
   pub refused_lines : Comes (loading (A (map_of 3 3 (codes "1 2 3\n4 5 6\n7 8 9\n")) ∷ []) (codes "B = LocalSum of A and 3\nfoo\nC = LocalSun of A and 1\nC = LocalSum of A and\nnew of 1\npaint A 0 1 1 1 1\npaint Z 1 1 1 1 1\npaint B 1 1 1 1 1\npaint A 1 1 4 1 0\nA = LocalSum of B and 1\nnew B 1\n\n# note\n")) (ok 1 1 1 0 ++ ok 2 1 1 0 ++ codes "refused syntax 4\nrefused operation 5\nrefused syntax 22\nrefused syntax 5\nrefused number 9\nrefused unknown Z\nrefused derived B\nrefused size 3 3\nrefused exists A\nrefused exists B\n") goes_on 128 0
@@ -15,3 +15,7 @@ pub record LineRows : Type 0 where
   pub overflow_in_the_last_wave : Comes (loading (A (map_of 1 33 (codes "1 1 1 1 1 1 1 1 1 1 1 1 1 1 1 1 1 1 1 1 1 1 1 1 1 1 1 1 1 1 1 1 1\n")) ∷ []) (codes "B = LocalProduct of A and 50000\nC = LocalProduct of B and 500000000\nE = LocalSum of C and 1\npaint A 1 32 1 33 40\nvalue C 1 33\n")) (ok 1 2 2 0 ++ ok 2 2 2 0 ++ ok 3 2 2 0 ++ ok 4 2 2 0 ++ codes "refused overflow E 1 32\nvalue C 1 33 25000000000000\n") goes_on 1025 1
   pub model_line_refused : Comes (with_model (codes "B = LocalSum of A and\n") (A (map_of 3 3 (codes "1 2 3\n4 5 6\n7 8 9\n")) ∷ []) []) (ok 1 1 1 0 ++ codes "refused syntax 22\n") turned_back 64 0
   pub model_then_session : Comes (with_model (codes "B = LocalSum of A and 3\n") (A (map_of 3 3 (codes "1 2 3\n4 5 6\n7 8 9\n")) ∷ []) (codes "value B 1 1\n")) (ok 1 1 1 0 ++ ok 2 1 1 0 ++ codes "value B 1 1 4\n") goes_on 129 1
+  pub nulls_ignored : Comes (loading (A (map_of 1 3 (codes "1 -9999 3\n")) ∷ B (map_of 1 3 (codes "5 7 -9999\n")) ∷ []) (codes "model 2\nC = LocalSum of A and B ignoring nulls\ngrid C\nD = LocalSum of A and B\ngrid D\nmodel 2\n")) (ok 1 1 1 0 ++ ok 2 1 1 0 ++ ok 3 1 1 0 ++ grid_of 1 3 (codes "6 7 3\n") ++ ok 4 1 1 0 ++ grid_of 1 3 (codes "6 -1000000000000001 -1000000000000001\n") ++ codes "refused syntax 1\n") goes_on 384 0
+  pub language_one_refuses_ignoring : Comes (loading (A (map_of 1 3 (codes "1 -9999 3\n")) ∷ B (map_of 1 3 (codes "5 7 -9999\n")) ∷ []) (codes "C = LocalSum of A and B ignoring nulls\nmodel 3\nmodel 2\nC = LocalSum of A and B ignoring nulls\nlist\n")) (ok 1 1 1 0 ++ ok 2 1 1 0 ++ codes "refused syntax 25\nrefused number 7\n" ++ ok 3 1 1 0 ++ codes "list 3\nsource A\nsource B\nC = LocalSum of A and B ignoring nulls\n") goes_on 192 0
+  pub language_closed_by_an_edit : Comes (loading (A (map_of 1 3 (codes "1 -9999 3\n")) ∷ B (map_of 1 3 (codes "5 7 -9999\n")) ∷ []) (codes "C = LocalSum of A and 1\nmodel 2\nC = LocalSum of A and B ignoring nulls\n")) (ok 1 1 1 0 ++ ok 2 1 1 0 ++ ok 3 1 1 0 ++ codes "refused syntax 1\nrefused syntax 25\n") goes_on 192 0
+  pub language_of_a_model_file : Comes (with_model (codes "model 2\n") (A (map_of 1 3 (codes "1 -9999 3\n")) ∷ B (map_of 1 3 (codes "5 7 -9999\n")) ∷ []) (codes "model 1\nC = LocalSum of A and B ignoring nulls\n")) (ok 1 1 1 0 ++ ok 2 1 1 0 ++ codes "refused syntax 1\n" ++ ok 3 1 1 0) goes_on 192 0

@@ -4,6 +4,7 @@ use Rattle.map_edits.specs.Allowances.{Reads, no_reads}
 use Rattle.map_edits.specs.WholeStates.{no_names}
 use Rattle.map_machine.specs.Limits.{longest_file, too_many_bytes}
 use Rattle.map_machine.specs.SampleGrids.{sample_header}
+use Rattle.map_lines.specs.Present.{first_place}
 use Rattle.map_machine.specs.States.{MapState}
 use Rattle.map_machine.specs.Loads.{first_load}
 use Rattle.map_machine.specs.Text.{reply_to}
@@ -23,7 +24,7 @@ abbrev pub looks : ℕ → Reads
 looks n = record { looks = n; picks = 0 }
 
 abbrev pub nothing : MapState
-nothing = record { header = sample_header; whole = no_names (record { rows = 1; columns = 1 }) }
+nothing = record { header = sample_header; place = first_place; whole = no_names (record { rows = 1; columns = 1 }) }
 
 pub record ReadRows : Type 0 where
   pub none_written : reads_by 0 ≡ looks 64

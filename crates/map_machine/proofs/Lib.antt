@@ -1,5 +1,6 @@
 pub mod LinesLemmas
 pub mod TextLemmas
+pub mod Quits
 pub mod StepLemmas
 pub mod WordsLemmas
 pub mod PairsLemmas

@@ -4,8 +4,8 @@ use Rattle.std.specs.Prelude.{nat_le}
 use Rattle.std.specs.List.{list_any}
 use Rattle.std.proofs.lemmas.Bool.{le-leb}
 use Rattle.std.proofs.lemmas.List.{length-append}
-use Rattle.map_lines.specs.Present.{present}
-use Rattle.statement_parser.specs.Lines.{Line, blank, edit, ask, quit}
+use Rattle.map_lines.specs.Present.{first_place, rows_at}
+use Rattle.statement_parser.specs.Lines.{Line, blank, edit, ask, model, quit}
 use Rattle.statement_parser.specs.Texts.{Refusal as LineRefusal}
 use Rattle.statement_parser.specs.LineOf.{line_of}
 use Rattle.map_edits.specs.Allowances.{Reads, no_reads}
@@ -15,6 +15,7 @@ use Rattle.map_machine.specs.Steps.{ends, is_quit}
 use Rattle.map_machine.specs.Text.{reply_to, state_to, replies_to, state_after}
 use Rattle.map_machine.specs.LineReads.{reads_by, line_reads}
 use Rattle.map_machine.specs.SessionReads.{together, and_then, lines_reads}
+use Rattle.map_machine.proofs.Quits.{quit_anywhere}
 
 -- ---- sums
 
@@ -105,9 +106,10 @@ ends_reads : (s : MapState) (r : Result Line LineRefusal) → ends r ≡ true �
 ends_reads s (Ok blank) e = absurd (cc)
 ends_reads s (Ok (edit e)) h = absurd (cc)
 ends_reads s (Ok (ask r)) e = absurd (cc)
+ends_reads s (Ok (model l)) e = absurd (cc)
 ends_reads s (Ok quit) e = refl
 ends_reads s (Err r) e = absurd (cc)
 
 pub line_reads-quit : (s : MapState) (line : List ℕ) → is_quit line ≡ true → line_reads s line ≡ no_reads
 unfolding line_reads is_quit
-line_reads-quit s line e = ends_reads s (line_of present line) e
+line_reads-quit s line e = ends_reads s (line_of (rows_at s.place) line) (quit_anywhere s.place first_place line ∙ e)

@@ -1,7 +1,7 @@
 -- What a line does, by its kind.
-use Rattle.std.proofs.Common.{◌≡◌, ◌↔◌, ℕ, true, List, Result, Ok, Err, refl}
-use Rattle.map_lines.specs.Present.{present}
-use Rattle.statement_parser.specs.Lines.{Line, blank, edit, ask, quit}
+use Rattle.std.proofs.Common.{◌≡◌, ◌↔◌, ℕ, true, List, Result, Ok, Err, refl, subst}
+use Rattle.map_lines.specs.Present.{first_place, rows_at}
+use Rattle.statement_parser.specs.Lines.{Line, blank, edit, ask, model, quit}
 use Rattle.statement_parser.specs.Texts.{Refusal as LineRefusal}
 use Rattle.statement_parser.specs.LineOf.{line_of}
 use Rattle.map_edits.specs.Refusals.{Refusal}
@@ -10,6 +10,7 @@ use Rattle.map_edits.specs.LineEdits.{line_edit}
 use Rattle.map_machine.specs.declared.Kind.TheVariants.{Quit}
 use Rattle.map_machine.specs.States.{MapState}
 use Rattle.map_machine.specs.Steps.{edited, step_by, step_of, ends, is_quit}
+use Rattle.map_machine.proofs.Quits.{quit_anywhere}
 
 edited_goes_on : (s : MapState) (r : Result Accepted Refusal) → (edited s r).kind ≡ Quit → ⊥
 edited_goes_on s (Ok a) e = cc
@@ -19,10 +20,11 @@ ends_kind : (s : MapState) (r : Result Line LineRefusal) → ((step_by s r).kind
 ends_kind s (Ok blank) = (λ e. absurd (cc), λ e. absurd (cc))
 ends_kind s (Ok (edit e)) = (λ k. absurd (edited_goes_on s (accept_counted s.whole (line_edit e)) k), λ q. absurd (cc))
 ends_kind s (Ok (ask r)) = (λ e. absurd (cc), λ e. absurd (cc))
+ends_kind s (Ok (model l)) = (λ e. absurd (cc), λ e. absurd (cc))
 ends_kind s (Ok quit) = (λ e. refl, λ e. refl)
 ends_kind s (Err r) = (λ e. absurd (cc), λ e. absurd (cc))
 
 -- a line is told as the end exactly where it ends the session
 pub quit_kind : (s : MapState) (line : List ℕ) → ((step_of s line).kind ≡ Quit) ↔ (is_quit line ≡ true)
 unfolding step_of is_quit
-quit_kind s line = ends_kind s (line_of present line)
+quit_kind s line = subst (λ b. ((step_by s (line_of (rows_at s.place) line)).kind ≡ Quit) ↔ (b ≡ true)) (quit_anywhere s.place first_place line) (ends_kind s (line_of (rows_at s.place) line))

@@ -1,7 +1,7 @@
 -- How much a line may read.
 use Rattle.std.specs.Prelude.{ℕ, List, Result, Ok, Err}
-use Rattle.map_lines.specs.Present.{present}
-use Rattle.statement_parser.specs.Lines.{Line, blank, edit, ask, quit}
+use Rattle.map_lines.specs.Present.{rows_at}
+use Rattle.statement_parser.specs.Lines.{Line, blank, edit, ask, model, quit}
 use Rattle.statement_parser.specs.Texts.{Refusal as LineRefusal}
 use Rattle.statement_parser.specs.LineOf.{line_of}
 use Rattle.map_edits.specs.LineEdits.{line_edit}
@@ -13,9 +13,10 @@ abbrev pub reads_by : MapState → Result Line LineRefusal → Reads
 reads_by s (Ok blank) = no_reads
 reads_by s (Ok (edit e)) = edit_reads s.whole (line_edit e)
 reads_by s (Ok (ask r)) = request_reads s.whole.names r
+reads_by s (Ok (model l)) = no_reads
 reads_by s (Ok quit) = no_reads
 reads_by s (Err r) = no_reads
 
 -- from the state before it; a line of any length
 unfoldable pub line_reads : MapState → List ℕ → Reads
-line_reads s line = reads_by s (line_of present line)
+line_reads s line = reads_by s (line_of (rows_at s.place) line)

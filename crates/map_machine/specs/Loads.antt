@@ -1,11 +1,11 @@
 -- What the load of a grid does.
 use Rattle.std.specs.Prelude.{ℕ, List, Result, Ok, Err, codes}
 use Rattle.map_nums.specs.Grids.{Grid}
-use Rattle.grid_text.specs.declared.Header.{Header}
 use Rattle.grid_text.specs.Faults.{Fault}
 use Rattle.grid_text.specs.Headed.{Headed}
 use Rattle.grid_text.specs.Contents.{grid_in}
 use Rattle.map_defs.specs.Ops.{Name}
+use Rattle.map_lines.specs.Present.{first_place}
 use Rattle.map_edits.specs.EditForms.{load}
 use Rattle.map_edits.specs.Refusals.{Refusal}
 use Rattle.map_edits.specs.WholeStates.{no_names}
@@ -20,17 +20,17 @@ pub data Opened : Type 0 where
   ready : MapState → List ℕ → Opened
   turned_away : List ℕ → Opened
 
-abbrev pub opened : Header → Name → Result Accepted Refusal → Opened
-opened header name (Ok a) = ready (record { header = header; whole = a.state }) (counted_reply a.state.names.number a.counts)
-opened header name (Err r) = turned_away (load_refused_reply name (edit_cause r))
+abbrev pub opened : MapState → Name → Result Accepted Refusal → Opened
+opened s name (Ok a) = ready (record s { whole = a.state }) (counted_reply a.state.names.number a.counts)
+opened s name (Err r) = turned_away (load_refused_reply name (edit_cause r))
 
 -- a grid is loaded into a state
 abbrev pub grid_load : MapState → Name → Grid → Opened
-grid_load s name grid = opened s.header name (accept_counted s.whole (of_names (load name grid)))
+grid_load s name grid = opened s name (accept_counted s.whole (of_names (load name grid)))
 
 -- before the first grid: it sets the size and the header texts of the run
 abbrev pub state_for : Headed → MapState
-state_for read = record { header = read.header; whole = no_names read.grid.size }
+state_for read = record { header = read.header; place = first_place; whole = no_names read.grid.size }
 
 -- what reading a file's bytes answered is loaded into the state before it
 abbrev pub read_load : (Headed → MapState) → Name → Result Headed Fault → Opened

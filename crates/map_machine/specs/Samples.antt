@@ -1,5 +1,6 @@
 -- The sample: its grids are loaded, and then its lines are played.
 use Rattle.std.specs.Prelude.{ℕ, List, [], ◌∷◌}
+use Rattle.map_lines.specs.Present.{first_place}
 use Rattle.map_edits.specs.WholeStates.{no_names}
 use Rattle.map_machine.specs.States.{MapState}
 use Rattle.map_machine.specs.Loads.{grid_load}
@@ -9,7 +10,7 @@ use Rattle.map_machine.specs.SampleGrids.{NamedGrid, sample_header}
 
 -- before the first grid
 abbrev pub sample_state : ℕ → MapState
-sample_state n = record { header = sample_header; whole = no_names (record { rows = n; columns = n }) }
+sample_state n = record { header = sample_header; place = first_place; whole = no_names (record { rows = n; columns = n }) }
 
 -- the text from these grids on; `next` is the text from the state after them
 abbrev pub grids_text : MapState → List NamedGrid → (MapState → List ℕ) → List ℕ

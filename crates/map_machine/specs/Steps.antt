@@ -1,9 +1,11 @@
 -- What one line does to a state, and what is replied.
 use Rattle.std.specs.Prelude.{ℕ, Bool, true, false, List, [], Result, Ok, Err}
-use Rattle.map_lines.specs.Present.{present}
-use Rattle.statement_parser.specs.Lines.{Line, blank, edit, ask, quit}
+use Rattle.map_lines.specs.Present.{first_place, rows_at}
+use Rattle.statement_parser.specs.Lines.{Line, blank, edit, ask, model, quit}
 use Rattle.statement_parser.specs.Texts.{Refusal as LineRefusal, long}
 use Rattle.statement_parser.specs.LineOf.{line_of}
+use Rattle.statement_parser.specs.declared.language.Language.{Language}
+use Rattle.statement_parser.specs.declared.language.Place.{Place}
 use Rattle.map_edits.specs.Refusals.{Refusal}
 use Rattle.map_edits.specs.Counted.{Accepted, accept_counted}
 use Rattle.map_edits.specs.LineEdits.{line_edit}
@@ -24,28 +26,33 @@ pub record Stepped : Type 0 where
 abbrev pub unchanged : MapState → List ℕ → Kind → Stepped
 unchanged s reply kind = record { state = s; reply = reply; kind = kind }
 
+-- no later line sets the language
+abbrev pub later : Language → Place
+later l = record { language = l; early = false }
+
 abbrev pub edited : MapState → Result Accepted Refusal → Stepped
-edited s (Ok a) = record { state = record s { whole = a.state }; reply = counted_reply a.state.names.number a.counts; kind = kinds.Accepted }
+edited s (Ok a) = record { state = record s { place = later s.place.language; whole = a.state }; reply = counted_reply a.state.names.number a.counts; kind = kinds.Accepted }
 edited s (Err r) = unchanged s (refused_reply (edit_cause r)) kinds.Refused
 
 abbrev pub step_by : MapState → Result Line LineRefusal → Stepped
 step_by s (Ok blank) = unchanged s [] kinds.Silent
 step_by s (Ok (edit e)) = edited s (accept_counted s.whole (line_edit e))
 step_by s (Ok (ask r)) = unchanged s (answer_to s r) kinds.Shown
+step_by s (Ok (model l)) = record { state = record s { place = later l }; reply = []; kind = kinds.Model }
 step_by s (Ok quit) = unchanged s [] kinds.Quit
 step_by s (Err r) = unchanged s (refused_reply (line_cause r)) kinds.Refused
 
 -- what a line does
 unfoldable pub step_of : MapState → List ℕ → Stepped
-step_of s line = step_by s (line_of present line)
+step_of s line = step_by s (line_of (rows_at s.place) line)
 
 abbrev pub ends : Result Line LineRefusal → Bool
 ends (Ok quit) = true
 ends r = false
 
--- the line ends the session
+-- the line ends the session, wherever it stands
 unfoldable pub is_quit : List ℕ → Bool
-is_quit line = ends (line_of present line)
+is_quit line = ends (line_of (rows_at first_place) line)
 
 -- the reply to a line that is too long, by its length
 unfoldable pub long_reply : ℕ → List ℕ

@@ -10,6 +10,8 @@
 pub enum Kind {
     /// Nothing is replied.
     Silent,
+    /// The line sets the language; nothing is replied.
+    Model,
     /// The line is an edit, and was accepted.
     Accepted,
     /// The line is a request, and was answered.

@@ -1,2 +1,3 @@
 mod Pieces
+mod Rooms
 pub mod Tellings

@@ -1,5 +1,5 @@
 -- The forms in memory, and what their calls do.
-use Rattle.std.specs.Prelude.{ℕ, ◌≡◌, true, false, List, [], ◌∷◌, ◌++◌, drop, length, min, nat_lt, if◌then◌else◌, Option, Some, None, Result, Ok, Err, Vec, String, string_bytes}
+use Rattle.std.specs.Prelude.{ℕ, ◌≡◌, ◌≤◌, ◌<◌, true, false, List, [], ◌∷◌, ◌++◌, drop, length, min, nat_lt, if◌then◌else◌, Option, Some, None, Result, Ok, Err, Vec, String, string_bytes}
 use Rattle.std.specs.Str.{bytes_eq}
 use Rattle.std.specs.declared.alloc.Global.{Global}
 use Rattle.map_outside.specs.Calls.{CallState, is_next_listed, called, failed}
@@ -37,6 +37,13 @@ MemoryFetches old name limit (Ok v) new = (fetch_fault old name limit ≡ None) 
 MemoryFetches old name limit (Err FetchFailed) new = (fetch_fault old name limit ≡ Some FetchFailed) × (new ≡ record old { calls = failed old.calls })
 MemoryFetches old name limit (Err Long) new = (fetch_fault old name limit ≡ Some Long) × (new ≡ record old { calls = called old.calls })
 MemoryFetches old name limit (Err FetchNoMemory) new = (fetch_fault old name limit ≡ None) × (new ≡ record old { calls = called old.calls })
+
+-- a copy of the bytes, where they are at most the limit, or why there is none
+abbrev pub CopiesWithin : List ℕ → ℕ → Result (Vec ℕ Global) FetchFault → Type 0
+CopiesWithin bytes limit (Ok v) = (v.items ≡ bytes) × (length bytes ≤ limit)
+CopiesWithin bytes limit (Err Long) = limit < length bytes
+CopiesWithin bytes limit (Err FetchNoMemory) = length bytes ≤ limit
+CopiesWithin bytes limit (Err FetchFailed) = ⊥
 
 -- the bytes that are left, of which a call gives at most a step
 pub record SourceState : Type 0 where

@@ -2,7 +2,7 @@
 ghost use Rattle.std.specs.Prelude.{◌≡◌, ◌≤◌, Some, None, true, IfOk, vec_len, MatchOption};
 ghost use Rattle.map_outside.specs.Causes.{FetchCounts};
 ghost use Rattle.map_outside.specs.Contents.{Fetches};
-ghost use Rattle.map_outside.specs.Forms.{named_bytes, file_named, MemoryFetches};
+ghost use Rattle.map_outside.specs.Forms.{named_bytes, file_named, CopiesWithin, MemoryFetches};
 
 use crate::calls::Calls;
 use crate::{FetchFault, Shelf};
@@ -36,7 +36,8 @@ impl MemoryShelf {
     }
 }
 
-fn find_file<'a>(files: &'a [(String, Vec<u8>)], name: &str) -> Option<&'a [u8]>
+/// The bytes of the first file of a name.
+pub(crate) fn find_file<'a>(files: &'a [(String, Vec<u8>)], name: &str) -> Option<&'a [u8]>
     ensures { MatchOption result (file_named (named_bytes files.now) name.now ≡ None)
         (λ bytes. file_named (named_bytes files.now) name.now ≡ Some bytes.now) }
 {
@@ -46,6 +47,19 @@ fn find_file<'a>(files: &'a [(String, Vec<u8>)], name: &str) -> Option<&'a [u8]>
         }
     }
     None
+}
+
+/// A copy of these bytes, where they are at most `limit`.
+pub(crate) fn copy_within(alloc: Global, bytes: &[u8], limit: u64) -> Result<Vec<u8>, FetchFault>
+    ensures { CopiesWithin bytes.now limit result }
+{
+    if bytes.len() as u64 > limit {
+        return Err(FetchFault::Long);
+    }
+    match bytes.to_vec(alloc) {
+        Ok(copy) => Ok(copy),
+        Err(_) => Err(FetchFault::NoMemory),
+    }
 }
 
 impl Shelf for MemoryShelf {
@@ -72,15 +86,7 @@ impl Shelf for MemoryShelf {
                 self.calls.raise_faults();
                 Err(FetchFault::Failed)
             }
-            Some(bytes) => {
-                if bytes.len() as u64 > limit {
-                    return Err(FetchFault::Long);
-                }
-                match bytes.to_vec(alloc) {
-                    Ok(copy) => Ok(copy),
-                    Err(_) => Err(FetchFault::NoMemory),
-                }
-            }
+            Some(bytes) => copy_within(alloc, bytes, limit),
         }
     }
 }

@@ -6,27 +6,23 @@ ghost use Rattle.map_outside.specs.Causes.{TakeCounts};
 ghost use Rattle.map_outside.specs.Forms.{MemoryTakes};
 
 use crate::calls::Calls;
+use crate::in_steps::InSteps;
 use crate::{Failed, Source};
 use std::marker::Model;
 
 /// Bytes in memory, of which each call gives a piece.
 #[derive(Drop)]
 pub struct MemorySource {
-    bytes: Vec<u8>,
-    at: usize,
-    step: usize,
+    bytes: InSteps,
     calls: Calls,
 }
 
 impl Model for MemorySource {
-    ghost use Rattle.std.specs.Prelude.{◌<◌, ◌≤◌, drop, vec_len};
     ghost use Rattle.map_outside.specs.Forms.{SourceState};
 
     ghost Value = { SourceState };
 
-    ghost view = { λ s. record { left = drop s.at s.bytes.items; step = s.step; calls = s.calls } };
-
-    ghost invariant = { λ s. (s.at ≤ vec_len s.bytes) × (0 < s.step) };
+    ghost view = { λ s. record { left = s.bytes.left; step = s.bytes.step; calls = s.calls } };
 }
 
 impl MemorySource {
@@ -37,9 +33,7 @@ impl MemorySource {
         ensures { result ≡ record { left = bytes.items; step = step; calls = record { made = 0; fails = fails.items; faults = 0 } } }
     {
         MemorySource {
-            bytes,
-            at: 0,
-            step,
+            bytes: InSteps::new(bytes, step),
             calls: Calls::new(fails),
         }
     }
@@ -61,9 +55,6 @@ impl Source for MemorySource {
             self.calls.raise_faults();
             return Err(Failed);
         }
-        let count = into.len().min(self.step).min(self.bytes.len() - self.at);
-        into[..count].copy_from_slice(&self.bytes[self.at..self.at + count]);
-        self.at += count;
-        Ok(count)
+        Ok(self.bytes.take(into))
     }
 }

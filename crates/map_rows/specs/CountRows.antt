@@ -1,5 +1,5 @@
 -- Tiles changed, damage and work of one statement, on grids of one tile.
-use Rattle.std.specs.Prelude.{◌≡◌, ℕ, pos, List, [], ◌∷◌, None}
+use Rattle.std.specs.Prelude.{false, ◌≡◌, ℕ, pos, List, [], ◌∷◌, None}
 use Rattle.map_nums.specs.declared.Stat.TheVariants.{Sum, Maximum, Variety}
 use Rattle.map_nums.specs.Grids.{Cells}
 use Rattle.map_defs.specs.Incremental.{gradient_form}
@@ -42,14 +42,14 @@ middle n = nums (1 ∷ 1 ∷ 1 ∷ 1 ∷ n ∷ 1 ∷ 1 ∷ 1 ∷ 1 ∷ [])
 pub record CountRows : Type 0 where
   pub focal_first : seven (focal_op Sum None term) ≡ counts 1 1 0
   pub zonal_first : seven (zonal_op Sum term term) ≡ counts 1 1 0
-  pub local_first : seven (local_op Variety (term ∷ term ∷ [])) ≡ counts 1 1 0
+  pub local_first : seven (local_op Variety false (term ∷ term ∷ [])) ≡ counts 1 1 0
   pub form_first : seven (form_op gradient_form term) ≡ counts 1 1 0
   pub direction_first : seven (direction_op term) ≡ counts 1 1 0
   pub flow_first : seven (flow_op term term) ≡ counts 1 1 2
   pub spread_first : seven (spread 1000000000000000) ≡ counts 1 1 2
   pub region_first : seven (region_op term) ≡ counts 1 1 2
   -- a change that stops
-  pub stops : at_change (local_op Maximum (term ∷ term ∷ [])) (by 3 3) (middle 5 ∷ all (by 3 3) 9 ∷ []) (middle 1 ∷ all (by 3 3) 9 ∷ []) ≡ counts 0 1 0
+  pub stops : at_change (local_op Maximum false (term ∷ term ∷ [])) (by 3 3) (middle 5 ∷ all (by 3 3) 9 ∷ []) (middle 1 ∷ all (by 3 3) 9 ∷ []) ≡ counts 0 1 0
   pub costs_first : at_first (spread 1000000000000000) (by 1 5) (source ∷ nums (1 ∷ 1 ∷ 1 ∷ 1 ∷ 1 ∷ []) ∷ []) ≡ counts 1 1 10
   pub rises : friction_changes (1 ∷ 1 ∷ 1 ∷ 1 ∷ 1 ∷ []) (1 ∷ 1 ∷ 5 ∷ 1 ∷ 1 ∷ []) ≡ counts 1 1 4
   pub falls : friction_changes (1 ∷ 1 ∷ 5 ∷ 1 ∷ 1 ∷ []) (1 ∷ 1 ∷ 1 ∷ 1 ∷ 1 ∷ []) ≡ counts 1 1 4

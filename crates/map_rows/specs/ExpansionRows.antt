@@ -1,5 +1,5 @@
 -- Expansion of calls, worked.
-use Rattle.std.specs.Prelude.{◌≡◌, ℕ, pos, List, [], ◌∷◌, ◌++◌, map, length, Some, None, Result, Ok, Err, codes}
+use Rattle.std.specs.Prelude.{false, ◌≡◌, ℕ, pos, List, [], ◌∷◌, ◌++◌, map, length, Some, None, Result, Ok, Err, codes}
 use Rattle.map_nums.specs.declared.Stat.{Stat}
 use Rattle.map_nums.specs.declared.Stat.TheVariants.{Sum, Product}
 use Rattle.map_defs.specs.Ops.{Name, Term, layer_term, number_term, Op, local_op}
@@ -14,7 +14,7 @@ abbrev pub number : ℕ → Term
 number n = number_term (pos n)
 
 abbrev pub of_two : Stat → Term → Term → Op
-of_two stat a b = local_op stat (a ∷ b ∷ [])
+of_two stat a b = local_op stat false (a ∷ b ∷ [])
 
 abbrev pub inner : Name → Written → Inner
 inner n w = record { name = n; written = w }

@@ -1,5 +1,5 @@
 -- Tiles changed and damaged, on grids of several tiles.
-use Rattle.std.specs.Prelude.{◌≡◌, ℕ, pos, List, [], ◌∷◌, ◌++◌, replicate, filter, Some, None}
+use Rattle.std.specs.Prelude.{false, ◌≡◌, ℕ, pos, List, [], ◌∷◌, ◌++◌, replicate, filter, Some, None}
 use Rattle.map_nums.specs.declared.Stat.TheVariants.{Sum, Product, Variety}
 use Rattle.map_nums.specs.Grids.{Size, Cells}
 use Rattle.map_nums.specs.Tiles.{tiles_in, tiles}
@@ -24,7 +24,7 @@ abbrev pub painted : ℕ → Cells
 painted n = replicate 31 (some 1) ++ replicate 2 (some n)
 
 abbrev pub product : Op
-product = local_op Product (term ∷ term ∷ [])
+product = local_op Product false (term ∷ term ∷ [])
 
 -- 33 by 33 cells of 1, but for this one in row 32 and column 32
 abbrev pub all_but : ℕ → Cells

@@ -16,3 +16,4 @@ pub mod WordLemmas
 mod Whole
 mod Completeness
 mod RunLemmas
+mod SteadyLemmas

@@ -18,3 +18,4 @@ pub mod Taken
 pub mod Sampled
 pub mod Completeness
 pub mod RunsTo
+pub mod Steady

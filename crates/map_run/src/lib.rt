@@ -18,6 +18,7 @@ mod sample;
 mod session;
 mod setup;
 mod status;
+mod steady;
 mod stop;
 mod top;
 mod words;
@@ -25,4 +26,5 @@ mod workers;
 
 pub use setup::{Limits, Means};
 pub use status::Status;
+pub use steady::run_steady;
 pub use top::{run, run_within};

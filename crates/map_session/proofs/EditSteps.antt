@@ -2,6 +2,7 @@
 use Rattle.std.proofs.Common.{◌≡◌, ℕ, List, Some, Result, Ok, Err, IfOk, refl, ap, ◌∙◌, sym, subst}
 use Rattle.map_nums.specs.declared.NoMemory.{NoMemory}
 use Rattle.grid_text.specs.declared.Header.{Header}
+use Rattle.statement_parser.specs.declared.language.Place.{Place}
 use Rattle.kept_map.specs.Repairs.{counts_view}
 use Rattle.live_engine.specs.declared.edits.Accepted.{Accepted}
 use Rattle.live_engine.specs.declared.edits.Refusal.{Refusal}
@@ -17,7 +18,7 @@ use Rattle.map_machine.specs.declared.Kind.TheVariants as kinds
 use Rattle.map_machine.specs.States.{MapState}
 use Rattle.map_machine.specs.Replies.{counted_reply, refused_reply}
 use Rattle.map_machine.specs.Causes.{edit_cause}
-use Rattle.map_machine.specs.Steps.{edited}
+use Rattle.map_machine.specs.Steps.{later, edited}
 use Rattle.map_session.specs.Causes.{edit_told}
 use Rattle.map_session.specs.Said.{Says, Does}
 use Rattle.map_session.specs.declared.replies.Reply.{Reply}
@@ -26,18 +27,18 @@ some_same : {A : Type 0} (x y : A) → Some x ≡ Some y → x ≡ y
 some_same x y e = cc
 
 -- a session's state, by what it keeps
-abbrev pub state : Header → WholeState → MapState
-state h whole = record { header = h; whole = whole }
+abbrev pub state : Header → Place → WholeState → MapState
+state h p whole = record { header = h; place = p; whole = whole }
 
 -- what the machine is told of an edit that the engine accepted
 abbrev outcome : WholeState → Accepted → counted.Accepted
 outcome new a = record { state = new; counts = counts_view a.counts }
 
-pub edit_done : (h : Header) (old new : WholeState) (s : MapState) (e : WholeEdit) (a : Accepted) (reply : Reply) → state h old ≡ s → accept_counted old e ≡ Ok (outcome new a)
-    → a.number ≡ new.names.number → Says (counted_reply a.number (counts_view a.counts)) kinds.Accepted reply → Does s (state h new) (edited s (accept_counted s.whole e)) (Ok reply)
-edit_done h old new s e a reply w accepts number says =
-    subst (λ (u : MapState). Does u (state h new) (edited u (accept_counted u.whole e)) (Ok reply)) w
-    (subst (λ (r : Result counted.Accepted edits.Refusal). Does (state h old) (state h new) (edited (state h old) r) (Ok reply)) (sym accepts)
+pub edit_done : (h : Header) (p : Place) (old new : WholeState) (s : MapState) (e : WholeEdit) (a : Accepted) (reply : Reply) → state h p old ≡ s → accept_counted old e ≡ Ok (outcome new a)
+    → a.number ≡ new.names.number → Says (counted_reply a.number (counts_view a.counts)) kinds.Accepted reply → Does s (state h (later p.language) new) (edited s (accept_counted s.whole e)) (Ok reply)
+edit_done h p old new s e a reply w accepts number says =
+    subst (λ (u : MapState). Does u (state h (later p.language) new) (edited u (accept_counted u.whole e)) (Ok reply)) w
+    (subst (λ (r : Result counted.Accepted edits.Refusal). Does (state h p old) (state h (later p.language) new) (edited (state h p old) r) (Ok reply)) (sym accepts)
     (refl, says.0 ∙ ap (λ k. counted_reply k (counts_view a.counts)) number, says.1))
 
 -- what an edit that is refused leaves, and what is told of it
@@ -60,11 +61,11 @@ turned old new e (an_edit.NoProcedure n) text a t = record { cause = edits.no_pr
 turned old new e (an_edit.Terms given wanted) text a t = record { cause = edits.wrong_terms given wanted; is = a.0; told = some_same _ _ t; kept = a.1 }
 turned old new e an_edit.NoMemory text a t = absurd (cc)
 
-pub edit_refused : (h : Header) (old new : WholeState) (s : MapState) (e : WholeEdit) (r : Refusal) (cause text : List ℕ) (reply : Result Reply NoMemory) → state h old ≡ s → Refuses old new e r
-    → edit_told r ≡ Some cause → text ≡ cause → IfOk reply (Says (refused_reply text) kinds.Refused) → Does s (state h new) (edited s (accept_counted s.whole e)) reply
-edit_refused h old new s e r cause text (Ok reply) w a t same says =
+pub edit_refused : (h : Header) (p : Place) (old new : WholeState) (s : MapState) (e : WholeEdit) (r : Refusal) (cause text : List ℕ) (reply : Result Reply NoMemory) → state h p old ≡ s → Refuses old new e r
+    → edit_told r ≡ Some cause → text ≡ cause → IfOk reply (Says (refused_reply text) kinds.Refused) → Does s (state h p new) (edited s (accept_counted s.whole e)) reply
+edit_refused h p old new s e r cause text (Ok reply) w a t same says =
     let u = turned old new e r cause a t in
-    subst (λ (s : MapState). Does s (state h new) (edited s (accept_counted s.whole e)) (Ok reply)) w
-    (subst (λ (x : Result counted.Accepted edits.Refusal). Does (state h old) (state h new) (edited (state h old) x) (Ok reply)) (sym u.is)
-    (ap (state h) u.kept, says.0 ∙ ap refused_reply (same ∙ sym u.told), says.1))
-edit_refused h old new s e r cause text (Err x) w a t same says = ap (state h) (turned old new e r cause a t).kept ∙ w
+    subst (λ (s : MapState). Does s (state h p new) (edited s (accept_counted s.whole e)) (Ok reply)) w
+    (subst (λ (x : Result counted.Accepted edits.Refusal). Does (state h p old) (state h p new) (edited (state h p old) x) (Ok reply)) (sym u.is)
+    (ap (state h p) u.kept, says.0 ∙ ap refused_reply (same ∙ sym u.told), says.1))
+edit_refused h p old new s e r cause text (Err x) w a t same says = ap (state h p) (turned old new e r cause a t).kept ∙ w

@@ -10,6 +10,7 @@ use Rattle.grid_text.specs.Headed.{Headed}
 use Rattle.grid_text.specs.Faults as grids
 use Rattle.grid_text.specs.Contents.{grid_in}
 use Rattle.grid_text.specs.Reads.{Reads as Holds}
+use Rattle.map_lines.specs.Present.{first_place}
 use Rattle.map_edits.specs.WholeStates.{WholeState, no_names}
 use Rattle.map_machine.specs.declared.Kind.TheVariants.{Accepted, Refused}
 use Rattle.map_machine.specs.States.{MapState}
@@ -78,7 +79,7 @@ load_reads s name bytes h a b e r = subst (λ (x : Result Headed grids.Fault). I
 -- ---- the first load, into a state without names
 
 -- the state before the first load is that of the grid's size
-pub state_before : (read : Headed) (whole : WholeState) (size : Size) → whole ≡ no_names size → size ≡ read.grid.size → record { header = read.header; whole = whole } ≡ state_for read
+pub state_before : (read : Headed) (whole : WholeState) (size : Size) → whole ≡ no_names size → size ≡ read.grid.size → record { header = read.header; place = first_place; whole = whole } ≡ state_for read
 state_before read whole size w e = rw (w, e) refl
 
 opened_refused : (o : Opened) (old new : MapState) (reply : Reply) → LoadsAs old new o (Ok reply) → reply.kind ≢ Accepted → (o ≡ turned_away reply.bytes.items) × (reply.kind ≡ Refused)

@@ -7,7 +7,7 @@ use Rattle.map_machine.specs.RequestReads.{request_reads}
 use Rattle.map_session.specs.declared.answers.Asked.{Asked}
 
 abbrev pub state_asked : Asked → MapState
-state_asked a = record { header = a.header.now; whole = a.engine.now }
+state_asked a = record { header = a.header.now; place = a.place; whole = a.engine.now }
 
 -- no more is read than this
 abbrev pub IsRead : Reads → TallyState → TallyState → Type 0

@@ -15,13 +15,14 @@ use live_engine::Engine;
 use map_machine::Kind;
 use map_nums::NoMemory;
 use map_words::Name;
-use statement_parser::Request;
+use statement_parser::{Place, Request};
 use std::alloc::Global;
 
-/// Of what requests ask: the header texts of the first grid, and the layers.
+/// Of what requests ask: the header texts of the first grid, the place, and the layers.
 #[derive(Clone, Copy)]
 pub(crate) struct Asked<'a> {
     pub header: &'a Header,
+    pub place: Place,
     pub engine: &'a Engine,
 }
 

@@ -10,7 +10,7 @@ ghost use Rattle.map_session.specs.Answered.{Begins, BeginsAs, Loads, LoadsAs};
 use crate::causes::{edit_cause, grid_cause};
 use crate::replies::Reply;
 use crate::rooms::ReplyRoom;
-use crate::session::{Begun, Session};
+use crate::session::{Begun, FIRST_PLACE, Session};
 use grid_text::{Grid, read_grid};
 use layer_tiles::{Layer, Tally};
 use live_engine::{Edit, Engine};
@@ -62,7 +62,11 @@ impl Session {
     {
         let Grid { header, layer } = grid;
         let engine = Engine::new(crew.alloc, layer.extent());
-        let mut session = Session { header, engine };
+        let mut session = Session {
+            header,
+            place: FIRST_PLACE,
+            engine,
+        };
         let reply = session.load_layer(crew, name, layer, tally)?;
         match reply.kind {
             Kind::Accepted => Ok(Begun::Ready(session, reply)),

@@ -3,7 +3,7 @@ ghost use Rattle.std.specs.Prelude.{◌≡◌, ◌≤◌, IfOk};
 ghost use Rattle.map_machine.specs.SampleGrids.{sample_header};
 ghost use Rattle.map_machine.specs.Samples.{sample_state};
 
-use crate::session::Session;
+use crate::session::{FIRST_PLACE, Session};
 use grid_text::{Corner, Header};
 use layer_tiles::{Extent, Text};
 use live_engine::Engine;
@@ -19,7 +19,11 @@ impl Session {
     {
         let header = sample_header(alloc)?;
         let engine = Engine::new(alloc, square(side));
-        Ok(Session { header, engine })
+        Ok(Session {
+            header,
+            place: FIRST_PLACE,
+            engine,
+        })
     }
 }
 

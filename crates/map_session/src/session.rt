@@ -11,7 +11,7 @@ ghost use Rattle.map_edits.specs.LineEdits.{line_edit};
 ghost use Rattle.map_machine.specs.LineReads.{line_reads};
 ghost use Rattle.map_machine.specs.Answers.{answer_to};
 ghost use Rattle.map_session.specs.Asked.{ReadsFor};
-ghost use Rattle.map_machine.specs.Steps.{edited};
+ghost use Rattle.map_machine.specs.Steps.{edited, later};
 
 use crate::answers::Asked;
 use crate::causes::{edit_cause, line_cause};
@@ -23,7 +23,7 @@ use live_engine::{Edit, Engine};
 use map_lines::parse_line;
 use map_machine::Kind;
 use map_nums::NoMemory;
-use statement_parser::{Line, LineEdit, Request};
+use statement_parser::{Language, Line, LineEdit, Place, Request};
 use std::alloc::Global;
 use std::marker::Model;
 use std::thread::Threads;
@@ -33,6 +33,7 @@ use tile_workers::{Crew, Gate};
 #[derive(Drop)]
 pub struct Session {
     pub(crate) header: Header,
+    pub(crate) place: Place,
     pub(crate) engine: Engine,
 }
 
@@ -41,7 +42,7 @@ impl Model for Session {
 
     ghost Value = { MapState };
 
-    ghost view = { λ s. record { header = s.header; whole = s.engine } };
+    ghost view = { λ s. record { header = s.header; place = s.place; whole = s.engine } };
 }
 
 /// How a session began.
@@ -52,6 +53,12 @@ pub enum Begun {
     /// The load was refused.
     Refused(Reply),
 }
+
+/// Where a session begins.
+pub(crate) const FIRST_PLACE: Place = Place {
+    language: Language::One,
+    early: true,
+};
 
 impl Session {
     ghost use Rattle.map_session.specs.Answered.{Steps};
@@ -80,14 +87,19 @@ impl Session {
         requires most { workers ≤ 64 }
         requires whole { 1 < workers → IsUndivided (M.counts tally.old) }
         ensures steps { Steps self.old self.new line.now result }
-        ensures kept { IfOk result (λ reply. reply.kind ≢ Kind.Accepted → self.new ≡ self.old) }
+        ensures kept { IfOk result (λ reply. reply.kind ≢ Kind.Accepted → reply.kind ≢ Kind.Model → self.new ≡ self.old) }
+        ensures set { IfOk result (λ reply. reply.kind ≡ Kind.Model → self.new ≡ record self.old { place = later self.new.place.language }) }
         ensures reads { RisesBy (line_reads self.old line.now).looks (line_reads self.old line.now).picks (M.counts tally.old) (M.counts tally.new) }
     {
         let crew = Crew::new(rt, alloc, gate, workers);
-        match parse_line(alloc, line) {
+        match parse_line(alloc, line, self.place) {
             Ok(Line::Blank) => Ok(Reply::empty(alloc, Kind::Silent)),
             Ok(Line::Edit(edit)) => self.edit(&crew, edit, tally),
             Ok(Line::Ask(request)) => self.answer(alloc, &request, tally),
+            Ok(Line::Model(language)) => {
+                self.place = later(language);
+                Ok(Reply::empty(alloc, Kind::Model))
+            }
             Ok(Line::Quit) => Ok(Reply::empty(alloc, Kind::Quit)),
             Err(refusal) => {
                 let cause = line_cause(alloc, refusal)?;
@@ -110,7 +122,10 @@ impl Session {
     {
         let room = ReplyRoom::new(crew.alloc)?;
         match self.engine.edit_by(crew, Edit::Line(edit), tally) {
-            Ok(accepted) => Ok(room.filled(accepted)),
+            Ok(accepted) => {
+                self.place = later(self.place.language);
+                Ok(room.filled(accepted))
+            }
             Err(refusal) => {
                 let cause = edit_cause(crew.alloc, &refusal)?;
                 Reply::refused(crew.alloc, &cause)
@@ -129,8 +144,19 @@ impl Session {
     {
         let asked = Asked {
             header: &self.header,
+            place: self.place,
             engine: &self.engine,
         };
         asked.answer(alloc, request, tally)
+    }
+}
+
+/// A place of this language, at which no line sets it.
+fn later(language: Language) -> Place
+    ensures { result ≡ later language }
+{
+    Place {
+        language,
+        early: false,
     }
 }

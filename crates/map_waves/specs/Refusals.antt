@@ -1,16 +1,16 @@
 -- Refusals among the answers of jobs.
-use Rattle.std.specs.Prelude.{ℕ, ◌<◌, List, length, Option, Some, None, min, Result}
+use Rattle.std.specs.Prelude.{◌≡◌, ℕ, ◌<◌, List, length, slice_get, Option, Some, None, min, Result, Err}
 use Rattle.layer_tiles.specs.declared.kernels.KernelRefusal.{KernelRefusal}
 use Rattle.layer_tiles.specs.declared.kernels.KernelRefusal.TheVariants.{Overflow, NoMemory}
 use Rattle.map_waves.specs.Jobs.{JobsState}
 use Rattle.map_waves.specs.Answers.{IsLeastOverflow, AllOk}
 use Rattle.map_waves.specs.Seating.{row_of}
 
--- nothing where all are there; else the least overflow, or want of memory
+-- nothing where all are there; else want of memory, where one tells it, or the least overflow
 abbrev pub IsRefusalOf : {R : Type 0} → List (Result R KernelRefusal) → Option KernelRefusal → Type 0
 IsRefusalOf {R} rs None = AllOk rs
 IsRefusalOf {R} rs (Some (Overflow at)) = IsLeastOverflow rs at
-IsRefusalOf {R} rs (Some NoMemory) = Unit {0}
+IsRefusalOf {R} rs (Some NoMemory) = (k : ℕ) × (slice_get rs k ≡ Some (Err NoMemory))
 
 abbrev pub lesser_of : Option ℕ → ℕ → ℕ
 lesser_of None at = at

@@ -10,6 +10,7 @@ ghost use Rattle.map_waves.specs.Keeping.{kept_now, was_of, IsRightKept};
 ghost use Rattle.map_waves.specs.Jobs.{AreOver};
 ghost use Rattle.map_waves.specs.Answers.{AreJobs, LacksJobs};
 ghost use Rattle.map_waves.specs.Plans.{damage_at, work_at};
+ghost use Rattle.map_waves.specs.declared.halts.NoJobs.TheVariants.{Viewers, NoMemory as no_memory};
 ghost use Rattle.map_waves.specs.Bases.{plan_of};
 ghost use Rattle.map_waves.specs.Tasks.{IsTask, places_of, reckoned_kept};
 ghost use Rattle.map_waves.specs.Begun.{AreBegun, IsHalted, halted_looks, halted_picks};
@@ -63,6 +64,17 @@ fn begin_step<'o, 'a, K: Maker + Sync, M: Tally + Send, G: Gate + Sync, R: Threa
     K::jobs_of(crew.alloc, &step.op, operands, kept, extent, found, tally)
 }
 
+/// How many viewers a statement has that has no jobs for their number.
+fn viewers_of(halt: NoJobs) -> Result<u64, NoMemory>
+    ensures viewers { IfOk result (λ count. halt ≡ Viewers count) }
+    ensures short { IfErr result (λ _. halt ≡ no_memory) }
+{
+    match halt {
+        NoJobs::Viewers(count) => Ok(count),
+        NoJobs::NoMemory => Err(NoMemory),
+    }
+}
+
 /// The jobs of all statements at work, up to one with too many viewers: its place, and how many there are.
 pub(crate) fn begin_all<
     'o,
@@ -98,9 +110,7 @@ pub(crate) fn begin_all<
         match begin_step::<K, M, G, R>(crew, base, &steps[task.place], &task.operands, tally) {
             Ok(own) => jobs.push(own)?,
             Err(halt) => {
-                let NoJobs::Viewers(count) = halt else {
-                    return Err(NoMemory);
-                };
+                let count = viewers_of(halt)?;
                 return Ok((jobs, Some((task.place, count))));
             }
         }

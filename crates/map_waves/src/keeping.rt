@@ -7,6 +7,9 @@ use layer_tiles::{Layer, Patch};
 pub struct Kept<B> {
     pub layer: Layer,
     pub beside: B,
+    /// Units of work of its last repair; none where it was made anew, or the edit wrote it. It tells what the next repair may
+    /// take, and changes no answer.
+    pub repaired: Option<u64>,
 }
 
 /// A repaired layer before it is put in place: its tiles, what is to stand beside it, and the numbers of the reply.

@@ -32,3 +32,4 @@ pub use laws::{kept_law, placed_law, values_law};
 pub use phases::repair_all;
 pub use placing::{place, place_all, renew_all};
 pub use plans::{Base, Ref, Shift, Step};
+pub use tickets::WORTH_A_WORKER;

@@ -13,16 +13,26 @@ fn put<B: Drop>(kept: &mut Kept<B>, made: Option<Made<B>>, extent: Extent, stamp
     ensures { IsPlaced extent (Some kept.old) made stamp kept.new }
 {
     let _extent = kept.layer.extent();
-    if let Some(Made { patch, beside, .. }) = made {
+    if let Some(
+        Made {
+            patch,
+            beside,
+            worked,
+            ..
+        },
+    ) = made
+    {
         kept.layer.commit(patch, stamp);
         kept.beside = beside;
+        kept.repaired = Some(worked);
     }
 }
 
-/// What is kept of a statement after the edit. It takes no memory.
+/// What is kept of a statement after the edit, which wrote it or not. It takes no memory.
 pub fn place<B: Drop>(
     kept: Option<Kept<B>>,
     made: Option<Made<B>>,
+    written: bool,
     extent: Extent,
     stamp: u64,
 ) -> Kept<B>
@@ -32,12 +42,16 @@ pub fn place<B: Drop>(
     match kept {
         Some(mut kept) => {
             put(&mut kept, made, extent, stamp);
+            if written {
+                kept.repaired = None;
+            }
             kept
         }
         None => match made {
             Some(Made { patch, beside, .. }) => Kept {
                 layer: Layer::fresh(patch, stamp),
                 beside,
+                repaired: None,
             },
             None => unreachable!(),
         },
@@ -65,7 +79,7 @@ pub fn place_all<O, B: Drop>(
 {
     for k in 0..steps.len() {
         let kept = taken(slots, steps[k].kept);
-        let now = place(kept, prepared[k].take(), extent, stamp);
+        let now = place(kept, prepared[k].take(), steps[k].written, extent, stamp);
         put_next(next, now);
     }
 }

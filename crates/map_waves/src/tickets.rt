@@ -1,5 +1,5 @@
 //! The jobs of several statements as one run of tickets.
-ghost use Rattle.std.specs.Prelude.{◌≡◌, ◌^◌, ◌<◌, ◌≤◌, false, IfOk};
+ghost use Rattle.std.specs.Prelude.{◌≡◌, ◌^◌, ◌<◌, ◌≤◌, false, None, IfOk, IfSome, IsOk};
 ghost use Rattle.std.specs.List.{All};
 ghost use Rattle.layer_tiles.specs.Tallies.{RisesBy, IsUndivided};
 ghost use Rattle.map_waves.specs.Answers.{AreJobs};
@@ -60,30 +60,39 @@ pub(crate) fn count_of<O, B, W>(jobs: &Jobs<'_, '_, O, B, W>) -> u64
     jobs.count
 }
 
-/// The first ticket of each statement, and how many tickets there are. 2^32 and more of them would want more memory than there is.
-fn starts_of<O, B, W>(
-    alloc: Global,
-    jobs: &[Jobs<'_, '_, O, B, W>],
-) -> Result<(Vec<u64>, u64), NoMemory>
-    ensures starts { IfOk result (λ q. AreStarts jobs.now q.0.items) }
-    ensures count { IfOk result (λ q. q.1 ≡ all_jobs jobs.now) }
-    ensures few { IfOk result (λ q. q.1 < 2 ^ 32) }
+/// How many tickets there are; none where they are 2^32 or more, which want more memory than there is.
+fn tickets_of<O, B, W>(jobs: &[Jobs<'_, '_, O, B, W>]) -> Option<u64>
+    ensures some { IfSome result (λ n. n ≡ all_jobs jobs.now) }
+    ensures few { IfSome result (λ n. n < 2 ^ 32) }
+    ensures none { result ≡ None → 2 ^ 32 ≤ all_jobs jobs.now }
 {
-    let mut starts = Vec::new(alloc);
     let mut count = 0u64;
     for own in jobs {
-        starts.push(count)?;
         let more = count_of(own);
         if more >= 4_294_967_296 - count {
-            return Err(NoMemory);
+            return None;
         }
         count += more;
     }
-    Ok((starts, count))
+    Some(count)
+}
+
+/// The first ticket of each statement.
+fn starts_of<O, B, W>(alloc: Global, jobs: &[Jobs<'_, '_, O, B, W>]) -> Result<Vec<u64>, NoMemory>
+    requires { all_jobs jobs.now < 2 ^ 32 }
+    ensures { IfOk result (λ starts. AreStarts jobs.now starts.items) }
+{
+    let mut starts = Vec::new(alloc);
+    let mut start = 0u64;
+    for own in jobs {
+        starts.push(start)?;
+        start += count_of(own);
+    }
+    Ok(starts)
 }
 
 /// About as many microseconds of work are worth the start of one more worker.
-const WORTH: u64 = 500;
+pub const WORTH_A_WORKER: u64 = 500;
 
 /// The workers that do some jobs: no more than there are, than jobs, and than the work is worth.
 fn hands_for<'c, K: Maker, G, R>(
@@ -97,7 +106,7 @@ fn hands_for<'c, K: Maker, G, R>(
     for own in jobs {
         weight = weight.saturating_add(K::weight(own));
     }
-    crew.at_most(count.min(weight / WORTH + 1))
+    crew.at_most(count.min(weight / WORTH_A_WORKER + 1))
 }
 
 /// Does the jobs of all statements by the workers at hand, or by fewer where they are worth no more.
@@ -109,13 +118,16 @@ pub(crate) fn do_jobs<K: Maker + Sync, M: Tally + Send, G: Gate + Sync, R: Threa
     requires whole { 1 < crew.now.workers → IsUndivided (M.counts tally.old) }
     requires jobs { All (AreJobs K.means K.sound K.first K.looks K.picks K.pieces) jobs.now }
     ensures answers { IfOk result (λ answers. AreAnswered K.pieces jobs.now answers.items) }
+    ensures none { all_jobs jobs.now ≡ 0 → IsOk result }
     ensures tally { RisesBy (all_rises K.looks jobs.now) (all_rises K.picks jobs.now) (M.counts tally.old) (M.counts tally.new) }
 {
-    let found = starts_of(crew.alloc, jobs)?;
-    let (starts, count) = found;
+    let Some(count) = tickets_of(jobs) else {
+        return Err(NoMemory);
+    };
     if count == 0 {
         return Ok(Vec::new(crew.alloc));
     }
+    let starts = starts_of(crew.alloc, jobs)?;
     let hands = hands_for::<K, G, R>(crew, count, jobs);
     let work: Phase<'_, '_, '_, K> = Phase {
         alloc: crew.alloc,

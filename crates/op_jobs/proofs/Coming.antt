@@ -61,7 +61,7 @@ pub viewers_none : (op : Op) (cells : List Cells) → IsTrue (has_work op) → n
 viewers_none (flow_op t u) cells e = refl
 viewers_none (spread_op limit t u) cells e = refl
 viewers_none (region_op t) cells e = refl
-viewers_none (local_op stat ts) cells e = absurd cc
+viewers_none (local_op stat ignoring ts) cells e = absurd cc
 viewers_none (difference_op t u) cells e = absurd cc
 viewers_none (ratio_op t u) cells e = absurd cc
 viewers_none (rating_op t rates) cells e = absurd cc

@@ -29,7 +29,7 @@ no : false ≡ true → ⊥
 no e = cc
 
 pub region_is : (op : Op) → IsTrue (is_region op) → (P : Op → Type 0) → ((t : Term) → P (region_op t)) → P op
-region_is (local_op stat ts) r P h = absurd (no r)
+region_is (local_op stat ignoring ts) r P h = absurd (no r)
 region_is (difference_op t u) r P h = absurd (no r)
 region_is (ratio_op t u) r P h = absurd (no r)
 region_is (rating_op t rates) r P h = absurd (no r)

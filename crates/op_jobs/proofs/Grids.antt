@@ -24,7 +24,7 @@ local_count s l cells = by_count s (local_at l cells)
 
 pub made_count : (s : Size) (op : Op) (cells : List Cells) → length (made s op cells) ≡ cells_in s
 unfolding operate focal_grid zonal_grid form_grid direction_grid flow_grid sight_grid
-made_count s (local_op stat ts) cells = local_count s (of_stat stat) cells
+made_count s (local_op stat ignoring ts) cells = local_count s (of_stat stat ignoring) cells
 made_count s (difference_op t u) cells = local_count s difference cells
 made_count s (ratio_op t u) cells = local_count s ratio cells
 made_count s (rating_op t rates) cells = local_count s (rating rates) cells

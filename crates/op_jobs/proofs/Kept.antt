@@ -135,7 +135,7 @@ pub work_beside : (s : Size) (op : Op) (cells : List Cells) → IsTrue (has_work
 work_beside s (flow_op t u) cells e = tt
 work_beside s (spread_op limit t u) cells e = tt
 work_beside s (region_op t) cells e = tt
-work_beside s (local_op stat ts) cells e = tt
+work_beside s (local_op stat ignoring ts) cells e = tt
 work_beside s (difference_op t u) cells e = tt
 work_beside s (ratio_op t u) cells e = tt
 work_beside s (rating_op t rates) cells e = tt

@@ -62,7 +62,7 @@ pub work_not_local : (op : Op) → IsTrue (has_work op) → IsFalse (is_local op
 work_not_local (flow_op t u) e = refl
 work_not_local (spread_op limit t u) e = refl
 work_not_local (region_op t) e = refl
-work_not_local (local_op stat ts) e = absurd cc
+work_not_local (local_op stat ignoring ts) e = absurd cc
 work_not_local (difference_op t u) e = absurd cc
 work_not_local (ratio_op t u) e = absurd cc
 work_not_local (rating_op t rates) e = absurd cc

@@ -68,7 +68,7 @@ radius_once None = Unit-prop
 radius_once (Some r) = hlevel props
 
 op_once : (op : Op) → IsProp (HasRanges op)
-op_once (local_op s ts) = let each : IsProp (Each IsInRange ts) = each_once IsInRange term_once ts in hlevel (each, props)
+op_once (local_op s ignoring ts) = let each : IsProp (Each IsInRange ts) = each_once IsInRange term_once ts in hlevel (each, props)
 op_once (difference_op t u) = ×_prop (term_once t) (term_once u)
 op_once (ratio_op t u) = ×_prop (term_once t) (term_once u)
 op_once (rating_op t rs) =
@@ -127,7 +127,7 @@ right_once s op operands (Some k) = let beside : IsProp (suits s op (cells_were 
 -- ---- what jobs share
 
 takes_once : (l : LocalOp) (n : ℕ) → IsProp (Takes l n)
-takes_once (of_stat stat) n = hlevel props
+takes_once (of_stat stat ignoring) n = hlevel props
 takes_once difference n = hlevel props
 takes_once ratio n = hlevel props
 takes_once (rating rates) n = hlevel props

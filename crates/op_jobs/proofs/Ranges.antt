@@ -15,7 +15,7 @@ each_of_line [] are = tt
 each_of_line (t ∷ ts) are = (term_of_line t are.0, each_of_line ts are.1)
 
 pub ranges_of : (op : Op) → IsOp op → HasRanges op
-ranges_of (local_op stat ts) is = (is.0, is.1, each_of_line ts is.2)
+ranges_of (local_op stat ignoring ts) is = (is.0, is.1, each_of_line ts is.2)
 ranges_of (difference_op t u) is = (term_of_line t is.0, term_of_line u is.1)
 ranges_of (ratio_op t u) is = (term_of_line t is.0, term_of_line u is.1)
 ranges_of (rating_op t rates) is = (term_of_line t is.0, is.1, is.2, is.3)
@@ -31,7 +31,7 @@ ranges_of (region_op t) is = term_of_line t is
 -- ---- how many terms
 
 pub terms_some : (op : Op) → HasRanges op → 1 ≤ length (terms_of op)
-terms_some (local_op stat ts) is = omega (arith, is.0)
+terms_some (local_op stat ignoring ts) is = omega (arith, is.0)
 terms_some (difference_op t u) is = omega arith
 terms_some (ratio_op t u) is = omega arith
 terms_some (rating_op t rates) is = omega arith
@@ -45,7 +45,7 @@ terms_some (sight_op sight t u) is = omega arith
 terms_some (region_op t) is = omega arith
 
 pub terms_few : (op : Op) → HasRanges op → length (terms_of op) ≤ 8
-terms_few (local_op stat ts) is = is.1
+terms_few (local_op stat ignoring ts) is = is.1
 terms_few (difference_op t u) is = omega arith
 terms_few (ratio_op t u) is = omega arith
 terms_few (rating_op t rates) is = omega arith

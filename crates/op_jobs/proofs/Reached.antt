@@ -44,7 +44,7 @@ module _ (s : Size) (before after : List Cells) (was now : Cells) (t : ℕ) wher
   quiet_or b = ap (λ x. b || x) (none_passes (λ i. tile_of s i == t) (places s)) ∙ or-false b
 
   pub damaged_is : (op : Op) → by_reach op ≡ true → is_damaged op s before after was now t ≡ square_has (reach_of op) s (has_changed before after) t
-  damaged_is (local_op stat ts) e = quiet_or (square_has 0 s (has_changed before after) t)
+  damaged_is (local_op stat ignoring ts) e = quiet_or (square_has 0 s (has_changed before after) t)
   damaged_is (difference_op u v) e = quiet_or (square_has 0 s (has_changed before after) t)
   damaged_is (ratio_op u v) e = quiet_or (square_has 0 s (has_changed before after) t)
   damaged_is (rating_op u rates) e = quiet_or (square_has 0 s (has_changed before after) t)
@@ -94,7 +94,7 @@ module _ (s : Size) (before after : List Cells) (size : IsSize s) (count : lengt
 
   pub changed_in : (op : Op) → by_reach op ≡ true → tile_has s (differs (made s op before) (made s op after)) t ≡ true → is_damaged op s before after (made s op before) (made s op after) t ≡ true
   unfolding operate
-  changed_in (local_op stat ts) is e = changed_local (local_op stat ts) (of_stat stat) refl e
+  changed_in (local_op stat ignoring ts) is e = changed_local (local_op stat ignoring ts) (of_stat stat ignoring) refl e
   changed_in (difference_op u v) is e = changed_local (difference_op u v) difference refl e
   changed_in (ratio_op u v) is e = changed_local (ratio_op u v) ratio refl e
   changed_in (rating_op u rates) is e = changed_local (rating_op u rates) (rating rates) refl e
@@ -112,7 +112,7 @@ module _ (s : Size) (before after : List Cells) (size : IsSize s) (count : lengt
   worked_in (flow_op u v) was now is e = or_right (square_has 0 s (has_changed before after) t) (tile_has s (differs was now) t) e
   worked_in (spread_op limit u v) was now is e = or_right (square_has 0 s (has_changed before after) t) (tile_has s (differs was now) t) e
   worked_in (region_op u) was now is e = or_right (square_has 0 s (has_changed before after) t) (tile_has s (differs was now) t) e
-  worked_in (local_op stat ts) was now is e = absurd cc
+  worked_in (local_op stat ignoring ts) was now is e = absurd cc
   worked_in (difference_op u v) was now is e = absurd cc
   worked_in (ratio_op u v) was now is e = absurd cc
   worked_in (rating_op u rates) was now is e = absurd cc
@@ -140,7 +140,7 @@ felt_there s (zonal_op stat u v) before after size n m t l e = zonal_in stat u v
 felt_there s (flow_op u v) before after size n m t l e = worked_in s before after size (n ∙ sym m) t l (flow_op u v) (made s (flow_op u v) before) (made s (flow_op u v) after) refl e
 felt_there s (spread_op limit u v) before after size n m t l e = worked_in s before after size (n ∙ sym m) t l (spread_op limit u v) (made s (spread_op limit u v) before) (made s (spread_op limit u v) after) refl e
 felt_there s (region_op u) before after size n m t l e = worked_in s before after size (n ∙ sym m) t l (region_op u) (made s (region_op u) before) (made s (region_op u) after) refl e
-felt_there s (local_op stat ts) before after size n m t l e = changed_in s before after size (n ∙ sym m) t l (local_op stat ts) refl e
+felt_there s (local_op stat ignoring ts) before after size n m t l e = changed_in s before after size (n ∙ sym m) t l (local_op stat ignoring ts) refl e
 felt_there s (difference_op u v) before after size n m t l e = changed_in s before after size (n ∙ sym m) t l (difference_op u v) refl e
 felt_there s (ratio_op u v) before after size n m t l e = changed_in s before after size (n ∙ sym m) t l (ratio_op u v) refl e
 felt_there s (rating_op u rates) before after size n m t l e = changed_in s before after size (n ∙ sym m) t l (rating_op u rates) refl e

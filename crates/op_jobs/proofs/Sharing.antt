@@ -76,7 +76,7 @@ pub record IsPlain (s : Size) (op : Op) (cells : List Cells) : Type 0 where
   pub viewers : IsFalse (nat_lt most_viewers (viewers_in op cells))
 
 pub plain_is : (s : Size) (op : Op) (cells : List Cells) → IsTrue (is_plain op) → IsPlain s op cells
-plain_is s (local_op stat ts) cells e = record { by = refl; class = refl; beside_is = tt; viewers = refl }
+plain_is s (local_op stat ignoring ts) cells e = record { by = refl; class = refl; beside_is = tt; viewers = refl }
 plain_is s (difference_op t u) cells e = record { by = refl; class = refl; beside_is = tt; viewers = refl }
 plain_is s (ratio_op t u) cells e = record { by = refl; class = refl; beside_is = tt; viewers = refl }
 plain_is s (rating_op t rates) cells e = record { by = refl; class = refl; beside_is = tt; viewers = refl }

@@ -45,7 +45,7 @@ holds_changed s c h is there t held = which c.before refl there
 
 -- a tile is damaged where an operand or the layer changed
 damaged_is : (op : Op) (s : Size) (before after : List Cells) (was now : Cells) (t : ℕ) → IsTrue (has_work op) → (square_has 0 s (has_changed before after) t || tile_has s (differs was now) t) ≡ is_damaged op s before after was now t
-damaged_is (local_op stat ts) s before after was now t e = absurd (both_ways false refl e)
+damaged_is (local_op stat ignoring ts) s before after was now t e = absurd (both_ways false refl e)
 damaged_is (difference_op l r) s before after was now t e = absurd (both_ways false refl e)
 damaged_is (ratio_op l r) s before after was now t e = absurd (both_ways false refl e)
 damaged_is (rating_op l rates) s before after was now t e = absurd (both_ways false refl e)

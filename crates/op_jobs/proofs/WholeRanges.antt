@@ -74,7 +74,7 @@ module _ (s : Size) (before after : List Cells) where
   most p = omega (arith, filter_most p (places s), length-range_with_len 0 (cells_in s))
 
   further_most : (op : Op) (changed : List ℕ) (was now : Cells) → length (further_places op s changed was now) ≤ cells_in s
-  further_most (local_op stat ts) changed was now = most (differs was now)
+  further_most (local_op stat ignoring ts) changed was now = most (differs was now)
   further_most (difference_op t u) changed was now = most (differs was now)
   further_most (ratio_op t u) changed was now = most (differs was now)
   further_most (rating_op t rates) changed was now = most (differs was now)

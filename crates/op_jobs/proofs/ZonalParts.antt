@@ -44,7 +44,7 @@ no : false ≡ true → ⊥
 no e = cc
 
 pub zonal_is : (op : Op) → IsTrue (is_zonal op) → (P : Op → Type 0) → ((stat : Stat) (t u : Term) → P (zonal_op stat t u)) → P op
-zonal_is (local_op stat ts) z P h = absurd (no z)
+zonal_is (local_op stat ignoring ts) z P h = absurd (no z)
 zonal_is (difference_op t u) z P h = absurd (no z)
 zonal_is (ratio_op t u) z P h = absurd (no z)
 zonal_is (rating_op t rates) z P h = absurd (no z)
@@ -82,7 +82,7 @@ bands_quiet s op operands n other =
     subst P (sym other) (quiet (range_with_len 0 n))
 
 pub banded_other : (op : Op) → IsTrue (is_banded op) → is_zonal op ≡ false
-banded_other (local_op stat ts) b = refl
+banded_other (local_op stat ignoring ts) b = refl
 banded_other (difference_op t u) b = refl
 banded_other (ratio_op t u) b = refl
 banded_other (rating_op t rates) b = refl

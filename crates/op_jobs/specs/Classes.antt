@@ -4,7 +4,7 @@ use Rattle.map_defs.specs.Ops.{Op, local_op, difference_op, ratio_op, rating_op,
 
 -- a cell comes from the operands' cells at its place
 abbrev pub is_local : Op → Bool
-is_local (local_op stat ts) = true
+is_local (local_op stat ignoring ts) = true
 is_local (difference_op t u) = true
 is_local (ratio_op t u) = true
 is_local (rating_op t rates) = true

@@ -10,7 +10,7 @@ IsInRange (layer_term n) = Unit {0}
 IsInRange (number_term z) = IsTrue (is_value z)
 
 abbrev pub HasRanges : Op → Type 0
-HasRanges (local_op s ts) = (2 ≤ length ts) × (length ts ≤ 8) × Each IsInRange ts
+HasRanges (local_op s ignoring ts) = (2 ≤ length ts) × (length ts ≤ 8) × Each IsInRange ts
 HasRanges (difference_op l r) = IsInRange l × IsInRange r
 HasRanges (ratio_op l r) = IsInRange l × IsInRange r
 HasRanges (rating_op t rs) = IsInRange t × (1 ≤ length rs) × (length rs ≤ 32) × Each IsRate rs

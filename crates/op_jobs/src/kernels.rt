@@ -91,6 +91,11 @@ pub(crate) fn local_of(alloc: Global, op: &Op) -> Result<Option<LocalOp>, NoMemo
     ensures { IfOk result (IsLocalOf (op_view op.now)) }
 {
     match op {
+        Op::Local {
+            stat,
+            ignoring: true,
+            ..
+        } => Ok(Some(LocalOp::Ignoring(*stat))),
         Op::Local { stat, .. } => Ok(Some(LocalOp::Stat(*stat))),
         Op::Difference { .. } => Ok(Some(LocalOp::Difference)),
         Op::Ratio { .. } => Ok(Some(LocalOp::Ratio)),

@@ -333,7 +333,7 @@ impl Maker for Statements {
     }
 
     fn weight(jobs: &Jobs<'_, '_, Op, Beside, Own>) -> u64 {
-        weight_of(jobs.op, &jobs.own)
+        weight_of(jobs.op, &jobs.own, jobs.kept)
     }
 
     fn do_job<M: Tally>(

@@ -1,17 +1,46 @@
 //! About what the jobs of a statement take, in microseconds, as `bench/` tells it.
 
+use crate::beside::Beside;
 use crate::own::Own;
 use map_nums::Stat;
+use map_waves::{Kept, WORTH_A_WORKER};
 use statement_parser::{Op, Reach};
+
+/// A layer that was not there is worth a second worker from so many tiles on.
+const SEVERAL: u64 = 4;
 
 /// What a repair takes of a layer that one job repairs, for each tile in which an operand changed.
 const REPAIR: u64 = 128;
 
-/// What all jobs of a statement take.
-pub(crate) fn weight_of(op: &Op, own: &Own) -> u64 {
+/// What all jobs of a statement take that is repaired from what is kept, or made anew where nothing is.
+pub(crate) fn weight_of(op: &Op, own: &Own, kept: Option<&Kept<Beside>>) -> u64 {
     match own {
-        Own::Tiles(jobs) => tile_weight(op).saturating_mul(jobs.tiles.len() as u64),
-        Own::Whole(set) => REPAIR * u64::from(set.count()),
+        Own::Tiles(jobs) => tiles_weight(op, jobs.tiles.len() as u64, kept.is_none()),
+        Own::Whole(set) => {
+            let touched = u64::from(set.count());
+            match kept {
+                None => REPAIR * touched,
+                Some(kept) => repair_weight(kept.repaired, touched),
+            }
+        }
+    }
+}
+
+/// What so many tiles of an operation take.
+fn tiles_weight(op: &Op, tiles: u64, is_fresh: bool) -> u64 {
+    let weight = tile_weight(op).saturating_mul(tiles);
+    if is_fresh && tiles >= SEVERAL {
+        return weight.max(WORTH_A_WORKER);
+    }
+    weight
+}
+
+/// What one job takes that repairs a layer: half a microsecond for each unit of work of the repair before it, or by the tiles in
+/// which an operand changed, beyond the first. What a first repair takes isn't known.
+fn repair_weight(repaired: Option<u64>, touched: u64) -> u64 {
+    match repaired {
+        None => WORTH_A_WORKER,
+        Some(work) => (20 + work / 2).max(REPAIR.saturating_mul(touched.saturating_sub(1))),
     }
 }
 

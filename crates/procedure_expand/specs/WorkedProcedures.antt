@@ -1,5 +1,5 @@
 -- Worked procedures that may be called.
-use Rattle.std.specs.Prelude.{pos, [], ◌∷◌, codes}
+use Rattle.std.specs.Prelude.{false, pos, [], ◌∷◌, codes}
 use Rattle.map_nums.specs.declared.Stat.TheVariants.{Sum, Product}
 use Rattle.map_defs.specs.Ops.{Name, Term, layer_term, number_term, local_op}
 use Rattle.map_defs.specs.Statements.{Written, plain, call, Inner, Procedure}
@@ -16,8 +16,8 @@ abbrev pub twice : Procedure
 twice = record {
   name = codes "Twice";
   takes = codes "P" ∷ codes "K" ∷ [];
-  body = inner (codes "x") (plain (local_op Sum (layer (codes "P") ∷ layer (codes "K") ∷ [])))
-      ∷ inner (codes "result") (plain (local_op Product (layer (codes "x") ∷ number_term (pos 2) ∷ []))) ∷ [];
+  body = inner (codes "x") (plain (local_op Sum false (layer (codes "P") ∷ layer (codes "K") ∷ [])))
+      ∷ inner (codes "result") (plain (local_op Product false (layer (codes "x") ∷ number_term (pos 2) ∷ []))) ∷ [];
 }
 
 -- procedure Again(T): y = Twice(T, 1); result = Twice(y, 5)

@@ -23,7 +23,7 @@ use Rattle.layer_tiles.specs.Cells.{IsCell}
 use Rattle.statement_parser.specs.Formed.{Each, IsTerm, IsRate, IsRadius, IsSighting, IsOp, IsWritten}
 use Rattle.statement_parser.specs.There.{IsWrittenThere}
 use Rattle.statement_parser.specs.Forms.{form_row}
-use Rattle.statement_parser.specs.Canonical.{cell_text, optional_texts, rates_texts, begin_texts, pair_texts, radius_texts, sight_texts, friction_texts, op_texts, tail_text, written_text}
+use Rattle.statement_parser.specs.Canonical.{cell_text, optional_texts, rates_texts, begin_texts, pair_texts, radius_texts, sight_texts, friction_texts, ignoring_texts, op_texts, tail_text, written_text}
 use Rattle.statement_parser.specs.TermTexts.{term_text, terms_after, terms_texts, listed_after, listed}
 use Rattle.statement_parser.specs.Spacing.{spaced, joined}
 use Rattle.statement_parser.specs.Operations.{operation_text}
@@ -291,8 +291,12 @@ friction_words (number_term z) h = go (int_eq z (pos 1))
     go true = tt
     go false = (inl (λ e. cc, refl), (inl (λ e. cc, refl), (number_word z h, tt)))
 
+ignoring_words : (ignoring : Bool) → Each IsWord (ignoring_texts ignoring)
+ignoring_words true = (inl (λ e. cc, refl), (inl (λ e. cc, refl), tt))
+ignoring_words false = tt
+
 pub op_words : (o : Op) → IsOp o → Each IsWord (op_texts o)
-op_words (local_op s ts) h = (operation_word (Local s), (of_word, terms_words ts h.2))
+op_words (local_op s ignoring ts) h = (operation_word (Local s), (of_word, each-append (terms_texts ts) (ignoring_texts ignoring) (terms_words ts h.2) (ignoring_words ignoring)))
 op_words (difference_op l r) h = pair_words Difference (codes "and") l r and_word h.0 h.1
 op_words (ratio_op l r) h = pair_words Ratio (codes "and") l r and_word h.0 h.1
 op_words (rating_op t rs) h = (operation_word Rating, (of_word, (term_word t h.0, rates_words rs h.3)))

@@ -26,13 +26,13 @@ use Rattle.statement_parser.specs.Scopes.{Scope, anywhere}
 use Rattle.statement_parser.specs.Operations.{operations, operation_text, find_operation, operation_named}
 use Rattle.statement_parser.specs.Forms.{form_of, form_row}
 use Rattle.statement_parser.specs.Places.{the, maybe, name_of, value_of, count_of, disc_of, reach_of, limit_of, term_of, weights_of, cell_of, call_of}
-use Rattle.statement_parser.specs.Bodies.{term_after, further_terms, optional_part, statistic_body, pair_body, single_body, rate_part, with_rates, rating_body, radius_part, sight_part, radiates, focal_body, friction_part, spread_body, drainage_op, drainage_body, operation_body, call_body, body_rule}
+use Rattle.statement_parser.specs.Bodies.{term_after, further_terms, optional_part, ignoring_part, statistic_body, pair_body, single_body, rate_part, with_rates, rating_body, radius_part, sight_part, radiates, focal_body, friction_part, spread_body, drainage_op, drainage_body, operation_body, call_body, body_rule}
 use Rattle.statement_parser.specs.Commands.{command_text, commands, find_command, command_named}
 use Rattle.statement_parser.specs.Grammar.{define_rule, command_rule, IsLine}
 use Rattle.layer_tiles.specs.Cells.{IsCell}
 use Rattle.statement_parser.specs.Formed.{Each, InScope, AreInScope, IsTerm, IsRate, IsNoProduct, IsBetween, IsRadius, IsSighting, IsOp, IsWritten}
-use Rattle.statement_parser.specs.There.{HasRow, IsOpThere, IsWrittenThere}
-use Rattle.statement_parser.specs.Canonical.{cell_text, optional_texts, rates_texts, radius_texts, sight_texts, friction_texts, op_texts}
+use Rattle.statement_parser.specs.There.{HasRow, MayIgnore, IsOpThere, IsWrittenThere}
+use Rattle.statement_parser.specs.Canonical.{cell_text, optional_texts, rates_texts, radius_texts, sight_texts, friction_texts, ignoring_texts, op_texts}
 use Rattle.statement_parser.specs.TermTexts.{term_text, terms_after, terms_texts}
 use Rattle.statement_parser.specs.declared.operation.Operation.{Operation}
 use Rattle.statement_parser.specs.declared.operation.Operation.TheVariants.{Local, Difference, Ratio, Rating, Focal, Proximity, Insularity, Zonal, Incremental, Drainage}
@@ -93,7 +93,7 @@ none_named {A} text (x ∷ xs) t each p = go (bytes_eq (text x) t) refl (none_na
 -- no word of a command is a name, computed
 commands_reserved : Each (λ c. is_plain (command_text c) ≡ false) commands
 unfolding is_plain is_reserved is_among
-commands_reserved = (refl, (refl, (refl, (refl, (refl, (refl, (refl, (refl, (refl, (refl, (refl, (refl, (refl, (refl, tt))))))))))))))
+commands_reserved = (refl, (refl, (refl, (refl, (refl, (refl, (refl, (refl, (refl, (refl, (refl, (refl, (refl, (refl, (refl, tt)))))))))))))))
 
 -- nor is that of an operation
 operations_reserved : Each (λ o. is_plain (operation_text o) ≡ false) operations
@@ -150,7 +150,7 @@ module _ (scope : Scope) where
   IsIn t = IsTermIn scope t
 
   abbrev IsOpIn : Op → Type 0
-  IsOpIn (local_op s ts) = (2 ≤ length ts) × (length ts ≤ 8) × Each IsIn ts
+  IsOpIn (local_op s ignoring ts) = (2 ≤ length ts) × (length ts ≤ 8) × Each IsIn ts
   IsOpIn (difference_op l r) = IsIn l × IsIn r
   IsOpIn (ratio_op l r) = IsIn l × IsIn r
   IsOpIn (rating_op t rs) = IsIn t × (1 ≤ length rs) × (length rs ≤ 32) × Each IsRate rs
@@ -172,7 +172,7 @@ module _ (scope : Scope) where
   each_in (t ∷ ts) h k = ((h.0, k.0), each_in ts h.1 k.1)
 
   op_in : (o : Op) → IsOp o → Each (InScope scope) (terms_of o) → IsOpIn o
-  op_in (local_op s ts) h k = (h.0, h.1, each_in ts h.2 k)
+  op_in (local_op s ignoring ts) h k = (h.0, h.1, each_in ts h.2 k)
   op_in (difference_op l r) h k = ((h.0, k.0), (h.1, k.1.0))
   op_in (ratio_op l r) h k = ((h.0, k.0), (h.1, k.1.0))
   op_in (rating_op t rs) h k = ((h.0, k.0), h.1, h.2, h.3)
@@ -203,16 +203,6 @@ module _ (scope : Scope) where
   module _ (mk : Op → Line) where
     abbrev last : Op → Rule Text Line
     last op = ends (mk op)
-
-    statistic_back : (s : Stat) (ts : List Term) → IsOpIn (local_op s ts) → Derives (statistic_body scope s last) (codes "of" ∷ terms_texts ts) (mk (local_op s ts))
-    statistic_back s [] h = absurd (let l = h.0 in omega arith)
-    statistic_back s (a ∷ []) h = absurd (let l = h.0 in omega arith)
-    statistic_back s (a ∷ b ∷ us) h =
-        let x = mk (local_op s (a ∷ b ∷ us)) in
-        let l = h.1 in
-        let rest = terms_after (codes "and") us in
-        next_derives (term_of scope) _ (term_text a) a (codes "and" ∷ term_text b ∷ rest) x (term_back scope a h.2.0)
-        (next_derives (term_of scope) (λ b. further_terms scope (codes "and") (λ ts. last (local_op s ts)) 6 (a ∷ b ∷ [])) (term_text b) b rest x (term_back scope b h.2.1.0) (subst (λ ws. Derives (further_terms scope (codes "and") (λ ts. last (local_op s ts)) 6 (a ∷ b ∷ [])) ws x) (append-nil rest) (further_back (codes "and") (λ ts. last (local_op s ts)) [] x refl (without_nil (codes "and")) 6 us (a ∷ b ∷ []) (omega arith) h.2.1.1 refl)))
 
     pair_back : (word : Text) (make : Term → Term → Op) (a b : Term) → the word word ≡ Some tt → IsIn a → IsIn b → Derives (pair_body scope word make last) (codes "of" ∷ term_text a ∷ word ∷ term_text b ∷ []) (mk (make a b))
     pair_back word make a b same p q =
@@ -295,6 +285,35 @@ module _ (scope : Scope) where
     no_word true word w e = e
     no_word false word w e = refl
 
+    maybe_there : (b : Bool) (word : Text) → b ≡ true → the word word ≡ Some tt → maybe b (the word) word ≡ Some tt
+    maybe_there true word e same = same
+    maybe_there false word e same = absurd cc
+
+    ignoring_back : (ignoring : Bool) (g : Bool → Rule Text Line) (x : Line) → MayIgnore m ignoring → Derives (g ignoring) [] x → Derives (ignoring_part m g) (ignoring_texts ignoring) x
+    ignoring_back true g x there d =
+        also_derives (maybe m.ignoring (the (codes "ignoring"))) (λ _. next (the (codes "nulls")) (λ _. g true)) (g false) (codes "ignoring") tt (codes "nulls" ∷ []) x (maybe_there m.ignoring (codes "ignoring") there refl)
+        (next_derives (the (codes "nulls")) (λ _. g true) (codes "nulls") tt [] x refl d)
+    ignoring_back false g x there d =
+        rest_derives (maybe m.ignoring (the (codes "ignoring"))) (λ _. next (the (codes "nulls")) (λ _. g true)) (g false) [] x (λ w us e. absurd cc) d
+
+    no_and : (ignoring : Bool) → Without (codes "and") (ignoring_texts ignoring)
+    no_and true w us e = let same : codes "ignoring" ≡ w = cc in ap (the (codes "and")) (sym same)
+    no_and false w us e = absurd cc
+
+    statistic_back : (s : Stat) (ignoring : Bool) (ts : List Term) → MayIgnore m ignoring → IsOpIn (local_op s ignoring ts)
+        → Derives (statistic_body scope m s ended) (codes "of" ∷ (terms_texts ts ++ ignoring_texts ignoring)) (mk (local_op s ignoring ts))
+    statistic_back s ignoring [] there h = absurd (let l = h.0 in omega arith)
+    statistic_back s ignoring (a ∷ []) there h = absurd (let l = h.0 in omega arith)
+    statistic_back s ignoring (a ∷ b ∷ us) there h =
+        let x = mk (local_op s ignoring (a ∷ b ∷ us)) in
+        let l = h.1 in
+        let f = λ (ts : List Term). ignoring_part m (λ i. ended (local_op s i ts)) in
+        let rest = terms_after (codes "and") us ++ ignoring_texts ignoring in
+        next_derives (term_of scope) _ (term_text a) a (codes "and" ∷ term_text b ∷ rest) x (term_back scope a h.2.0)
+        (next_derives (term_of scope) (λ b. further_terms scope (codes "and") f 6 (a ∷ b ∷ [])) (term_text b) b rest x (term_back scope b h.2.1.0)
+        (further_back (codes "and") f (ignoring_texts ignoring) x refl (no_and ignoring) 6 us (a ∷ b ∷ []) (omega arith) h.2.1.1
+        (ignoring_back ignoring (λ i. ended (local_op s i (a ∷ b ∷ us))) x there refl)))
+
     no_radiating : (b : Bool) (r : Option ℕ) (w : Text) (us : List Text) → radius_texts r ≡ w ∷ us → maybe b (the (codes "radiating")) w ≡ None
     no_radiating b None w us e = absurd cc
     no_radiating b (Some n) w us e = let same : codes "at" ≡ w = cc in no_word b (codes "radiating") w (ap (the (codes "radiating")) (sym same))
@@ -321,15 +340,11 @@ module _ (scope : Scope) where
         (optional_back (codes "to") (pos 0) s.to (λ to. optional_part (codes "within") reach_of 64 (λ reach. ended (sight_op (record { from = s.from; to = to; reach = reach }) t u))) within x refl h.to no_to
         (count_part_back (codes "within") 1 64 64 s.reach (λ reach. ended (sight_op (record { from = s.from; to = s.to; reach = reach }) t u)) x refl h.reach lt refl)))
 
-    may_radiate : (b : Bool) → b ≡ true → maybe b (the (codes "radiating")) (codes "radiating") ≡ Some tt
-    may_radiate true e = refl
-    may_radiate false e = absurd cc
-
     sight_back : (s : Sighting) (t u : Term) → m.sight ≡ true → IsSighting s → IsIn t → IsIn u → Derives (focal_body scope m Sum ended) (codes "of" ∷ term_text t ∷ codes "radiating" ∷ codes "on" ∷ term_text u ∷ sight_texts s) (mk (sight_op s t u))
     sight_back s t u there h p q =
         let x = mk (sight_op s t u) in
         next_derives (term_of scope) (near Sum) (term_text t) t (codes "radiating" ∷ codes "on" ∷ term_text u ∷ sight_texts s) x (term_back scope t p)
-        (also_derives (maybe m.sight (the (codes "radiating"))) (λ _. sight_part scope t ended) (radius_part Sum t ended) (codes "radiating") tt (codes "on" ∷ term_text u ∷ sight_texts s) x (may_radiate m.sight there)
+        (also_derives (maybe m.sight (the (codes "radiating"))) (λ _. sight_part scope t ended) (radius_part Sum t ended) (codes "radiating") tt (codes "on" ∷ term_text u ∷ sight_texts s) x (maybe_there m.sight (codes "radiating") there refl)
         (next_derives (term_of scope) _ (term_text u) u (sight_texts s) x (term_back scope u q) (heights_back s t u h)))
 
     friction_back : (g : Term → Rule Text Line) (u : Term) (ws : List Text) (x : Line) → IsIn u → Without (codes "spreading") ws → Derives (g u) ws x → Derives (friction_part scope g) (friction_texts u ++ ws) x
@@ -393,7 +408,8 @@ module _ (scope : Scope) where
     by_name o ws x there row d = also_derives (operation_named m) (operation_body scope m (λ op. ends (done op))) (node None (on (call_of m) callers)) (operation_text o) o ws x (named_back m o there row) d
 
     op_back : (o : Op) → IsOpIn o → IsOpThere m o → Derives (body_rule scope m whole) (op_texts o) (mk (plain o))
-    op_back (local_op s ts) h there = by_name (Local s) (codes "of" ∷ terms_texts ts) (done (local_op s ts)) there tt (statistic_back done s ts h)
+    op_back (local_op s ignoring ts) h there =
+        by_name (Local s) (codes "of" ∷ (terms_texts ts ++ ignoring_texts ignoring)) (done (local_op s ignoring ts)) there.0 tt (statistic_back m done s ignoring ts there.1 h)
     op_back (difference_op l r) h there = by_name Difference (codes "of" ∷ term_text l ∷ codes "and" ∷ term_text r ∷ []) (done (difference_op l r)) there tt (pair_back done (codes "and") difference_op l r refl h.0 h.1)
     op_back (ratio_op l r) h there = by_name Ratio (codes "of" ∷ term_text l ∷ codes "and" ∷ term_text r ∷ []) (done (ratio_op l r)) there tt (pair_back done (codes "and") ratio_op l r refl h.0 h.1)
     op_back (rating_op t rs) h there = by_name Rating (codes "of" ∷ term_text t ∷ rates_texts rs) (done (rating_op t rs)) there tt (rating_back done t rs h)

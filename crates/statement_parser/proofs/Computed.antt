@@ -12,15 +12,15 @@ use Rattle.statement_parser.specs.Places.{tests}
 use Rattle.statement_parser.specs.Operations.{find_operation, operation_named}
 use Rattle.statement_parser.specs.Commands.{find_command, command_named}
 use Rattle.statement_parser.specs.Grammar.{line_rule}
-use Rattle.statement_parser.specs.ReadBodies.{statistic_at, pair_at, difference_at, ratio_at, rating_at, radius_at, sight_at, reaching_at, focal_at, spread_at, given_at, call_at, plain_at, body_at}
+use Rattle.statement_parser.specs.ReadBodies.{nulls_at, ignoring_at, statistic_at, pair_at, difference_at, ratio_at, rating_at, radius_at, sight_at, reaching_at, focal_at, spread_at, given_at, call_at, plain_at, body_at}
 use Rattle.statement_parser.specs.ReadParts.{term_after_at, further_at, optional_at, range_at, rate_at, with_at, friction_at}
 use Rattle.statement_parser.specs.ReadLine.{define_at, line_at, quit_at}
 use Rattle.statement_parser.specs.ReadProcedures.{names_at, parameters_at, inner_at, result_at, named_inner_at, statements_at, procedure_at}
 use Rattle.statement_parser.specs.ReadLabels.{bytes_at, label_at, symbol_at}
-use Rattle.statement_parser.specs.ReadCommands.{corners_at, paint_at, new_at, drop_at, value_at, any_line_at, table_at, list_at}
+use Rattle.statement_parser.specs.ReadCommands.{corners_at, paint_at, new_at, drop_at, value_at, any_line_at, table_at, model_at, list_at}
 use Rattle.statement_parser.specs.Texts.{seen, is_short, LineText, silent, worded, refusal_of, RefusedText, bad_byte, bad_word}
 use Rattle.statement_parser.specs.Columns.{column}
-use Rattle.statement_parser.specs.Worked.{first_rows, all_rows, WorkedProcedures, Worked}
+use Rattle.statement_parser.specs.Worked.{first_rows, all_rows, WorkedProcedures, WorkedLanguages, Worked}
 use Rattle.statement_parser.proofs.SoundLines.{healthy_line}
 use Rattle.statement_parser.proofs.ReadsLines.{line_reads}
 
@@ -31,7 +31,7 @@ refused_row : (m : Manner) (bytes : Text) (f : Fault) → is_short bytes ≡ tru
 refused_row m bytes f s e g h = bad_word f.kind f.left s e g (refused_so (tests m) (line_rule m) (seen bytes) f (healthy_line m).sound refl (sym (line_reads m (seen bytes)) ∙ h))
 
 procedure_rows : WorkedProcedures
-unfolding line_at names_at parameters_at inner_at result_at named_inner_at statements_at procedure_at bytes_at label_at symbol_at define_at corners_at paint_at new_at drop_at value_at any_line_at table_at list_at quit_at term_after_at further_at optional_at statistic_at pair_at difference_at ratio_at range_at rate_at with_at rating_at radius_at sight_at reaching_at focal_at friction_at spread_at given_at call_at plain_at body_at operation_named find_operation command_named find_command is_plain is_dotted is_reserved is_among number_text
+unfolding line_at names_at parameters_at inner_at result_at named_inner_at statements_at procedure_at bytes_at label_at symbol_at define_at corners_at paint_at new_at drop_at value_at any_line_at table_at model_at list_at quit_at term_after_at further_at optional_at nulls_at ignoring_at statistic_at pair_at difference_at ratio_at range_at rate_at with_at rating_at radius_at sight_at reaching_at focal_at friction_at spread_at given_at call_at plain_at body_at operation_named find_operation command_named find_command is_plain is_dotted is_reserved is_among number_text
 procedure_rows = record {
   made = line_row all_rows (codes "procedure Twice(P, K): x = LocalSum of P and K; result = LocalProduct of x and 2") _ refl refl refl refl;
   no_result = refused_row all_rows (codes "procedure Q(P): x = LocalSum of P and 1") (record { kind = Syntax; left = 0 }) refl refl refl refl;
@@ -42,8 +42,24 @@ procedure_rows = record {
   same_inner = refused_row all_rows (codes "procedure Q(P): P = LocalSum of P and 1") (record { kind = Syntax; left = 7 }) refl refl refl refl;
 }
 
+language_rows : WorkedLanguages
+unfolding line_at names_at parameters_at inner_at result_at named_inner_at statements_at procedure_at bytes_at label_at symbol_at define_at corners_at paint_at new_at drop_at value_at any_line_at table_at model_at list_at quit_at term_after_at further_at optional_at nulls_at ignoring_at statistic_at pair_at difference_at ratio_at range_at rate_at with_at rating_at radius_at sight_at reaching_at focal_at friction_at spread_at given_at call_at plain_at body_at operation_named find_operation command_named find_command is_plain is_dotted is_reserved is_among number_text
+language_rows = record {
+  ignoring = line_row all_rows (codes "C = LocalSum of A and B ignoring nulls") _ refl refl refl refl;
+  not_ignoring = refused_row first_rows (codes "C = LocalSum of A and B ignoring nulls") _ refl refl refl refl;
+  ninth_ignoring = refused_row all_rows (codes "C = LocalSum of 1 and 2 and 3 and 4 and 5 and 6 and 7 and 8 and 9 ignoring nulls") _ refl refl refl refl;
+  cut_ignoring = refused_row all_rows (codes "C = LocalSum of A and B ignoring") _ refl refl refl refl;
+  ignoring_difference = refused_row all_rows (codes "C = LocalDifference of A and B ignoring nulls") _ refl refl refl refl;
+  second = line_row all_rows (codes "model +2") _ refl refl refl refl;
+  first = line_row all_rows (codes "model 01") _ refl refl refl refl;
+  third = refused_row all_rows (codes "model 3") _ refl refl refl refl;
+  no_version = refused_row all_rows (codes "model") _ refl refl refl refl;
+  two_versions = refused_row all_rows (codes "model 1 2") _ refl refl refl refl;
+  closed = refused_row first_rows (codes "model 2") _ refl refl refl refl;
+}
+
 pub rows : Worked
-unfolding line_at names_at parameters_at inner_at result_at named_inner_at statements_at procedure_at bytes_at label_at symbol_at define_at corners_at paint_at new_at drop_at value_at any_line_at table_at list_at quit_at term_after_at further_at optional_at statistic_at pair_at difference_at ratio_at range_at rate_at with_at rating_at radius_at sight_at reaching_at focal_at friction_at spread_at given_at call_at plain_at body_at operation_named find_operation command_named find_command is_plain is_dotted is_reserved is_among number_text
+unfolding line_at names_at parameters_at inner_at result_at named_inner_at statements_at procedure_at bytes_at label_at symbol_at define_at corners_at paint_at new_at drop_at value_at any_line_at table_at model_at list_at quit_at term_after_at further_at optional_at nulls_at ignoring_at statistic_at pair_at difference_at ratio_at range_at rate_at with_at rating_at radius_at sight_at reaching_at focal_at friction_at spread_at given_at call_at plain_at body_at operation_named find_operation command_named find_command is_plain is_dotted is_reserved is_among number_text
 rows = record {
   empty = silent refl refl;
   note = silent refl refl;
@@ -83,6 +99,7 @@ rows = record {
   two_signs = refused_row all_rows (codes "symbol A 1 a b") _ refl refl refl refl;
   no_sign = refused_row all_rows (codes "symbol A 1") _ refl refl refl refl;
   procedures = procedure_rows;
+  languages = language_rows;
   far = refused_row all_rows (codes "C = FocalMean of A at 33") _ refl refl refl refl;
   no_mean = refused_row all_rows (codes "C = FocalMean of A radiating on B") _ refl refl refl refl;
   no_product = refused_row all_rows (codes "C = FocalProduct of A") _ refl refl refl refl;

@@ -15,13 +15,13 @@ use Rattle.grammar_core.proofs.Ends.{AllEnds, each_end, ends_on, ends_next, ends
 use Rattle.map_defs.specs.Ops.{Term, layer_term, number_term, terms_of, Op, local_op, difference_op, ratio_op, rating_op, focal_op, zonal_op, form_op, direction_op, flow_op, spread_op, sight_op, region_op}
 use Rattle.map_defs.specs.Sight.{Sighting}
 use Rattle.map_defs.specs.Statements.{Written, plain, call, Inner}
-use Rattle.statement_parser.specs.Lines.{Manner, define, paint, new_layer, drop, put_label, put_symbol, ask_value, ask_grid, ask_show, ask_legend, ask_table, ask_stamps, ask_list, Line, edit, ask, quit}
+use Rattle.statement_parser.specs.Lines.{Manner, define, paint, new_layer, drop, put_label, put_symbol, ask_value, ask_grid, ask_show, ask_legend, ask_table, ask_stamps, ask_list, Line, edit, ask, model, quit}
 use Rattle.statement_parser.specs.Forms.{form_of, form_row}
 use Rattle.statement_parser.specs.Scopes.{Scope, anywhere, has_name, names_before}
 use Rattle.statement_parser.specs.ProcedureRules.{fresh_of, further_names, inner_part, result_rule, statements_rule, procedure_line, procedure_rule}
 use Rattle.statement_parser.specs.Operations.{operations, operation_text, find_operation, has_row, operation_named}
-use Rattle.statement_parser.specs.Places.{the, maybe, name_of, any_of, value_of, count_of, side_of, disc_of, reach_of, limit_of, term_of, weights_of, cell_of, call_of}
-use Rattle.statement_parser.specs.Bodies.{term_after, further_terms, optional_part, statistic_body, pair_body, rate_part, with_rates, rating_body, radius_part, sight_part, radiates, focal_body, friction_part, spread_body, drainage_op, drainage_body, operation_body, call_body, body_rule}
+use Rattle.statement_parser.specs.Places.{the, maybe, name_of, any_of, value_of, count_of, side_of, disc_of, reach_of, limit_of, version_of, term_of, weights_of, cell_of, call_of}
+use Rattle.statement_parser.specs.Bodies.{term_after, further_terms, optional_part, ignoring_part, statistic_body, pair_body, rate_part, with_rates, rating_body, radius_part, sight_part, radiates, focal_body, friction_part, spread_body, drainage_op, drainage_body, operation_body, call_body, body_rule}
 use Rattle.statement_parser.specs.Commands.{commands, command_text, find_command, has_command, command_named}
 use Rattle.statement_parser.specs.Grammar.{define_rule, command_rule, line_rule}
 use Rattle.std.specs.Prelude.{IfOk, Result, Ok, Err}
@@ -30,7 +30,7 @@ use Rattle.statement_parser.specs.Texts.{seen, LineText, silent, worded}
 use Rattle.statement_parser.specs.Parsed.{IsParsed}
 use Rattle.layer_tiles.specs.Cells.{IsCell}
 use Rattle.statement_parser.specs.Formed.{Each, InScope, AreInScope, IsFresh, AreFresh, IsInner, AreInner, IsBody, IsTerm, IsRate, IsNoProduct, IsBetween, IsRadius, IsSighting, IsOp, IsWritten, IsSide, IsAny, IsFormed}
-use Rattle.statement_parser.specs.There.{HasRow, HasCommand, IsOpThere, IsWrittenThere, AreInnerThere, IsThere}
+use Rattle.statement_parser.specs.There.{HasRow, HasCommand, MayIgnore, IsOpThere, IsWrittenThere, AreInnerThere, IsThere}
 use Rattle.statement_parser.proofs.LabelRules.{text_ends, sign_ends}
 use Rattle.std.proofs.lemmas.Slice.Eq.{bytes_eq-Decides}
 use Rattle.statement_parser.specs.declared.op.Form.{Form}
@@ -38,7 +38,7 @@ use Rattle.statement_parser.specs.declared.op.Form.TheVariants.{Linkage, Length,
 use Rattle.statement_parser.specs.declared.operation.Operation.{Operation}
 use Rattle.statement_parser.specs.declared.operation.Operation.TheVariants.{Local, Difference, Ratio, Rating, Focal, Proximity, Insularity, Zonal, Incremental, Drainage}
 use Rattle.statement_parser.specs.declared.command.Command.{Command}
-use Rattle.statement_parser.specs.declared.command.Command.TheVariants.{Procedure, Paint, New, Drop, Label, Symbol, Value, Grid, Show, Legend, Table, Stamps, List as Listing, Quit}
+use Rattle.statement_parser.specs.declared.command.Command.TheVariants.{Model, Procedure, Paint, New, Drop, Label, Symbol, Value, Grid, Show, Legend, Table, Stamps, List as Listing, Quit}
 
 -- ---- what a place gives
 
@@ -151,7 +151,14 @@ abbrev IsAnyCommand : Command → Type 0
 IsAnyCommand c = Unit {0}
 
 all_commands : Each IsAnyCommand commands
-all_commands = (tt, (tt, (tt, (tt, (tt, (tt, (tt, (tt, (tt, (tt, (tt, (tt, (tt, (tt, tt))))))))))))))
+all_commands = (tt, (tt, (tt, (tt, (tt, (tt, (tt, (tt, (tt, (tt, (tt, (tt, (tt, (tt, (tt, tt)))))))))))))))
+
+-- a command that is named has the word, and is in the table
+pub command_word : (m : Manner) (w : Text) (c : Command) → command_named m w ≡ Some c → (command_text c ≡ w) × (find_command w ≡ Some c)
+unfolding command_named find_command
+command_word m w c e =
+    let h = either_some (has_command m.commands w) (find_command w) c e in
+    ((found_holds IsAnyCommand command_text commands w c all_commands h.1).0, h.1)
 
 command_there : (m : Manner) (w : Text) (c : Command) → command_named m w ≡ Some c → HasCommand m c
 unfolding command_named find_command
@@ -242,10 +249,18 @@ module _ (m : Manner) where
     optional_formed : {A : Type 0} (word : Text) (place : Text → Option A) (default : A) (f : A → Rule Text Line) → Formed (next place f) → Formed (f default) → Formed (optional_part word place default f)
     optional_formed word place default f there left_out = ends_also IsGood (the word) (λ _. next place f) (f default) (λ w v e. there) left_out
 
-    statistic_formed : (s : Stat) (f : Op → Rule Text Line) → ((ts : List Term) → IsOp (local_op s ts) → Each (InScope scope) ts → Formed (f (local_op s ts))) → Formed (statistic_body scope s f)
+    ignoring_formed : (f : Bool → Rule Text Line) → Keeps (MayIgnore m) f → Formed (ignoring_part m f)
+    ignoring_formed f h =
+        ends_also IsGood (maybe m.ignoring (the (codes "ignoring"))) (λ _. next (the (codes "nulls")) (λ _. f true)) (f false)
+        (λ w v e. then_the (codes "nulls") (λ _. f true) (h true (maybe_some m.ignoring (the (codes "ignoring")) w v e).0)) (h false tt)
+
+    statistic_formed : (s : Stat) (f : Op → Rule Text Line) → ((ignoring : Bool) (ts : List Term) → IsOp (local_op s ignoring ts) → MayIgnore m ignoring → Each (InScope scope) ts → Formed (f (local_op s ignoring ts)))
+        → Formed (statistic_body scope m s f)
     statistic_formed s f h =
         after_formed (codes "of") _ (λ a p. after_formed (codes "and") _ (λ b q.
-        further_formed (codes "and") 2 8 (λ ts. f (local_op s ts)) (λ ts r. h ts (r.0, r.1, all_left IsTerm (InScope scope) ts r.2) (all_right IsTerm (InScope scope) ts r.2)) 6 (a ∷ b ∷ []) (omega arith, omega arith, (p, (q, tt)))))
+        further_formed (codes "and") 2 8 (λ ts. ignoring_part m (λ ignoring. f (local_op s ignoring ts))) (λ ts r.
+        ignoring_formed (λ ignoring. f (local_op s ignoring ts)) (λ ignoring there. h ignoring ts (r.0, r.1, all_left IsTerm (InScope scope) ts r.2) there (all_right IsTerm (InScope scope) ts r.2)))
+        6 (a ∷ b ∷ []) (omega arith, omega arith, (p, (q, tt)))))
 
     pair_formed : (word : Text) (make : Term → Term → Op) (f : Op → Rule Text Line) → ((a b : Term) → IsIn a → IsIn b → Formed (f (make a b))) → Formed (pair_body scope word make f)
     pair_formed word make f h = after_formed (codes "of") _ (λ a p. after_formed word _ (λ b q. h a b p q))
@@ -318,7 +333,7 @@ module _ (m : Manner) where
         carried a p (Some u) q = h (flow_op a u) ((p.0, q.0), there, (p.1, (q.1, tt)))
 
     operation_formed : (f : Op → Rule Text Line) → Keeps IsKept f → (o : Operation) → HasRow m o → IsRow o → Formed (operation_body scope m f o)
-    operation_formed f h (Local s) there row = statistic_formed s f (λ ts p k. h (local_op s ts) (p, there, k))
+    operation_formed f h (Local s) there row = statistic_formed s f (λ ignoring ts p may k. h (local_op s ignoring ts) (p, (there, may), k))
     operation_formed f h Difference there row = pair_formed (codes "and") difference_op f (λ a b p q. h (difference_op a b) ((p.0, q.0), there, (p.1, (q.1, tt))))
     operation_formed f h Ratio there row = pair_formed (codes "and") ratio_op f (λ a b p q. h (ratio_op a b) ((p.0, q.0), there, (p.1, (q.1, tt))))
     operation_formed f h Rating there row = rating_formed f (λ t rs p k. h (rating_op t rs) (p, there, (k, tt)))
@@ -410,6 +425,7 @@ module _ (m : Manner) where
       7 (q ∷ []) (omega arith) (omega arith) ((b, refl), tt))))
 
   command_formed : (c : Command) → HasCommand m c → Formed (command_rule m c)
+  command_formed Model t = ends_next IsGood version_of (λ l. ends (model l)) (λ w l e. done (model l) (tt, t))
   command_formed Procedure t = procedure_formed t
   command_formed Paint t = then_name _ (λ n p. then_side _ (λ r1 a. then_side _ (λ c1 b. then_side _ (λ r2 c. then_side _ (λ c2 d. then_cell _ (λ v q. done (edit (paint n r1 c1 r2 c2 v)) ((p, a, b, c, d, q), t)))))))
   command_formed New t = then_name _ (λ n p. then_cell _ (λ v q. done (edit (new_layer n v)) ((p, q), t)))

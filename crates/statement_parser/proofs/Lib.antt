@@ -20,4 +20,5 @@ pub mod Local
 pub mod ProcedureBack
 pub mod Computed
 pub mod LineOfLemmas
+pub mod Quitting
 pub mod TermLemmas

@@ -18,7 +18,7 @@ use Rattle.statement_parser.specs.Places.{the, maybe, value_of, disc_of, reach_o
 use Rattle.statement_parser.specs.Operations.{operation_named}
 use Rattle.statement_parser.specs.Bodies.{radiates, drainage_op}
 use Rattle.statement_parser.specs.ReadParts.{term_after_at, further_at, optional_at, range_at, rate_at, with_at, friction_at}
-use Rattle.statement_parser.specs.ReadBodies.{statistic_at, pair_at, difference_at, ratio_at, rating_at, radius_at, sight_at, reaching_at, focal_at, spread_at, region_at, zonal_at, incremental_at, drainage_at, operation_at, given_at, call_at, plain_at, named_at, body_at}
+use Rattle.statement_parser.specs.ReadBodies.{nulls_at, ignoring_at, statistic_at, pair_at, difference_at, ratio_at, rating_at, radius_at, sight_at, reaching_at, focal_at, spread_at, region_at, zonal_at, incremental_at, drainage_at, operation_at, given_at, call_at, plain_at, named_at, body_at}
 use Rattle.statement_parser.specs.declared.op.Form.{Form}
 use Rattle.statement_parser.specs.declared.operation.Operation.{Operation}
 use Rattle.statement_parser.specs.declared.operation.Operation.TheVariants.{Local as Statistic, Difference, Ratio, Rating, Focal, Proximity, Insularity, Zonal, Incremental, Drainage}
@@ -110,15 +110,6 @@ module _ (us : List Text) (stop : IsStop us) where
         let more = λ (t : Term) (ws : List Text). further_at scope word n (ts ++ t ∷ []) ws in
         choice (the word) (λ ws. term_after_at scope word ws >>= λ t. more t.0 t.1) (λ ws. Ok (ts, ws)) none (bind (term_after_at scope word) more (after_local word) (λ t. further_local word none n (ts ++ t ∷ []))) (pure ts)
 
-    statistic_local : (s : Stat) → Local (statistic_at scope s)
-    unfolding statistic_at
-    statistic_local s =
-        let last = λ (a b : Term) (ws : List Text). further_at scope (codes "and") 6 (a ∷ b ∷ []) ws >>= λ ts. Ok (local_op s ts.0, ts.1) in
-        let second = λ (a : Term) (ws : List Text). term_after_at scope (codes "and") ws >>= λ b. last a b.0 b.1 in
-        bind (term_after_at scope (codes "of")) second (after_local (codes "of")) (λ a.
-        bind (term_after_at scope (codes "and")) (last a) (after_local (codes "and")) (λ b.
-        bind (further_at scope (codes "and") 6 (a ∷ b ∷ [])) (λ ts ws. Ok (local_op s ts, ws)) (further_local (codes "and") refl 6 (a ∷ b ∷ [])) (λ ts. pure (local_op s ts))))
-
     pair_local : (word : Text) → Local (pair_at scope word)
     unfolding pair_at
     pair_local word =
@@ -162,13 +153,34 @@ module _ (us : List Text) (stop : IsStop us) where
         bind (optional_at (codes "to") value_of (pos 0)) (at_reach surface from) (optional_local (codes "to") value_of (pos 0) refl) (λ to.
         bind (optional_at (codes "within") reach_of 64) (λ reach ws. Ok (made surface from to reach, ws)) (optional_local (codes "within") reach_of 64 refl) (λ reach. pure (made surface from to reach))))))
 
-    no_radiating : (b : Bool) → maybe b (the (codes "radiating")) (codes ";") ≡ None
-    no_radiating true = refl
-    no_radiating false = refl
+    no_maybe : (b : Bool) (word : Text) → the word (codes ";") ≡ None → maybe b (the word) (codes ";") ≡ None
+    no_maybe true word none = none
+    no_maybe false word none = refl
+
+    nulls_local : Local nulls_at
+    unfolding nulls_at
+    nulls_local =
+        bind (one_at reading (the (codes "ignoring")) false) (λ u ws. one_at reading (the (codes "nulls")) false ws >>= λ v. Ok (true, v.1)) (one (the (codes "ignoring")) false) (λ u.
+        bind (one_at reading (the (codes "nulls")) false) (λ v ws. Ok (true, ws)) (one (the (codes "nulls")) false) (λ v. pure true))
+
+    ignoring_local : Local (ignoring_at m)
+    unfolding ignoring_at
+    ignoring_local = choice (maybe m.ignoring (the (codes "ignoring"))) nulls_at (λ ws. Ok (false, ws)) (no_maybe m.ignoring (codes "ignoring") refl) nulls_local (pure false)
+
+    statistic_local : (s : Stat) → Local (statistic_at scope m s)
+    unfolding statistic_at
+    statistic_local s =
+        let ending = λ (ts : List Term) (ws : List Text). ignoring_at m ws >>= λ ignoring. Ok (local_op s ignoring.0 ts, ignoring.1) in
+        let last = λ (a b : Term) (ws : List Text). further_at scope (codes "and") 6 (a ∷ b ∷ []) ws >>= λ ts. ending ts.0 ts.1 in
+        let second = λ (a : Term) (ws : List Text). term_after_at scope (codes "and") ws >>= λ b. last a b.0 b.1 in
+        bind (term_after_at scope (codes "of")) second (after_local (codes "of")) (λ a.
+        bind (term_after_at scope (codes "and")) (last a) (after_local (codes "and")) (λ b.
+        bind (further_at scope (codes "and") 6 (a ∷ b ∷ [])) ending (further_local (codes "and") refl 6 (a ∷ b ∷ [])) (λ ts.
+        bind (ignoring_at m) (λ ignoring ws. Ok (local_op s ignoring ts, ws)) ignoring_local (λ ignoring. pure (local_op s ignoring ts)))))
 
     reaching_local : (s : Stat) (a : Term) → Local (reaching_at scope m s a)
     unfolding reaching_at
-    reaching_local s a = choice (maybe (radiates m s) (the (codes "radiating"))) (sight_at scope a) (radius_at s a) (no_radiating (radiates m s)) (sight_local a) (radius_local s a)
+    reaching_local s a = choice (maybe (radiates m s) (the (codes "radiating"))) (sight_at scope a) (radius_at s a) (no_maybe (radiates m s) (codes "radiating") refl) (sight_local a) (radius_local s a)
 
     focal_local : (s : Stat) → Local (focal_at scope m s)
     unfolding focal_at

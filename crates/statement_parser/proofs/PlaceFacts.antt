@@ -10,9 +10,10 @@ use Rattle.map_defs.specs.Ops.{number_term}
 use Rattle.statement_parser.specs.Lines.{Manner}
 use Rattle.statement_parser.specs.Scopes.{Scope}
 use Rattle.statement_parser.specs.Operations.{find_operation, has_row, operation_named}
-use Rattle.statement_parser.specs.Places.{the, maybe, name_of, any_of, value_of, side_of, disc_of, reach_of, limit_of, term_of, weights_of, cell_of, call_of, tests}
+use Rattle.statement_parser.specs.Places.{the, maybe, name_of, any_of, value_of, side_of, disc_of, reach_of, limit_of, version_of, term_of, weights_of, cell_of, call_of, tests}
 use Rattle.statement_parser.specs.Commands.{find_command, has_command, command_named}
 use Rattle.statement_parser.specs.declared.operation.Operation.TheVariants.{Local}
+use Rattle.statement_parser.specs.declared.language.Language.TheVariants.{One}
 
 -- each takes some word
 pub name_takes : name_of (codes "A") ≡ Some (codes "A")
@@ -51,8 +52,16 @@ pub limit_takes : limit_of (codes "1") ≡ Some 1
 unfolding number_text
 limit_takes = refl
 
+pub version_takes : version_of (codes "1") ≡ Some One
+unfolding number_text
+version_takes = refl
+
 pub cell_takes : cell_of (codes "null") ≡ Some None
 cell_takes = refl
+
+pub maybe_free : {A : Type 0} (b : Bool) (f : Text → Option A) (t : Text) → f t ≡ None → maybe b f t ≡ None
+maybe_free true f t e = e
+maybe_free false f t e = refl
 
 either_none : {A : Type 0} (b : Bool) (o : Option A) → o ≡ None → cond b o None ≡ None
 either_none true o e = e
@@ -67,7 +76,7 @@ pub command_none : (m : Manner) (t : Text) → find_command t ≡ None → comma
 unfolding command_named
 command_none m t e = either_none (has_command m.commands t) (find_command t) e
 
-no_operation_number : find_operation (codes "10") ≡ None
+no_operation_number : find_operation (codes "01") ≡ None
 unfolding find_operation
 no_operation_number = refl
 
@@ -75,7 +84,7 @@ no_command_operation : find_command (codes "LocalSum") ≡ None
 unfolding find_command
 no_command_operation = refl
 
-no_command_number : find_command (codes "10") ≡ None
+no_command_number : find_command (codes "01") ≡ None
 unfolding find_command
 no_command_number = refl
 
@@ -83,7 +92,7 @@ sum_found : find_operation (codes "LocalSum") ≡ Some (Local stats.Sum)
 unfolding find_operation
 sum_found = refl
 
-no_name_number : name_of (codes "10") ≡ None
+no_name_number : name_of (codes "01") ≡ None
 unfolding is_plain
 no_name_number = refl
 
@@ -93,7 +102,7 @@ module _ (m : Manner) where
   operation_takes = sum_found
 
   -- no operation stands there, and where a number is due
-  pub the_place : (word : Text) → bytes_eq (codes "LocalSum") word ≡ false → bytes_eq (codes "10") word ≡ false → IsPlace (tests m) (the word) false
+  pub the_place : (word : Text) → bytes_eq (codes "LocalSum") word ≡ false → bytes_eq (codes "01") word ≡ false → IsPlace (tests m) (the word) false
   the_place word e f = record { free = rw e refl; number = rw f refl }
 
   pub name_place : IsPlace (tests m) name_of false
@@ -132,22 +141,22 @@ module _ (m : Manner) where
   unfolding number_text
   limit_place = record { free = refl; number = refl }
 
+  pub version_place : IsPlace (tests m) version_of true
+  unfolding number_text
+  version_place = record { free = refl; number = refl }
+
   pub cell_place : IsPlace (tests m) cell_of true
   unfolding number_text
   cell_place = record { free = refl; number = refl }
 
-  maybe_free : {A : Type 0} (b : Bool) (f : Text → Option A) (t : Text) → f t ≡ None → maybe b f t ≡ None
-  maybe_free true f t e = e
-  maybe_free false f t e = refl
-
   pub call_place : IsPlace (tests m) (call_of m) false
   call_place = record {
     free = maybe_free m.calls name_of (codes "LocalSum") name_place.free;
-    number = ap is_some (maybe_free m.calls name_of (codes "10") no_name_number);
+    number = ap is_some (maybe_free m.calls name_of (codes "01") no_name_number);
   }
 
-  pub operation_number : is_some (operation_named m (codes "10")) ≡ false
-  operation_number = ap is_some (operation_none m (codes "10") no_operation_number)
+  pub operation_number : is_some (operation_named m (codes "01")) ≡ false
+  operation_number = ap is_some (operation_none m (codes "01") no_operation_number)
 
   pub command_place : IsPlace (tests m) (command_named m) false
-  command_place = record { free = command_none m (codes "LocalSum") no_command_operation; number = ap is_some (command_none m (codes "10") no_command_number) }
+  command_place = record { free = command_none m (codes "LocalSum") no_command_operation; number = ap is_some (command_none m (codes "01") no_command_number) }

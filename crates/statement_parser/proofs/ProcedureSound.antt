@@ -21,7 +21,7 @@ fresh_free : (ns : List Text) → fresh_of ns (codes "LocalSum") ≡ None
 unfolding is_plain is_reserved is_among
 fresh_free ns = refl
 
-fresh_number : (ns : List Text) → fresh_of ns (codes "10") ≡ None
+fresh_number : (ns : List Text) → fresh_of ns (codes "01") ≡ None
 unfolding is_plain
 fresh_number ns = refl
 

@@ -1,5 +1,5 @@
 -- Reading operations is reading by their rules, whatever follows.
-use Rattle.std.proofs.Common.{◌≡◌, ℕ, zero, suc, ℤ, pos, true, false, List, [], ◌∷◌, ◌++◌, length, Option, Some, None, Result, Ok, refl, ap, ◌∙◌}
+use Rattle.std.proofs.Common.{◌≡◌, ℕ, zero, suc, ℤ, pos, Bool, true, false, List, [], ◌∷◌, ◌++◌, length, Option, Some, None, Result, Ok, refl, ap, ◌∙◌}
 use Rattle.std.specs.Prelude.{codes, is_some}
 use Rattle.map_nums.specs.declared.Stat.{Stat}
 use Rattle.map_nums.specs.declared.Rate.{Rate}
@@ -18,13 +18,13 @@ use Rattle.statement_parser.specs.Scopes.{Scope}
 use Rattle.statement_parser.specs.Operations.{operation_named}
 use Rattle.statement_parser.specs.Forms.{form_of}
 use Rattle.statement_parser.specs.Places.{the, maybe, value_of, disc_of, reach_of, limit_of, term_of, weights_of, cell_of, call_of, tests, reading}
-use Rattle.statement_parser.specs.Bodies.{term_after, further_terms, optional_part, statistic_body, pair_body, single_body, rate_part, with_rates, rating_body, radius_part, sight_part, radiates, focal_body, friction_part, spread_body, drainage_op, drainage_body, operation_body, call_body, body_rule}
-use Rattle.statement_parser.specs.ReadBodies.{statistic_at, pair_at, difference_at, ratio_at, rating_at, radius_at, sight_at, reaching_at, focal_at, spread_at, region_at, zonal_at, incremental_at, drainage_at, operation_at, given_at, call_at, plain_at, named_at, body_at}
+use Rattle.statement_parser.specs.Bodies.{term_after, further_terms, optional_part, ignoring_part, statistic_body, pair_body, single_body, rate_part, with_rates, rating_body, radius_part, sight_part, radiates, focal_body, friction_part, spread_body, drainage_op, drainage_body, operation_body, call_body, body_rule}
+use Rattle.statement_parser.specs.ReadBodies.{nulls_at, ignoring_at, statistic_at, pair_at, difference_at, ratio_at, rating_at, radius_at, sight_at, reaching_at, focal_at, spread_at, region_at, zonal_at, incremental_at, drainage_at, operation_at, given_at, call_at, plain_at, named_at, body_at}
 use Rattle.statement_parser.specs.ReadParts.{term_after_at, further_at, optional_at, range_at, rate_at, with_at, friction_at}
 use Rattle.statement_parser.specs.declared.op.Form.{Form}
 use Rattle.statement_parser.specs.declared.operation.Operation.{Operation}
 use Rattle.statement_parser.specs.declared.operation.Operation.TheVariants.{Local, Difference, Ratio, Rating, Focal, Proximity, Insularity, Zonal, Incremental, Drainage}
-use Rattle.statement_parser.proofs.PlaceFacts.{the_place, term_place, weights_place, value_place, disc_place, reach_place, limit_place, cell_place, call_place, operation_takes, operation_number}
+use Rattle.statement_parser.proofs.PlaceFacts.{maybe_free, the_place, term_place, weights_place, value_place, disc_place, reach_place, limit_place, cell_place, call_place, operation_takes, operation_number}
 use Rattle.statement_parser.proofs.Placing.{placed, placed_k, maybe_reads, either_place}
 
 module _ (m : Manner) (scope : Scope) where
@@ -58,6 +58,12 @@ module _ (m : Manner) (scope : Scope) where
 
   radiating_place : IsPlace (tests m) (the (codes "radiating")) false
   radiating_place = the_place m (codes "radiating") refl refl
+
+  ignoring_place : IsPlace (tests m) (the (codes "ignoring")) false
+  ignoring_place = the_place m (codes "ignoring") refl refl
+
+  nulls_place : IsPlace (tests m) (the (codes "nulls")) false
+  nulls_place = the_place m (codes "nulls") refl refl
 
   on_place : IsPlace (tests m) (the (codes "on")) false
   on_place = the_place m (codes "on") refl refl
@@ -124,15 +130,36 @@ module _ (m : Manner) (scope : Scope) where
       (placed_k m (the word) false (λ u ws. one_at reading f true ws) k _ p (λ u. refl) (λ u. placed m f true k r q (λ v. (tails v).node) reads))
       (reads default) ws
 
-  statistic_reads : (s : Stat) (k : Goes Op) (r : Op → Rule Text Line) → AreTails r → Reads (tests m) k r → (ws : List Text) → (statistic_at scope s ws >>= λ p. k p.0 p.1) ≡ run (tests m) (statistic_body scope s r) ws
+  -- whether nulls are ignored, and then k
+  ignoring_tail : (r : Bool → Rule Text Line) → AreTails r → IsTail (tests m) (ignoring_part m r)
+  ignoring_tail r tails =
+      also_tail (tests m) (maybe m.ignoring (the (codes "ignoring"))) (λ _. next (the (codes "nulls")) (λ _. r true)) (r false) (maybe_free m.ignoring (the (codes "ignoring")) (codes "LocalSum") ignoring_place.free) (tails false)
+
+  ignoring_reads : (k : Goes Bool) (r : Bool → Rule Text Line) → AreTails r → Reads (tests m) k r → (ws : List Text) → (ignoring_at m ws >>= λ p. k p.0 p.1) ≡ run (tests m) (ignoring_part m r) ws
+  unfolding ignoring_at nulls_at
+  ignoring_reads k r tails reads ws =
+      let nulls = λ (ws : List Text). one_at reading (the (codes "nulls")) false ws >>= λ v. Ok (true, v.1) in
+      let there = λ (ws : List Text). one_at reading (the (codes "ignoring")) false ws >>= λ u. nulls u.1 in
+      cond_k (starts (maybe m.ignoring (the (codes "ignoring"))) ws) (there ws) (Ok (false, ws)) (λ p. k p.0 p.1)
+      ∙ maybe_reads m m.ignoring (the (codes "ignoring")) (λ _. next (the (codes "nulls")) (λ _. r true)) (r false) (λ ws. there ws >>= λ p. k p.0 p.1) (k false) ignoring_place (λ u. refl) (tails false)
+      (placed_k m (the (codes "ignoring")) false (λ u ws. nulls ws) k (λ _. next (the (codes "nulls")) (λ _. r true)) ignoring_place (λ u. refl) (λ u.
+      placed_k m (the (codes "nulls")) false (λ v ws. Ok (true, ws)) k (λ _. r true) nulls_place (λ v. (tails true).node) (λ v. reads true))) (reads false) ws
+
+  statistic_reads : (s : Stat) (k : Goes Op) (r : Op → Rule Text Line) → AreTails r → Reads (tests m) k r → (ws : List Text) → (statistic_at scope m s ws >>= λ p. k p.0 p.1) ≡ run (tests m) (statistic_body scope m s r) ws
   unfolding statistic_at
   statistic_reads s k r tails reads =
-      let last = λ (a b : Term) (ws : List Text). further_at scope (codes "and") 6 (a ∷ b ∷ []) ws >>= λ ts. Ok (local_op s ts.0, ts.1) in
+      let ending = λ (ts : List Term) (ws : List Text). ignoring_at m ws >>= λ ignoring. Ok (local_op s ignoring.0 ts, ignoring.1) in
+      let last = λ (a b : Term) (ws : List Text). further_at scope (codes "and") 6 (a ∷ b ∷ []) ws >>= λ ts. ending ts.0 ts.1 in
       let second = λ (a : Term) (ws : List Text). term_after_at scope (codes "and") ws >>= λ b. last a b.0 b.1 in
+      let rule = λ (ts : List Term). ignoring_part m (λ ignoring. r (local_op s ignoring ts)) in
+      let rules = λ (ts : List Term). ignoring_tail (λ ignoring. r (local_op s ignoring ts)) (λ ignoring. tails (local_op s ignoring ts)) in
       after_reads_k (codes "of") second k _ of_place (λ a. refl) (λ a.
-      after_reads_k (codes "and") (last a) k _ and_place (λ b. (further_tail (codes "and") (λ ts. r (local_op s ts)) 6 (a ∷ b ∷ []) and_place (λ ts. tails (local_op s ts))).node) (λ b ws.
-      assoc (further_at scope (codes "and") 6 (a ∷ b ∷ []) ws) (λ ts. Ok (local_op s ts.0, ts.1)) (λ p. k p.0 p.1)
-      ∙ further_reads (codes "and") (λ ts. k (local_op s ts)) (λ ts. r (local_op s ts)) and_place (λ ts. tails (local_op s ts)) (λ ts. reads (local_op s ts)) 6 (a ∷ b ∷ []) ws))
+      after_reads_k (codes "and") (last a) k _ and_place (λ b. (further_tail (codes "and") rule 6 (a ∷ b ∷ []) and_place rules).node) (λ b ws.
+      assoc (further_at scope (codes "and") 6 (a ∷ b ∷ []) ws) (λ ts. ending ts.0 ts.1) (λ p. k p.0 p.1)
+      ∙ further_reads (codes "and") (λ ts ws. ending ts ws >>= λ p. k p.0 p.1) rule and_place rules (λ ts ws.
+      assoc (ignoring_at m ws) (λ ignoring. Ok (local_op s ignoring.0 ts, ignoring.1)) (λ p. k p.0 p.1)
+      ∙ ignoring_reads (λ ignoring. k (local_op s ignoring ts)) (λ ignoring. r (local_op s ignoring ts)) (λ ignoring. tails (local_op s ignoring ts)) (λ ignoring. reads (local_op s ignoring ts)) ws)
+      6 (a ∷ b ∷ []) ws))
 
   pair_reads : (word : Text) (make : Term → Term → Op) (k : Goes Op) (r : Op → Rule Text Line) → IsPlace (tests m) (the word) false → AreTails r → Reads (tests m) k r → (ws : List Text)
       → (pair_at scope word ws >>= λ p. k (make p.0.0 p.0.1) p.1) ≡ run (tests m) (pair_body scope word make r) ws

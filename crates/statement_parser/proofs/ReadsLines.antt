@@ -7,17 +7,17 @@ use Rattle.grammar_core.specs.Run.{run, is_node}
 use Rattle.grammar_core.specs.Readers.{◌>>=◌, one_at, end_at}
 use Rattle.grammar_core.proofs.Reading.{end_reads, ends_tail, or_else, or_refused, start_place}
 use Rattle.map_defs.specs.Statements.{Written}
-use Rattle.statement_parser.specs.Lines.{Manner, define, paint, new_layer, drop, ask_value, ask_grid, ask_show, ask_legend, ask_table, ask_stamps, ask_list, Line, blank, edit, ask, quit}
+use Rattle.statement_parser.specs.Lines.{Manner, define, paint, new_layer, drop, ask_value, ask_grid, ask_show, ask_legend, ask_table, ask_stamps, ask_list, Line, blank, edit, ask, model, quit}
 use Rattle.statement_parser.specs.Scopes.{anywhere}
-use Rattle.statement_parser.specs.Places.{the, name_of, any_of, side_of, cell_of, tests, reading}
+use Rattle.statement_parser.specs.Places.{the, name_of, any_of, side_of, cell_of, version_of, tests, reading}
 use Rattle.statement_parser.specs.Commands.{command_named}
-use Rattle.statement_parser.specs.Grammar.{define_rule, paint_rule, new_rule, drop_rule, value_rule, any_rule, table_rule, command_rule, line_rule}
+use Rattle.statement_parser.specs.Grammar.{define_rule, paint_rule, new_rule, drop_rule, value_rule, any_rule, table_rule, model_rule, command_rule, line_rule}
 use Rattle.statement_parser.specs.ReadBodies.{body_at}
 use Rattle.statement_parser.specs.ReadLine.{define_at, command_at, statement_at, started_at, line_at, quit_at}
-use Rattle.statement_parser.specs.ReadCommands.{corners_at, paint_at, new_at, drop_at, value_at, any_line_at, table_at, list_at}
+use Rattle.statement_parser.specs.ReadCommands.{corners_at, paint_at, new_at, drop_at, value_at, any_line_at, table_at, model_at, list_at}
 use Rattle.statement_parser.specs.declared.command.Command.{Command}
-use Rattle.statement_parser.specs.declared.command.Command.TheVariants.{Procedure, Paint, New, Drop, Label, Symbol, Value, Grid, Show, Legend, Table, Stamps, List as Listing, Quit}
-use Rattle.statement_parser.proofs.PlaceFacts.{the_place, name_place, any_place, side_place, cell_place, command_place}
+use Rattle.statement_parser.specs.declared.command.Command.TheVariants.{Model, Procedure, Paint, New, Drop, Label, Symbol, Value, Grid, Show, Legend, Table, Stamps, List as Listing, Quit}
+use Rattle.statement_parser.proofs.PlaceFacts.{the_place, name_place, any_place, side_place, cell_place, version_place, command_place}
 use Rattle.statement_parser.proofs.ProcedureReads.{procedure_reads}
 use Rattle.statement_parser.proofs.LabelRules.{label_reads, symbol_reads}
 use Rattle.statement_parser.proofs.ReadsBodies.{body_reads}
@@ -69,6 +69,10 @@ module _ (m : Manner) where
       placed m any_of false _ _ (any_place m) (λ n. refl) (λ n.
       placed m any_of false (λ v us. end_at us >>= λ e. Ok (ask (ask_table n v))) (λ v. ends (ask (ask_table n v))) (any_place m) (λ v. refl) (λ v. end_reads (tests m) (ask (ask_table n v))))
 
+  model_reads : (ws : List Text) → model_at ws ≡ run (tests m) model_rule ws
+  unfolding model_at
+  model_reads = placed m version_of true (λ l us. end_at us >>= λ e. Ok (model l)) (λ l. ends (model l)) (version_place m) (λ l. refl) (λ l. end_reads (tests m) (model l))
+
   list_reads : (ws : List Text) → list_at ws ≡ run (tests m) (ends (ask ask_list)) ws
   unfolding list_at
   list_reads = end_reads (tests m) (ask ask_list)
@@ -78,6 +82,7 @@ module _ (m : Manner) where
   quit_reads = end_reads (tests m) quit
 
   command_reads : (c : Command) (ws : List Text) → command_at m c ws ≡ run (tests m) (command_rule m c) ws
+  command_reads Model = model_reads
   command_reads Procedure = procedure_reads m
   command_reads Paint = paint_reads
   command_reads New = new_reads
@@ -94,6 +99,7 @@ module _ (m : Manner) where
   command_reads Quit = quit_reads
 
   command_node : (c : Command) → is_node (command_rule m c) ≡ true
+  command_node Model = refl
   command_node Procedure = refl
   command_node Paint = refl
   command_node New = refl

@@ -19,7 +19,7 @@ use Rattle.statement_parser.specs.Lines.{Manner, Line}
 use Rattle.statement_parser.specs.Scopes.{Scope}
 use Rattle.statement_parser.specs.Operations.{operation_named}
 use Rattle.statement_parser.specs.Places.{the, maybe, value_of, disc_of, reach_of, limit_of, term_of, weights_of, cell_of, call_of, tests}
-use Rattle.statement_parser.specs.Bodies.{term_after, further_terms, optional_part, statistic_body, pair_body, single_body, rate_part, with_rates, rating_body, radius_part, sight_part, radiates, focal_body, friction_part, spread_body, drainage_op, drainage_body, operation_body, call_body, body_rule}
+use Rattle.statement_parser.specs.Bodies.{term_after, further_terms, optional_part, ignoring_part, statistic_body, pair_body, single_body, rate_part, with_rates, rating_body, radius_part, sight_part, radiates, focal_body, friction_part, spread_body, drainage_op, drainage_body, operation_body, call_body, body_rule}
 use Rattle.statement_parser.specs.declared.operation.Operation.{Operation}
 use Rattle.statement_parser.specs.declared.operation.Operation.TheVariants.{Local, Difference, Ratio, Rating, Focal, Proximity, Insularity, Zonal, Incremental, Drainage}
 use Rattle.statement_parser.proofs.PlaceFacts.{term_takes, term_place, weights_takes, weights_place, value_takes, value_place, disc_takes, disc_place, reach_takes, reach_place, limit_takes, limit_place, cell_takes, cell_place, operation_takes}
@@ -60,11 +60,6 @@ module _ (m : Manner) (scope : Scope) where
   tail_optional : {A : Type 0} (word : Text) (place : Text → Option A) (default : A) (f : A → Rule Text Line) → the word word ≡ Some tt → IsFree word → Tail (tests m) (next place f) → Tail (tests m) (f default)
       → Tail (tests m) (optional_part word place default f)
   tail_optional word place default f same free there left_out = tail_also (tests m) (the word) (λ _. next place f) (f default) word tt same free (λ u. there) left_out
-
-  tail_statistic : (s : Stat) (f : Op → Rule Text Line) → Tails f → Tail (tests m) (statistic_body scope s f)
-  tail_statistic s f h =
-      tail_after (codes "of") _ refl refl (λ a. (tail_after (codes "and") _ refl refl (λ b.
-      (tail_further (codes "and") (λ ts. f (local_op s ts)) 6 (a ∷ b ∷ []) refl refl (λ ts. h (local_op s ts))).healthy)).healthy)
 
   tail_pair : (word : Text) (make : Term → Term → Op) (f : Op → Rule Text Line) → the word word ≡ Some tt → IsFree word → Tails f → Tail (tests m) (pair_body scope word make f)
   tail_pair word make f same free h = tail_after (codes "of") _ refl refl (λ a. (tail_after word _ same free (λ b. (h (make a b)).healthy)).healthy)
@@ -113,6 +108,14 @@ module _ (m : Manner) (scope : Scope) where
     where
       after_each : (r : Rule Text Line) → Sound (tests m) r → (w : Text) → Sound (tests m) (step r w)
       after_each r s w = next_sound (tests m) r w s
+
+  tail_ignoring : (f : Bool → Rule Text Line) → Tails f → Tail (tests m) (ignoring_part m f)
+  tail_ignoring f h = tail_maybe m.ignoring (codes "ignoring") (λ _. next (the (codes "nulls")) (λ _. f true)) (f false) refl refl (λ u. the_tail (codes "nulls") (λ _. f true) refl refl (h true).healthy) (h false)
+
+  tail_statistic : (s : Stat) (f : Op → Rule Text Line) → Tails f → Tail (tests m) (statistic_body scope m s f)
+  tail_statistic s f h =
+      tail_after (codes "of") _ refl refl (λ a. (tail_after (codes "and") _ refl refl (λ b.
+      (tail_further (codes "and") (λ ts. ignoring_part m (λ ignoring. f (local_op s ignoring ts))) 6 (a ∷ b ∷ []) refl refl (λ ts. tail_ignoring (λ ignoring. f (local_op s ignoring ts)) (λ ignoring. h (local_op s ignoring ts)))).healthy)).healthy)
 
   tail_focal : (s : Stat) (f : Op → Rule Text Line) → Tails f → Tail (tests m) (focal_body scope m s f)
   tail_focal s f h =

@@ -4,16 +4,16 @@ use Rattle.std.specs.Prelude.{codes}
 use Rattle.map_words.specs.Bytes.{Text}
 use Rattle.grammar_core.specs.Rules.{Rule, on, next, ends, ◌<|>◌}
 use Rattle.grammar_core.proofs.Parts.{Healthy, NoBody, healthy_next, healthy_end, healthy_ends, all_on, all_or, tail_ends}
-use Rattle.statement_parser.specs.Lines.{Manner, define, paint, new_layer, drop, ask_value, ask_grid, ask_show, ask_legend, ask_table, ask_stamps, ask_list, Line, blank, edit, ask, quit}
+use Rattle.statement_parser.specs.Lines.{Manner, define, paint, new_layer, drop, ask_value, ask_grid, ask_show, ask_legend, ask_table, ask_stamps, ask_list, Line, blank, edit, ask, model, quit}
 use Rattle.statement_parser.specs.Scopes.{anywhere}
-use Rattle.statement_parser.specs.Places.{name_of, any_of, side_of, tests}
+use Rattle.statement_parser.specs.Places.{name_of, any_of, side_of, version_of, tests}
 use Rattle.statement_parser.specs.Commands.{command_named}
 use Rattle.statement_parser.specs.Grammar.{define_rule, command_rule, line_rule}
 use Rattle.statement_parser.specs.declared.command.Command.{Command}
-use Rattle.statement_parser.specs.declared.command.Command.TheVariants.{Procedure, Paint, New, Drop, Label, Symbol, Value, Grid, Show, Legend, Table, Stamps, List as Listing, Quit}
+use Rattle.statement_parser.specs.declared.command.Command.TheVariants.{Model, Procedure, Paint, New, Drop, Label, Symbol, Value, Grid, Show, Legend, Table, Stamps, List as Listing, Quit}
 use Rattle.statement_parser.proofs.ProcedureSound.{healthy_procedure}
 use Rattle.statement_parser.proofs.LabelRules.{healthy_label, healthy_symbol}
-use Rattle.statement_parser.proofs.PlaceFacts.{name_takes, name_place, any_takes, any_place, side_takes, side_place, command_place}
+use Rattle.statement_parser.proofs.PlaceFacts.{name_takes, name_place, any_takes, any_place, side_takes, side_place, version_takes, version_place, command_place}
 use Rattle.statement_parser.proofs.SoundBodies.{the_tail, cell_tail, healthy_body}
 
 module _ (m : Manner) where
@@ -30,6 +30,7 @@ module _ (m : Manner) where
   healthy_define n = (the_tail m anywhere (codes "=") _ refl refl (healthy_body m anywhere (λ w. ends (edit (define n w))) (λ w. tail_ends (tests m) (edit (define n w))))).healthy
 
   healthy_command : (c : Command) → Healthy (tests m) (command_rule m c)
+  healthy_command Model = healthy_next (tests m) version_of (λ l. ends (model l)) (codes "1") _ version_takes (version_place m).free (λ l. healthy_ends (tests m) (model l))
   healthy_command Procedure = healthy_procedure m
   healthy_command Paint = healthy_name _ (λ n. healthy_side _ (λ r1. healthy_side _ (λ c1. healthy_side _ (λ r2. healthy_side _ (λ c2. (cell_tail m anywhere _ (λ v. healthy_ends (tests m) (edit (paint n r1 c1 r2 c2 v)))).healthy)))))
   healthy_command New = healthy_name _ (λ n. (cell_tail m anywhere _ (λ v. healthy_ends (tests m) (edit (new_layer n v)))).healthy)

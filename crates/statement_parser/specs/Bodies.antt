@@ -1,5 +1,5 @@
 -- What follows an operation's name; f is what may follow the operation.
-use Rattle.std.specs.Prelude.{ℕ, zero, suc, pos, Bool, false, List, [], ◌∷◌, ◌++◌, Option, Some, None, codes}
+use Rattle.std.specs.Prelude.{ℕ, zero, suc, pos, Bool, true, false, List, [], ◌∷◌, ◌++◌, Option, Some, None, codes}
 use Rattle.map_nums.specs.declared.Stat.{Stat}
 use Rattle.map_nums.specs.declared.Stat.TheVariants.{Sum}
 use Rattle.map_nums.specs.declared.Rate.{Rate}
@@ -29,9 +29,15 @@ further_terms scope word f (suc n) ts = also (on (the word) (λ _. next (term_of
 abbrev pub optional_part : {A : Type 0} → Text → (Text → Option A) → A → (A → Rule Text Line) → Rule Text Line
 optional_part word place default f = also (on (the word) (λ _. next place f)) (f default)
 
--- "of" term "and" term {"and" term}, 2 to 8 terms
-abbrev pub statistic_body : Scope → Stat → (Op → Rule Text Line) → Rule Text Line
-statistic_body scope s f = term_after scope (codes "of") (λ a. term_after scope (codes "and") (λ b. further_terms scope (codes "and") (λ ts. f (local_op s ts)) 6 (a ∷ b ∷ [])))
+-- ["ignoring" "nulls"], where the language has it
+abbrev pub ignoring_part : Manner → (Bool → Rule Text Line) → Rule Text Line
+ignoring_part m f = also (on (maybe m.ignoring (the (codes "ignoring"))) (λ _. next (the (codes "nulls")) (λ _. f true))) (f false)
+
+-- "of" term "and" term {"and" term}, 2 to 8 terms, ["ignoring" "nulls"]
+abbrev pub statistic_body : Scope → Manner → Stat → (Op → Rule Text Line) → Rule Text Line
+statistic_body scope m s f =
+    term_after scope (codes "of") (λ a. term_after scope (codes "and") (λ b.
+    further_terms scope (codes "and") (λ ts. ignoring_part m (λ ignoring. f (local_op s ignoring ts))) 6 (a ∷ b ∷ [])))
 
 -- "of" term
 abbrev pub single_body : Scope → (Term → Op) → (Op → Rule Text Line) → Rule Text Line
@@ -99,7 +105,7 @@ drainage_body scope f = term_after scope (codes "of") (λ a. optional_part (code
 
 -- what follows the name of each operation
 abbrev pub operation_body : Scope → Manner → (Op → Rule Text Line) → Operation → Rule Text Line
-operation_body scope m f (Local s) = statistic_body scope s f
+operation_body scope m f (Local s) = statistic_body scope m s f
 operation_body scope m f Difference = pair_body scope (codes "and") difference_op f
 operation_body scope m f Ratio = pair_body scope (codes "and") ratio_op f
 operation_body scope m f Rating = rating_body scope f

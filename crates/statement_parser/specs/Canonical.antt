@@ -1,5 +1,5 @@
 -- The one canonical text of a statement.
-use Rattle.std.specs.Prelude.{ℕ, ℤ, pos, Bool, false, List, [], ◌∷◌, ◌++◌, Option, Some, None, codes, decimal, if◌then◌else◌}
+use Rattle.std.specs.Prelude.{ℕ, ℤ, pos, Bool, true, false, List, [], ◌∷◌, ◌++◌, Option, Some, None, codes, decimal, if◌then◌else◌}
 use Rattle.std.specs.Ordering.{int_eq}
 use Rattle.std.specs.Fmt.{signed_decimal}
 use Rattle.map_nums.specs.declared.Stat.TheVariants.{Sum}
@@ -54,9 +54,13 @@ is_one (number_term z) = int_eq z (pos 1)
 abbrev pub friction_texts : Term → List Text
 friction_texts t = if is_one t then [] else codes "spreading" ∷ codes "in" ∷ term_text t ∷ []
 
+abbrev pub ignoring_texts : Bool → List Text
+ignoring_texts true = codes "ignoring" ∷ codes "nulls" ∷ []
+ignoring_texts false = []
+
 -- the words of an operation
 abbrev pub op_texts : Op → List Text
-op_texts (local_op s ts) = operation_text (Local s) ∷ codes "of" ∷ terms_texts ts
+op_texts (local_op s ignoring ts) = operation_text (Local s) ∷ codes "of" ∷ (terms_texts ts ++ ignoring_texts ignoring)
 op_texts (difference_op l r) = pair_texts (operation_text Difference) (codes "and") l r
 op_texts (ratio_op l r) = pair_texts (operation_text Ratio) (codes "and") l r
 op_texts (rating_op t rs) = operation_text Rating ∷ codes "of" ∷ term_text t ∷ rates_texts rs

@@ -4,9 +4,10 @@ use Rattle.std.specs.List.{list_any}
 use Rattle.map_words.specs.Bytes.{Text}
 use Rattle.statement_parser.specs.Lines.{Manner}
 use Rattle.statement_parser.specs.declared.command.Command.{Command}
-use Rattle.statement_parser.specs.declared.command.Command.TheVariants.{Procedure, Paint, New, Drop, Label, Symbol, Value, Grid, Show, Legend, Table, Stamps, List as Listing, Quit}
+use Rattle.statement_parser.specs.declared.command.Command.TheVariants.{Model, Procedure, Paint, New, Drop, Label, Symbol, Value, Grid, Show, Legend, Table, Stamps, List as Listing, Quit}
 
 abbrev pub command_text : Command → Text
+command_text Model = codes "model"
 command_text Procedure = codes "procedure"
 command_text Paint = codes "paint"
 command_text New = codes "new"
@@ -22,9 +23,13 @@ command_text Stamps = codes "stamps"
 command_text Listing = codes "list"
 command_text Quit = codes "quit"
 
+-- the commands of every place
+abbrev pub lasting_commands : List Command
+lasting_commands = Procedure ∷ Paint ∷ New ∷ Drop ∷ Label ∷ Symbol ∷ Value ∷ Grid ∷ Show ∷ Legend ∷ Table ∷ Stamps ∷ Listing ∷ Quit ∷ []
+
 -- all commands
 abbrev pub commands : List Command
-commands = Procedure ∷ Paint ∷ New ∷ Drop ∷ Label ∷ Symbol ∷ Value ∷ Grid ∷ Show ∷ Legend ∷ Table ∷ Stamps ∷ Listing ∷ Quit ∷ []
+commands = Model ∷ lasting_commands
 
 -- the command with this word
 unfoldable pub find_command : Text → Option Command

@@ -12,7 +12,7 @@ use Rattle.map_defs.specs.Ops.{Term, layer_term, number_term, terms_of, Op, loca
 use Rattle.map_defs.specs.Statements.{Written, plain, call, Inner, Procedure}
 use Rattle.statement_parser.specs.Signs.{is_sign}
 use Rattle.statement_parser.specs.Scopes.{Scope, has_name, names_before}
-use Rattle.statement_parser.specs.Lines.{Edit, define, paint, new_layer, drop, define_procedure, put_label, put_symbol, Request, ask_value, ask_grid, ask_show, ask_legend, ask_table, ask_stamps, ask_list, Line, blank, edit, ask, quit}
+use Rattle.statement_parser.specs.Lines.{Edit, define, paint, new_layer, drop, define_procedure, put_label, put_symbol, Request, ask_value, ask_grid, ask_show, ask_legend, ask_table, ask_stamps, ask_list, Line, blank, edit, ask, model, quit}
 
 abbrev pub Each : {A : Type 0} → (A → Type 0) → List A → Type 0
 Each P [] = Unit {0}
@@ -45,7 +45,7 @@ pub record IsSighting (s : Sighting) : Type 0 where
   pub reach : IsBetween 1 64 s.reach
 
 abbrev pub IsOp : Op → Type 0
-IsOp (local_op s ts) = (2 ≤ length ts) × (length ts ≤ 8) × Each IsTerm ts
+IsOp (local_op s ignoring ts) = (2 ≤ length ts) × (length ts ≤ 8) × Each IsTerm ts
 IsOp (difference_op l r) = IsTerm l × IsTerm r
 IsOp (ratio_op l r) = IsTerm l × IsTerm r
 IsOp (rating_op t rs) = IsTerm t × (1 ≤ length rs) × (length rs ≤ 32) × Each IsRate rs
@@ -138,4 +138,5 @@ abbrev pub IsFormed : Line → Type 0
 IsFormed blank = Unit {0}
 IsFormed (edit e) = IsEdit e
 IsFormed (ask r) = IsRequest r
+IsFormed (model l) = Unit {0}
 IsFormed quit = Unit {0}

@@ -2,15 +2,15 @@
 use Rattle.std.specs.Prelude.{List, Some, codes}
 use Rattle.map_words.specs.Bytes.{Text}
 use Rattle.grammar_core.specs.Rules.{Rule, Derives, node, ends, on, next, ◌<|>◌}
-use Rattle.statement_parser.specs.Lines.{Manner, define, paint, new_layer, drop, ask_value, ask_grid, ask_show, ask_legend, ask_table, ask_stamps, ask_list, Line, blank, edit, ask, quit}
+use Rattle.statement_parser.specs.Lines.{Manner, define, paint, new_layer, drop, ask_value, ask_grid, ask_show, ask_legend, ask_table, ask_stamps, ask_list, Line, blank, edit, ask, model, quit}
 use Rattle.statement_parser.specs.Scopes.{anywhere}
 use Rattle.statement_parser.specs.Commands.{command_named}
-use Rattle.statement_parser.specs.Places.{the, name_of, any_of, side_of, cell_of}
+use Rattle.statement_parser.specs.Places.{the, name_of, any_of, side_of, cell_of, version_of}
 use Rattle.statement_parser.specs.Bodies.{body_rule}
 use Rattle.statement_parser.specs.Labels.{label_rule, symbol_rule}
 use Rattle.statement_parser.specs.ProcedureRules.{procedure_rule}
 use Rattle.statement_parser.specs.declared.command.Command.{Command}
-use Rattle.statement_parser.specs.declared.command.Command.TheVariants.{Procedure, Paint, New, Drop, Label, Symbol, Value, Grid, Show, Legend, Table, Stamps, List as Listing, Quit}
+use Rattle.statement_parser.specs.declared.command.Command.TheVariants.{Model, Procedure, Paint, New, Drop, Label, Symbol, Value, Grid, Show, Legend, Table, Stamps, List as Listing, Quit}
 
 -- after its name: "=" body
 abbrev pub define_rule : Manner → Text → Rule Text Line
@@ -42,8 +42,13 @@ any_rule make = next any_of (λ n. ends (make n))
 abbrev pub table_rule : Rule Text Line
 table_rule = next any_of (λ n. next any_of (λ v. ends (ask (ask_table n v))))
 
+-- VERSION
+abbrev pub model_rule : Rule Text Line
+model_rule = next version_of (λ l. ends (model l))
+
 -- what follows the word of each command
 abbrev pub command_rule : Manner → Command → Rule Text Line
+command_rule m Model = model_rule
 command_rule m Procedure = procedure_rule m
 command_rule m Paint = paint_rule
 command_rule m New = new_rule

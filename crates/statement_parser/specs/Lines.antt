@@ -4,6 +4,7 @@ use Rattle.map_words.specs.Bytes.{Text}
 use Rattle.map_defs.specs.Statements.{Written, Procedure}
 use Rattle.statement_parser.specs.declared.operation.Operation.{Operation}
 use Rattle.statement_parser.specs.declared.command.Command.{Command}
+use Rattle.statement_parser.specs.declared.language.Language.{Language}
 
 -- how lines are read: which rows of the language are there
 pub record Manner : Type 0 where
@@ -14,6 +15,8 @@ pub record Manner : Type 0 where
   pub sight : Bool
   -- whether procedures may be called
   pub calls : Bool
+  -- whether Local statistics may ignore nulls
+  pub ignoring : Bool
 
 -- a line that changes the map
 pub data Edit : Type 0 where
@@ -44,4 +47,6 @@ pub data Line : Type 0 where
   blank : Line
   edit : Edit → Line
   ask : Request → Line
+  -- the language of the lines after it
+  model : Language → Line
   quit : Line

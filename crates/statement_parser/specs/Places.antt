@@ -1,5 +1,5 @@
 -- What a word may be at each place of a line.
-use Rattle.std.specs.Prelude.{ℕ, ℤ, pos, nat_abs, Bool, false, not, ◌&&◌, ◌||◌, Option, Some, None, option_map, codes, bytes_eq, if◌then◌else◌}
+use Rattle.std.specs.Prelude.{ℕ, ℤ, pos, nat_abs, ◌==◌, Bool, false, not, ◌&&◌, ◌||◌, Option, Some, None, option_map, codes, bytes_eq, if◌then◌else◌}
 use Rattle.map_nums.specs.Numbers.{vmin, vmax}
 use Rattle.map_words.specs.Bytes.{Text}
 use Rattle.map_words.specs.Names.{has_name_form, is_plain, is_dotted}
@@ -9,6 +9,8 @@ use Rattle.map_defs.specs.Ops.{Term, layer_term, number_term}
 use Rattle.statement_parser.specs.Lines.{Manner}
 use Rattle.statement_parser.specs.Scopes.{Scope}
 use Rattle.statement_parser.specs.Operations.{is_operation}
+use Rattle.statement_parser.specs.declared.language.Language.{Language}
+use Rattle.statement_parser.specs.declared.language.Language.TheVariants.{One, Two}
 
 -- this very word
 abbrev pub the : Text → Text → Option (Unit {0})
@@ -46,6 +48,10 @@ reach_of t = count_of (pos 1) (pos 64) t
 abbrev pub limit_of : Text → Option ℕ
 limit_of t = count_of (pos 0) vmax t
 
+-- the version of a language
+abbrev pub version_of : Text → Option Language
+version_of t = option_map (λ n. if n == 1 then One else Two) (count_of (pos 1) (pos 2) t)
+
 -- a name of the scope, or a number
 abbrev pub term_of : Scope → Text → Option Term
 term_of scope t = if is_plain t && scope t then Some (layer_term t) else option_map number_term (value_of t)
@@ -68,7 +74,7 @@ call_of m t = maybe m.calls name_of t
 -- what refusals ask of a word
 abbrev pub tests : Manner → Tests Text
 tests m = record {
-  number = codes "10";
+  number = codes "01";
   operation = codes "LocalSum";
   is_number = is_number;
   is_stranger = λ t. has_name_form t && not (is_operation m t);
@@ -78,7 +84,7 @@ tests m = record {
 -- what the reading of one word asks: whether it is a number
 abbrev pub reading : Tests Text
 reading = record {
-  number = codes "10";
+  number = codes "01";
   operation = codes "LocalSum";
   is_number = is_number;
   is_stranger = λ t. false;

@@ -1,5 +1,5 @@
 -- Reading operations, on lists.
-use Rattle.std.specs.Prelude.{suc, pos, false, List, [], ◌∷◌, length, Option, Some, None, Ok, codes, if◌then◌else◌}
+use Rattle.std.specs.Prelude.{suc, pos, Bool, true, false, List, [], ◌∷◌, length, Option, Some, None, Ok, codes, if◌then◌else◌}
 use Rattle.map_nums.specs.declared.Stat.{Stat}
 use Rattle.map_nums.specs.Numbers.{greatest_value}
 use Rattle.map_words.specs.Bytes.{Text}
@@ -20,12 +20,22 @@ use Rattle.statement_parser.specs.declared.op.Form.{Form}
 use Rattle.statement_parser.specs.declared.operation.Operation.{Operation}
 use Rattle.statement_parser.specs.declared.operation.Operation.TheVariants.{Local, Difference, Ratio, Rating, Focal, Proximity, Insularity, Zonal, Incremental, Drainage}
 
-unfoldable pub statistic_at : Scope → Stat → List Text → Read Text Op
-statistic_at scope s ws = do
+unfoldable pub nulls_at : List Text → Read Text Bool
+nulls_at ws = do
+  u ← one_at reading (the (codes "ignoring")) false ws
+  v ← one_at reading (the (codes "nulls")) false u.1
+  Ok (true, v.1)
+
+unfoldable pub ignoring_at : Manner → List Text → Read Text Bool
+ignoring_at m ws = if starts (maybe m.ignoring (the (codes "ignoring"))) ws then nulls_at ws else Ok (false, ws)
+
+unfoldable pub statistic_at : Scope → Manner → Stat → List Text → Read Text Op
+statistic_at scope m s ws = do
   a ← term_after_at scope (codes "of") ws
   b ← term_after_at scope (codes "and") a.1
   ts ← further_at scope (codes "and") 6 (a.0 ∷ b.0 ∷ []) b.1
-  Ok (local_op s ts.0, ts.1)
+  ignoring ← ignoring_at m ts.1
+  Ok (local_op s ignoring.0 ts.0, ignoring.1)
 
 unfoldable pub pair_at : Scope → Text → List Text → Read Text (Term × Term)
 pair_at scope word ws = do
@@ -102,7 +112,7 @@ drainage_at scope ws = do
   Ok (drainage_op a.0 w.0, w.1)
 
 abbrev pub operation_at : Scope → Manner → Operation → List Text → Read Text Op
-operation_at scope m (Local s) ws = statistic_at scope s ws
+operation_at scope m (Local s) ws = statistic_at scope m s ws
 operation_at scope m Difference ws = difference_at scope ws
 operation_at scope m Ratio ws = ratio_at scope ws
 operation_at scope m Rating ws = rating_at scope ws

@@ -3,8 +3,8 @@ use Rattle.std.specs.Prelude.{ℕ, true, false, List, Result, Ok}
 use Rattle.map_words.specs.Bytes.{Text}
 use Rattle.grammar_core.specs.declared.Fault.{Fault}
 use Rattle.grammar_core.specs.Readers.{◌>>=◌, Read, one_at, end_at}
-use Rattle.statement_parser.specs.Lines.{Line, paint, new_layer, drop, ask_value, ask_table, ask_list, edit, ask}
-use Rattle.statement_parser.specs.Places.{name_of, any_of, side_of, cell_of, reading}
+use Rattle.statement_parser.specs.Lines.{Line, paint, new_layer, drop, ask_value, ask_table, ask_list, edit, ask, model}
+use Rattle.statement_parser.specs.Places.{name_of, any_of, side_of, cell_of, version_of, reading}
 
 -- the rows and columns of a rectangle
 unfoldable pub corners_at : List Text → Read Text (ℕ × ℕ × ℕ × ℕ)
@@ -56,6 +56,12 @@ table_at ws = do
   v ← one_at reading any_of false n.1
   e ← end_at v.1
   Ok (ask (ask_table n.0 v.0))
+
+unfoldable pub model_at : List Text → Result Line Fault
+model_at ws = do
+  l ← one_at reading version_of true ws
+  e ← end_at l.1
+  Ok (model l.0)
 
 unfoldable pub list_at : List Text → Result Line Fault
 list_at ws = do

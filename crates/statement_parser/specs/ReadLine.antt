@@ -12,9 +12,9 @@ use Rattle.statement_parser.specs.Commands.{command_named}
 use Rattle.statement_parser.specs.ReadBodies.{body_at}
 use Rattle.statement_parser.specs.ReadLabels.{label_at, symbol_at}
 use Rattle.statement_parser.specs.ReadProcedures.{procedure_at}
-use Rattle.statement_parser.specs.ReadCommands.{paint_at, new_at, drop_at, value_at, any_line_at, table_at, list_at}
+use Rattle.statement_parser.specs.ReadCommands.{paint_at, new_at, drop_at, value_at, any_line_at, table_at, model_at, list_at}
 use Rattle.statement_parser.specs.declared.command.Command.{Command}
-use Rattle.statement_parser.specs.declared.command.Command.TheVariants.{Procedure, Paint, New, Drop, Label, Symbol, Value, Grid, Show, Legend, Table, Stamps, List as Listing, Quit}
+use Rattle.statement_parser.specs.declared.command.Command.TheVariants.{Model, Procedure, Paint, New, Drop, Label, Symbol, Value, Grid, Show, Legend, Table, Stamps, List as Listing, Quit}
 
 unfoldable pub define_at : Manner → Text → List Text → Result Line Fault
 define_at m n ws = do
@@ -29,6 +29,7 @@ quit_at ws = do
   Ok quit
 
 abbrev pub command_at : Manner → Command → List Text → Result Line Fault
+command_at m Model ws = model_at ws
 command_at m Procedure ws = procedure_at m ws
 command_at m Paint ws = paint_at ws
 command_at m New ws = new_at ws

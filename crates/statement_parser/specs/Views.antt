@@ -22,7 +22,7 @@ use Rattle.map_defs.specs.Statements as meant
 use Rattle.map_defs.specs.Statements.{Written, plain, call}
 use Rattle.statement_parser.specs.Forms.{form_of}
 use Rattle.statement_parser.specs.declared.rows.Rows.{Rows}
-use Rattle.statement_parser.specs.Lines.{Manner, Edit, define, paint, new_layer, drop, define_procedure, put_label, put_symbol, Request, ask_value, ask_grid, ask_show, ask_legend, ask_table, ask_stamps, ask_list, Line, blank, edit, ask, quit}
+use Rattle.statement_parser.specs.Lines.{Manner, Edit, define, paint, new_layer, drop, define_procedure, put_label, put_symbol, Request, ask_value, ask_grid, ask_show, ask_legend, ask_table, ask_stamps, ask_list, Line, blank, edit, ask, model, quit}
 
 -- the texts of words
 abbrev pub texts_of : List Word → List Text
@@ -30,7 +30,7 @@ texts_of ws = map (λ (w : Word). w.text.now) ws
 
 -- the rows that are there
 abbrev pub manner_of : Rows → Manner
-manner_of r = record { operations = r.operations.now; commands = r.commands.now; sight = r.sight; calls = r.calls }
+manner_of r = record { operations = r.operations.now; commands = r.commands.now; sight = r.sight; calls = r.calls; ignoring = r.ignoring }
 
 abbrev pub term_view : terms.Term → Term
 term_view (a_term.Layer n) = layer_term n
@@ -44,7 +44,7 @@ reach_view a_reach.Square = None
 reach_view (a_reach.Disc r) = Some r
 
 abbrev pub op_view : ops.Op → Op
-op_view (an_op.Local s ts) = local_op s (terms_view ts.items)
+op_view (an_op.Local s ts ignoring) = local_op s ignoring (terms_view ts.items)
 op_view (an_op.Difference l r) = difference_op (term_view l) (term_view r)
 op_view (an_op.Ratio l r) = ratio_op (term_view l) (term_view r)
 op_view (an_op.Rating t rs) = rating_op (term_view t) rs.items
@@ -93,4 +93,5 @@ abbrev pub line_view : lines.Line → Line
 line_view a_line.Blank = blank
 line_view (a_line.Edit e) = edit (edit_view e)
 line_view (a_line.Ask r) = ask (request_view r)
+line_view (a_line.Model l) = model l
 line_view a_line.Quit = quit

@@ -4,18 +4,19 @@ use Rattle.map_nums.specs.declared.Stat.TheVariants as stats
 use Rattle.map_words.specs.Bytes.{Text}
 use Rattle.map_defs.specs.Ops.{layer_term, number_term, local_op, rating_op, focal_op, spread_op, sight_op}
 use Rattle.map_defs.specs.Statements.{plain, call}
-use Rattle.statement_parser.specs.Lines.{Manner, define, define_procedure, paint, new_layer, put_label, put_symbol, ask_grid, ask_table, Line, blank, edit, ask}
+use Rattle.statement_parser.specs.Lines.{Manner, define, define_procedure, paint, new_layer, put_label, put_symbol, ask_grid, ask_table, Line, blank, edit, ask, model}
 use Rattle.statement_parser.specs.Operations.{operations}
 use Rattle.statement_parser.specs.Commands.{commands}
 use Rattle.statement_parser.specs.declared.operation.Operation.TheVariants.{Rating}
 use Rattle.statement_parser.specs.declared.command.Command.TheVariants.{Paint, New, Grid}
+use Rattle.statement_parser.specs.declared.language.Language.TheVariants.{One, Two}
 use Rattle.statement_parser.specs.Texts.{LineText, Refusal, syntax, operation, number, RefusedText}
 
 abbrev pub first_rows : Manner
-first_rows = record { operations = Rating ∷ []; commands = Paint ∷ New ∷ Grid ∷ []; sight = false; calls = false }
+first_rows = record { operations = Rating ∷ []; commands = Paint ∷ New ∷ Grid ∷ []; sight = false; calls = false; ignoring = false }
 
 abbrev pub all_rows : Manner
-all_rows = record { operations = operations; commands = commands; sight = true; calls = true }
+all_rows = record { operations = operations; commands = commands; sight = true; calls = true; ignoring = true }
 
 abbrev pub Is : Text → Line → Type 0
 Is bytes x = LineText first_rows bytes x
@@ -29,13 +30,27 @@ IsOfAll bytes x = LineText all_rows bytes x
 abbrev pub IsRefusedOfAll : Text → Refusal → Type 0
 IsRefusedOfAll bytes r = RefusedText all_rows bytes r
 
+-- lines of language 2, and those that set a language
+pub record WorkedLanguages : Type 0 where
+  pub ignoring : IsOfAll (codes "C = LocalSum of A and B ignoring nulls") (edit (define (codes "C") (plain (local_op stats.Sum true (layer_term (codes "A") ∷ layer_term (codes "B") ∷ [])))))
+  pub not_ignoring : IsRefused (codes "C = LocalSum of A and B ignoring nulls") (syntax 25)
+  pub ninth_ignoring : IsRefusedOfAll (codes "C = LocalSum of 1 and 2 and 3 and 4 and 5 and 6 and 7 and 8 and 9 ignoring nulls") (syntax 61)
+  pub cut_ignoring : IsRefusedOfAll (codes "C = LocalSum of A and B ignoring") (syntax 33)
+  pub ignoring_difference : IsRefusedOfAll (codes "C = LocalDifference of A and B ignoring nulls") (syntax 32)
+  pub second : IsOfAll (codes "model +2") (model Two)
+  pub first : IsOfAll (codes "model 01") (model One)
+  pub third : IsRefusedOfAll (codes "model 3") (number 7)
+  pub no_version : IsRefusedOfAll (codes "model") (syntax 6)
+  pub two_versions : IsRefusedOfAll (codes "model 1 2") (syntax 9)
+  pub closed : IsRefused (codes "model 2") (syntax 1)
+
 -- lines of procedures
 pub record WorkedProcedures : Type 0 where
   pub made : IsOfAll (codes "procedure Twice(P, K): x = LocalSum of P and K; result = LocalProduct of x and 2") (edit (define_procedure (record {
     name = codes "Twice";
     takes = codes "P" ∷ codes "K" ∷ [];
-    body = record { name = codes "x"; written = plain (local_op stats.Sum (layer_term (codes "P") ∷ layer_term (codes "K") ∷ [])) }
-        ∷ record { name = codes "result"; written = plain (local_op stats.Product (layer_term (codes "x") ∷ number_term (pos 2) ∷ [])) } ∷ [];
+    body = record { name = codes "x"; written = plain (local_op stats.Sum false (layer_term (codes "P") ∷ layer_term (codes "K") ∷ [])) }
+        ∷ record { name = codes "result"; written = plain (local_op stats.Product false (layer_term (codes "x") ∷ number_term (pos 2) ∷ [])) } ∷ [];
   })))
   pub no_result : IsRefusedOfAll (codes "procedure Q(P): x = LocalSum of P and 1") (syntax 40)
   pub no_result_yet : IsRefusedOfAll (codes "procedure Q(P): x = LocalSum of P and 1; ") (syntax 42)
@@ -47,7 +62,7 @@ pub record WorkedProcedures : Type 0 where
 pub record Worked : Type 0 where
   pub empty : Is [] blank
   pub note : Is (codes "# note (") blank
-  pub whole : Is (codes "B = LocalSum of A and 3") (edit (define (codes "B") (plain (local_op stats.Sum (layer_term (codes "A") ∷ number_term (pos 3) ∷ [])))))
+  pub whole : Is (codes "B = LocalSum of A and 3") (edit (define (codes "B") (plain (local_op stats.Sum false (layer_term (codes "A") ∷ number_term (pos 3) ∷ [])))))
   pub rated : Is (codes "R = LocalRating of A with 9 for 1 to 3 with null for -5") (edit (define (codes "R") (plain (rating_op (layer_term (codes "A"))
       (record { low = pos 1; high = pos 3; give = Some (pos 9) } ∷ record { low = negsuc 4; high = negsuc 4; give = None } ∷ [])))))
   pub painted : Is (codes "paint A 01 +1 2 2 -0") (edit (paint (codes "A") 1 1 2 2 (Some (pos 0))))
@@ -84,6 +99,7 @@ pub record Worked : Type 0 where
   pub two_signs : IsRefusedOfAll (codes "symbol A 1 a b") (syntax 14)
   pub no_sign : IsRefusedOfAll (codes "symbol A 1") (syntax 11)
   pub procedures : WorkedProcedures
+  pub languages : WorkedLanguages
   pub far : IsRefusedOfAll (codes "C = FocalMean of A at 33") (number 23)
   pub no_mean : IsRefusedOfAll (codes "C = FocalMean of A radiating on B") (syntax 20)
   pub no_product : IsRefusedOfAll (codes "C = FocalProduct of A") (operation 5)

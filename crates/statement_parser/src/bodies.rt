@@ -7,7 +7,7 @@ ghost use Rattle.grammar_core.specs.Readers.{starts};
 ghost use Rattle.map_nums.specs.Numbers.{greatest_value};
 ghost use Rattle.statement_parser.specs.Bodies.{radiates, drainage_op};
 ghost use Rattle.statement_parser.specs.Places.{the as word_of, maybe, call_of, value_of, disc_of, reach_of, limit_of, weights_of};
-ghost use Rattle.statement_parser.specs.ReadBodies.{statistic_at, pair_at, difference_at, ratio_at, rating_at, radius_at, sight_at, reaching_at, focal_at, spread_at, region_at, zonal_at, incremental_at, drainage_at, operation_at, given_at, call_at, plain_at, called_at, body_at};
+ghost use Rattle.statement_parser.specs.ReadBodies.{nulls_at, ignoring_at, statistic_at, pair_at, difference_at, ratio_at, rating_at, radius_at, sight_at, reaching_at, focal_at, spread_at, region_at, zonal_at, incremental_at, drainage_at, operation_at, given_at, call_at, plain_at, called_at, body_at};
 ghost use Rattle.statement_parser.specs.ScopeViews.{scope_of};
 ghost use Rattle.statement_parser.specs.ReadParts.{term_after_at, further_at, optional_at, range_at, rate_at, with_at, friction_at};
 
@@ -79,14 +79,49 @@ fn optional_value<'t, 'a>(
     value(rest)
 }
 
+/// That nulls are ignored.
+#[tactic(auto, unfolding(crate::specs::ReadBodies::nulls_at))]
+fn nulls<'t, 'a>(words: &'t [Word<'a>]) -> Result<(bool, &'t [Word<'a>]), ReadError>
+    ensures { Gives (λ x. (x.0, texts_of x.1.now)) result (nulls_at (texts_of words.now)) }
+{
+    let rest = the(b"ignoring", words)?;
+    let rest = the(b"nulls", rest)?;
+    Ok((true, rest))
+}
+
+/// Whether it follows that nulls are ignored.
+fn is_ignoring(rows: &Rows<'_>, words: &[Word<'_>]) -> bool
+    ensures { result ≡ starts (maybe (manner_of rows.now).ignoring (word_of (codes "ignoring"))) (texts_of words.now) }
+{
+    if !rows.ignoring {
+        return false;
+    }
+    is_next(b"ignoring", words)
+}
+
+/// Whether nulls are ignored, which is written only where they are.
+#[tactic(auto, unfolding(crate::specs::ReadBodies::ignoring_at))]
+fn ignoring<'t, 'a>(
+    rows: &Rows<'_>,
+    words: &'t [Word<'a>],
+) -> Result<(bool, &'t [Word<'a>]), ReadError>
+    ensures { Gives (λ x. (x.0, texts_of x.1.now)) result (ignoring_at (manner_of rows.now) (texts_of words.now)) }
+{
+    if is_ignoring(rows, words) {
+        return nulls(words);
+    }
+    Ok((false, words))
+}
+
 #[tactic(auto, unfolding(crate::specs::ReadBodies::statistic_at))]
 fn statistic<'t, 'a>(
     alloc: Global,
     scope: &Scope<'_>,
+    rows: &Rows<'_>,
     stat: Stat,
     words: &'t [Word<'a>],
 ) -> Result<(Op, &'t [Word<'a>]), ReadError>
-    ensures { Gives (λ x. (op_view x.0, texts_of x.1.now)) result (statistic_at (scope_of scope.now) stat (texts_of words.now)) }
+    ensures { Gives (λ x. (op_view x.0, texts_of x.1.now)) result (statistic_at (scope_of scope.now) (manner_of rows.now) stat (texts_of words.now)) }
 {
     let (first, rest) = term_after(alloc, scope, b"of", words)?;
     let (second, rest) = term_after(alloc, scope, b"and", rest)?;
@@ -94,7 +129,15 @@ fn statistic<'t, 'a>(
     terms.push(first)?;
     terms.push(second)?;
     let (terms, rest) = further_terms(alloc, scope, b"and", 6, terms, rest)?;
-    Ok((Op::Local { stat, terms }, rest))
+    let (ignoring, rest) = ignoring(rows, rest)?;
+    Ok((
+        Op::Local {
+            stat,
+            terms,
+            ignoring,
+        },
+        rest,
+    ))
 }
 
 /// Two terms, with this word between.
@@ -450,7 +493,7 @@ fn operation<'t, 'a>(
     ensures { Gives (λ x. (op_view x.0, texts_of x.1.now)) result (operation_at (scope_of scope.now) (manner_of rows.now) operation (texts_of words.now)) }
 {
     match operation {
-        Operation::Local(stat) => statistic(alloc, scope, stat, words),
+        Operation::Local(stat) => statistic(alloc, scope, rows, stat, words),
         Operation::Difference => difference(alloc, scope, words),
         Operation::Ratio => ratio(alloc, scope, words),
         Operation::Rating => rating(alloc, scope, words),

@@ -9,6 +9,7 @@ use crate::rows::Rows;
 /// A line that begins with a word of its own.
 #[derive(Clone, Copy, Debug, PartialEq, Eq)]
 pub enum Command {
+    Model,
     Procedure,
     Paint,
     New,
@@ -26,7 +27,8 @@ pub enum Command {
 }
 
 /// All commands.
-const COMMANDS: [Command; 14] = [
+const COMMANDS: [Command; 15] = [
+    Command::Model,
     Command::Procedure,
     Command::Paint,
     Command::New,
@@ -48,6 +50,7 @@ fn command_word(command: Command) -> &'static [u8]
     ensures { result.now ≡ command_text command }
 {
     match command {
+        Command::Model => b"model",
         Command::Procedure => b"procedure",
         Command::Paint => b"paint",
         Command::New => b"new",

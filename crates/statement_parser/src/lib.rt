@@ -9,6 +9,7 @@ mod command;
 mod copying;
 mod fault;
 mod labels;
+mod language;
 mod laws;
 mod line;
 mod line_text;
@@ -28,6 +29,7 @@ mod substitution;
 mod tails;
 
 pub use command::Command;
+pub use language::{Language, Place};
 pub use laws::{lines_are_read, lines_are_settled, worked_lines};
 pub use line::{Line, LineEdit, Request, Written};
 pub use line_text::parse_line;

@@ -1,5 +1,6 @@
 //! Lines, as reading gives them.
 
+use crate::language::Language;
 use crate::op::{Op, Term};
 use crate::procedure::Procedure;
 use layer_tiles::{Cell, Text};
@@ -73,5 +74,7 @@ pub enum Line {
     Blank,
     Edit(LineEdit),
     Ask(Request),
+    /// The language of the lines after it.
+    Model(Language),
     Quit,
 }

@@ -35,10 +35,11 @@ pub enum Form {
 
 #[derive(Debug, Drop)]
 pub enum Op {
-    /// A statistic of each cell's operands.
+    /// A statistic of each cell's operands; of those that are not null, where nulls are ignored.
     Local {
         stat: Stat,
         terms: Vec<Term>,
+        ignoring: bool,
     },
     Difference {
         left: Term,

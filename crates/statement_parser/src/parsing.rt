@@ -6,14 +6,14 @@ ghost use Rattle.statement_parser.specs.Gives.{Gives};
 ghost use Rattle.statement_parser.specs.Lines.{ask, ask_grid, ask_show, ask_legend, ask_stamps};
 ghost use Rattle.statement_parser.specs.Parsed.{IsWordsRead};
 ghost use Rattle.statement_parser.specs.ReadLine.{define_at, command_at, line_at, quit_at};
-ghost use Rattle.statement_parser.specs.ReadCommands.{corners_at, paint_at, new_at, drop_at, value_at, any_line_at, table_at, list_at};
+ghost use Rattle.statement_parser.specs.ReadCommands.{corners_at, paint_at, new_at, drop_at, value_at, any_line_at, table_at, model_at, list_at};
 
 use crate::bodies::body;
 use crate::command::{Command, command_named};
 use crate::fault::ReadError;
 use crate::labels::{label, symbol};
 use crate::line::{Line, LineEdit, Request};
-use crate::places::{any, cell, end, misfit, name, side, the};
+use crate::places::{any, cell, end, misfit, name, side, the, version};
 use crate::procedures::procedure;
 use crate::rows::Rows;
 use crate::scope::Scope;
@@ -152,6 +152,15 @@ fn table(alloc: Global, words: &[Word<'_>]) -> Result<Line, ReadError>
     Ok(Line::Ask(Request::Table { zones, values }))
 }
 
+#[tactic(auto, unfolding(crate::specs::ReadCommands::model_at))]
+fn model(words: &[Word<'_>]) -> Result<Line, ReadError>
+    ensures { Gives line_view result (model_at (texts_of words.now)) }
+{
+    let (language, rest) = version(words)?;
+    end(rest)?;
+    Ok(Line::Model(language))
+}
+
 #[tactic(auto, unfolding(crate::specs::ReadCommands::list_at))]
 fn list(words: &[Word<'_>]) -> Result<Line, ReadError>
     ensures { Gives line_view result (list_at (texts_of words.now)) }
@@ -178,6 +187,7 @@ fn commanded(
     ensures { Gives line_view result (command_at (manner_of rows.now) command (texts_of words.now)) }
 {
     match command {
+        Command::Model => model(words),
         Command::Procedure => procedure(alloc, rows, words),
         Command::Paint => paint(alloc, words),
         Command::New => new_layer(alloc, words),

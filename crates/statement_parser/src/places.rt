@@ -14,6 +14,7 @@ ghost use Rattle.map_words.specs.Names.{is_plain, is_dotted};
 ghost use Rattle.map_words.specs.Named.{IsNamed};
 
 use crate::fault::ReadError;
+use crate::language::Language;
 use crate::op::Term;
 use crate::operation::operation_named;
 use crate::rows::Rows;
@@ -169,6 +170,29 @@ pub fn value<'t, 'a>(words: &'t [Word<'a>]) -> Result<(Value, &'t [Word<'a>]), R
         [] => Err(ReadError::Fault(misfit(true, words))),
         [first, rest @ ..] => match value_word(first.text) {
             Some(value) => Ok((value, rest)),
+            None => Err(ReadError::Fault(misfit(true, words))),
+        },
+    }
+}
+
+fn version_word(text: &[u8]) -> Option<Language>
+    ensures { result ≡ place.version_of text.now }
+{
+    match number_in(1, 2, text) {
+        None => None,
+        Some(1) => Some(Language::One),
+        Some(_) => Some(Language::Two),
+    }
+}
+
+/// The version of a language.
+pub fn version<'t, 'a>(words: &'t [Word<'a>]) -> Result<(Language, &'t [Word<'a>]), ReadError>
+    ensures { Gives (λ x. (x.0, texts_of x.1.now)) result (one_at place.reading place.version_of true (texts_of words.now)) }
+{
+    match words {
+        [] => Err(ReadError::Fault(misfit(true, words))),
+        [first, rest @ ..] => match version_word(first.text) {
+            Some(language) => Ok((language, rest)),
             None => Err(ReadError::Fault(misfit(true, words))),
         },
     }

@@ -7,7 +7,7 @@ ghost use Rattle.map_nums.specs.declared.Stat.TheVariants.{Sum};
 ghost use Rattle.map_defs.specs.Ops.{sight_op};
 ghost use Rattle.map_defs.specs.Statements.{call};
 ghost use Rattle.statement_parser.specs.Views.{term_view, terms_view, reach_view, op_view, written_view};
-ghost use Rattle.statement_parser.specs.Canonical.{cell_text, optional_texts, rate_texts, rates_texts, begin_texts, pair_texts, radius_texts, sight_texts, is_one, friction_texts, op_texts, tail_text, written_text};
+ghost use Rattle.statement_parser.specs.Canonical.{cell_text, optional_texts, rate_texts, rates_texts, begin_texts, pair_texts, radius_texts, sight_texts, is_one, friction_texts, ignoring_texts, op_texts, tail_text, written_text};
 ghost use Rattle.statement_parser.specs.TermTexts.{term_text, terms_after, terms_texts, listed, listed_after};
 ghost use Rattle.statement_parser.specs.Operations.{operation_text};
 ghost use Rattle.statement_parser.specs.declared.operation.Operation.TheVariants.{Local, Focal, Proximity};
@@ -167,12 +167,36 @@ fn pair(
     term(text, right)
 }
 
-fn statistic(text: &mut Vec<u8>, stat: Stat, given: &[Term]) -> Result<(), AllocError>
-    ensures { IfOk result (λ _. Adds text.old.items text.new.items (operation_text (Local stat) ∷ codes "of" ∷ terms_texts (terms_view given.now))) }
+/// That nulls are ignored, where they are.
+fn ignoring(text: &mut Vec<u8>, ignoring: bool) -> Result<(), AllocError>
+    ensures { IfOk result (λ _. Adds text.old.items text.new.items (ignoring_texts ignoring)) }
+{
+    if !ignoring {
+        return Ok(());
+    }
+    word(text, b"ignoring")?;
+    word(text, b"nulls")
+}
+
+/// What follows the name of a statistic.
+fn operands(text: &mut Vec<u8>, given: &[Term], ignored: bool) -> Result<(), AllocError>
+    ensures { IfOk result (λ _. Adds text.old.items text.new.items (terms_texts (terms_view given.now) ++ ignoring_texts ignored)) }
+{
+    terms(text, given)?;
+    ignoring(text, ignored)
+}
+
+fn statistic(
+    text: &mut Vec<u8>,
+    stat: Stat,
+    given: &[Term],
+    ignored: bool,
+) -> Result<(), AllocError>
+    ensures { IfOk result (λ _. Adds text.old.items text.new.items (operation_text (Local stat) ∷ codes "of" ∷ (terms_texts (terms_view given.now) ++ ignoring_texts ignored))) }
 {
     word(text, operation_name(Operation::Local(stat)))?;
     word(text, b"of")?;
-    terms(text, given)
+    operands(text, given, ignored)
 }
 
 fn rating(text: &mut Vec<u8>, name: &[u8], of: &Term, given: &[Rate]) -> Result<(), AllocError>
@@ -322,7 +346,11 @@ fn op(text: &mut Vec<u8>, op: &Op) -> Result<(), AllocError>
     ensures { IfOk result (λ _. Adds text.old.items text.new.items (op_texts (op_view op.now))) }
 {
     match op {
-        Op::Local { stat, terms } => statistic(text, *stat, terms.as_slice()),
+        Op::Local {
+            stat,
+            terms,
+            ignoring,
+        } => statistic(text, *stat, terms.as_slice(), *ignoring),
         Op::Difference { left, right } => double(text, Operation::Difference, b"and", left, right),
         Op::Ratio { left, right } => double(text, Operation::Ratio, b"and", left, right),
         Op::Rating { of, rates } => {

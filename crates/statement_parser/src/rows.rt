@@ -13,4 +13,6 @@ pub struct Rows<'r> {
     pub sight: bool,
     /// Whether procedures may be called.
     pub calls: bool,
+    /// Whether Local statistics may end in `ignoring nulls`.
+    pub ignoring: bool,
 }

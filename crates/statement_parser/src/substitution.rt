@@ -42,9 +42,17 @@ impl Op {
         ensures { IfOk result (λ o. op_view o ≡ with_terms (S.becomes by.now) (op_view self.now)) }
     {
         match self {
-            Op::Local { stat, terms } => {
+            Op::Local {
+                stat,
+                terms,
+                ignoring,
+            } => {
                 let terms = terms_with(alloc, by, terms.as_slice())?;
-                Ok(Op::Local { stat: *stat, terms })
+                Ok(Op::Local {
+                    stat: *stat,
+                    terms,
+                    ignoring: *ignoring,
+                })
             }
             Op::Difference { left, right } => {
                 let left = by.term(alloc, left)?;

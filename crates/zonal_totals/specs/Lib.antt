@@ -1,4 +1,5 @@
 pub mod Pairs
+pub mod Halves
 pub mod Entries
 pub mod Books
 pub mod ChangedZones

@@ -235,7 +235,7 @@ fn nth_tile(part: &[Entry], k: u32) -> Option<u32>
     if k as usize >= part.len() {
         return None;
     }
-    let tile = part[k as usize].pair.key as i64;
+    let tile = part[k as usize].key();
     if tile < 0 || tile > u32::MAX as i64 {
         return None;
     }

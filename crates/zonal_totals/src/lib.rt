@@ -9,6 +9,7 @@ mod books;
 mod counts;
 mod drafts;
 mod entries;
+mod halves;
 mod joins;
 mod laws;
 mod merges;

@@ -51,8 +51,8 @@ fn slot_of(pair: &Pair, slots: usize) -> usize
     requires { 0 < slots }
     ensures { result < slots }
 {
-    let zone = (pair.zone.unsigned_abs() as u64).wrapping_mul(1_000_003);
-    let mixed = zone.wrapping_add(pair.key.unsigned_abs() as u64);
+    let zone = pair.zone.unsigned_abs().wrapping_mul(1_000_003);
+    let mixed = zone.wrapping_add(pair.key.unsigned_abs());
     ((mixed ^ (mixed >> 32)) & 0xffff_ffff) as usize % slots
 }
 

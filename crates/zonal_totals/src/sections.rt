@@ -144,7 +144,7 @@ fn begun(sections: &[Section], pair: &Pair) -> usize
     while low < high {
         let middle = low + (high - low) / 2;
         let first = sections[middle].first();
-        if pair.is_of_earlier_zone(&first.pair) {
+        if pair.is_of_earlier_zone(&first.pair()) {
             high = middle;
         } else {
             low = middle + 1;
@@ -165,7 +165,7 @@ fn section_end(entries: &[Entry], from: usize) -> usize
         start = from + FULL;
     }
     for end in start..entries.len() {
-        if entries[end - 1].pair.zone != entries[end].pair.zone {
+        if entries[end - 1].zone() != entries[end].zone() {
             return end;
         }
     }
@@ -198,7 +198,7 @@ fn steps_end(steps: &[Step], from: usize, last: &Entry) -> usize
     ensures above { (d : Step) → result < length steps.now → last.now.pair.zone <ℤ (slice_index_or steps.now result d).pair.zone }
 {
     for at in from..steps.len() {
-        if steps[at].pair.zone > last.pair.zone {
+        if steps[at].pair.zone > last.zone() {
             return at;
         }
     }
@@ -209,7 +209,7 @@ fn is_one_zone(entries: &[Entry]) -> bool
     ensures { IsTrue result → 0 < length entries.now }
 {
     match (entries.first(), entries.last()) {
-        (Some(first), Some(last)) => first.pair.zone == last.pair.zone,
+        (Some(first), Some(last)) => first.zone() == last.zone(),
         _ => false,
     }
 }

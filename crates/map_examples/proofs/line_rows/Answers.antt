@@ -17,7 +17,7 @@ use Rattle.grammar_core.specs.Run.{run}
 use Rattle.statement_parser.specs.Operations.{find_operation, operation_named}
 use Rattle.statement_parser.specs.Commands.{find_command, command_named}
 use Rattle.statement_parser.specs.LineOf.{line_of}
-use Rattle.map_lines.specs.Present.{present}
+use Rattle.map_lines.specs.Present.{rows_at}
 use Rattle.grid_text.specs.Contents.{grid_in}
 use Rattle.grid_text.specs.Printed.{grid_text}
 use Rattle.map_edits.specs.EngineStates.{value_of}
@@ -31,5 +31,5 @@ use Rattle.map_machine.specs.LineReads.{line_reads}
 use Rattle.map_examples.proofs.line_rows.Goals as goal
 
 pub returns : goal.returns
-unfolding digits maximum_of tiles_across tiles_down tiles_in tile_top tile_left tile_of local_grid operate expansion_of lacks missing is_looped by_depth is_in_square changed_tiles op_damage op_work is_among is_reserved is_plain is_dotted number_text run find_operation operation_named find_command command_named line_of present grid_in grid_text value_of fault_of accept_counted edit_reads first_load next_load first_load_reads next_load_reads step_of is_quit long_reply line_reads
-returns c = record { refused_lines = (refl, refl, refl); new_with_number_out_of_range = (refl, refl, refl); displays_refused = (refl, refl, refl); cycle_through_two_statements = (refl, refl, refl); missing_existing_unknown = (refl, refl, refl); statement_before_its_operand_with_stamps = (refl, refl, refl); change_that_stops = (refl, refl, refl); overflow_found_late = (refl, refl, refl); overflow_in_the_last_wave = (refl, refl, refl); model_line_refused = (refl, refl, refl); model_then_session = (refl, refl, refl) }
+unfolding digits maximum_of tiles_across tiles_down tiles_in tile_top tile_left tile_of local_grid operate expansion_of lacks missing is_looped by_depth is_in_square changed_tiles op_damage op_work is_among is_reserved is_plain is_dotted number_text run find_operation operation_named find_command command_named line_of rows_at grid_in grid_text value_of fault_of accept_counted edit_reads first_load next_load first_load_reads next_load_reads step_of is_quit long_reply line_reads
+returns c = record { refused_lines = (refl, refl, refl); new_with_number_out_of_range = (refl, refl, refl); displays_refused = (refl, refl, refl); cycle_through_two_statements = (refl, refl, refl); missing_existing_unknown = (refl, refl, refl); statement_before_its_operand_with_stamps = (refl, refl, refl); change_that_stops = (refl, refl, refl); overflow_found_late = (refl, refl, refl); overflow_in_the_last_wave = (refl, refl, refl); model_line_refused = (refl, refl, refl); model_then_session = (refl, refl, refl); nulls_ignored = (refl, refl, refl); language_one_refuses_ignoring = (refl, refl, refl); language_closed_by_an_edit = (refl, refl, refl); language_of_a_model_file = (refl, refl, refl) }

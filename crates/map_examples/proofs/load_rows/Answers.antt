@@ -16,7 +16,7 @@ use Rattle.grammar_core.specs.Run.{run}
 use Rattle.statement_parser.specs.Operations.{find_operation, operation_named}
 use Rattle.statement_parser.specs.Commands.{find_command, command_named}
 use Rattle.statement_parser.specs.LineOf.{line_of}
-use Rattle.map_lines.specs.Present.{present}
+use Rattle.map_lines.specs.Present.{rows_at}
 use Rattle.grid_text.specs.Contents.{grid_in}
 use Rattle.grid_text.specs.Printed.{grid_text}
 use Rattle.map_edits.specs.EngineStates.{value_of}
@@ -30,5 +30,5 @@ use Rattle.map_machine.specs.LineReads.{line_reads}
 use Rattle.map_examples.proofs.load_rows.Goals as goal
 
 pub returns : goal.returns
-unfolding digits tiles_across tiles_down tiles_in tile_top tile_left tile_of local_grid operate expansion_of lacks missing is_looped by_depth is_in_square changed_tiles op_damage op_work is_among is_reserved is_plain is_dotted number_text run find_operation operation_named find_command command_named line_of present grid_in grid_text value_of fault_of accept_counted edit_reads first_load next_load first_load_reads next_load_reads step_of is_quit long_reply line_reads
+unfolding digits tiles_across tiles_down tiles_in tile_top tile_left tile_of local_grid operate expansion_of lacks missing is_looped by_depth is_in_square changed_tiles op_damage op_work is_among is_reserved is_plain is_dotted number_text run find_operation operation_named find_command command_named line_of rows_at grid_in grid_text value_of fault_of accept_counted edit_reads first_load next_load first_load_reads next_load_reads step_of is_quit long_reply line_reads
 returns c = record { sum_of_three_by_three = (refl, refl, refl); upper_case_keys_and_cr_lf = (refl, refl, refl); greatest_value_loads = (refl, refl, refl); least_value_loads = (refl, refl, refl); point_nought_loads = (refl, refl, refl); above_the_greatest_is_out_of_range = (refl, refl, refl); point_five_is_no_cell = (refl, refl, refl); header_number_is_a_letter = (refl, refl, refl); header_with_dx = (refl, refl, refl); header_without_cellsize = (refl, refl, refl); header_without_columns = (refl, refl, refl); too_few_cells = (refl, refl, refl); too_many_cells = (refl, refl, refl); second_grid_of_another_size = (refl, refl, refl) }

@@ -16,7 +16,7 @@ use Rattle.grammar_core.specs.Run.{run}
 use Rattle.statement_parser.specs.Operations.{find_operation, operation_named}
 use Rattle.statement_parser.specs.Commands.{find_command, command_named}
 use Rattle.statement_parser.specs.LineOf.{line_of}
-use Rattle.map_lines.specs.Present.{present}
+use Rattle.map_lines.specs.Present.{rows_at}
 use Rattle.grid_text.specs.Contents.{grid_in}
 use Rattle.grid_text.specs.Printed.{grid_text}
 use Rattle.map_edits.specs.EngineStates.{value_of}
@@ -31,5 +31,5 @@ use Rattle.map_machine.specs.LineReads.{line_reads}
 use Rattle.map_examples.proofs.read_rows.Goals as goal
 
 pub returns : goal.returns
-unfolding digits tiles_across tiles_down tiles_in tile_top tile_left tile_of local_grid operate expansion_of lacks missing is_looped by_depth is_in_square changed_tiles op_damage op_work is_among is_reserved is_plain is_dotted number_text run find_operation operation_named find_command command_named line_of present grid_in grid_text value_of fault_of accept_counted edit_reads first_load next_load long_file_reply first_load_reads next_load_reads step_of is_quit long_reply long_model_reply line_reads
+unfolding digits tiles_across tiles_down tiles_in tile_top tile_left tile_of local_grid operate expansion_of lacks missing is_looped by_depth is_in_square changed_tiles op_damage op_work is_among is_reserved is_plain is_dotted number_text run find_operation operation_named find_command command_named line_of rows_at grid_in grid_text value_of fault_of accept_counted edit_reads first_load next_load long_file_reply first_load_reads next_load_reads step_of is_quit long_reply long_model_reply line_reads
 returns c = record { none_written = refl; part_of_first = refl; first_written = refl; two_written = refl; no_file = refl; no_file_opens = refl; no_file_reads = refl; long_line = refl; long_line_reads = refl; long_file = refl; long_file_opens = refl; long_model = refl; long_model_opens = refl; high_byte = refl; model_quits = refl }

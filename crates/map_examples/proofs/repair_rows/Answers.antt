@@ -23,7 +23,7 @@ use Rattle.grammar_core.specs.Run.{run}
 use Rattle.statement_parser.specs.Operations.{find_operation, operation_named}
 use Rattle.statement_parser.specs.Commands.{find_command, command_named}
 use Rattle.statement_parser.specs.LineOf.{line_of}
-use Rattle.map_lines.specs.Present.{present}
+use Rattle.map_lines.specs.Present.{rows_at}
 use Rattle.grid_text.specs.Contents.{grid_in}
 use Rattle.grid_text.specs.Printed.{grid_text}
 use Rattle.map_edits.specs.EngineStates.{value_of}
@@ -37,5 +37,5 @@ use Rattle.map_machine.specs.LineReads.{line_reads}
 use Rattle.map_examples.proofs.repair_rows.Goals as goal
 
 pub returns : goal.returns
-unfolding digits minimum_of tiles_across tiles_down tiles_in tile_top tile_left tile_of local_grid zonal_grid zone_numbers direction_grid direction_at winner_at flow_grid flow_at course_of downstream_of sight_grid sight_at sees spread_grid spread_net region_grid region_net step_cost operate expansion_of lacks missing is_looped by_depth is_in_square changed_tiles op_damage op_work is_among is_reserved is_plain is_dotted number_text run find_operation operation_named find_command command_named line_of present grid_in grid_text value_of fault_of accept_counted edit_reads first_load next_load first_load_reads next_load_reads step_of is_quit long_reply line_reads
+unfolding digits minimum_of tiles_across tiles_down tiles_in tile_top tile_left tile_of local_grid zonal_grid zone_numbers direction_grid direction_at winner_at flow_grid flow_at course_of downstream_of sight_grid sight_at sees spread_grid spread_net region_grid region_net step_cost operate expansion_of lacks missing is_looped by_depth is_in_square changed_tiles op_damage op_work is_among is_reserved is_plain is_dotted number_text run find_operation operation_named find_command command_named line_of rows_at grid_in grid_text value_of fault_of accept_counted edit_reads first_load next_load first_load_reads next_load_reads step_of is_quit long_reply line_reads
 returns c = record { proximity_two_by_two = (refl, refl, refl); spread_friction_rises = (refl, refl, refl); spread_friction_falls = (refl, refl, refl); spread_frictions_rise_and_fall = (refl, refl, refl); spread_around_and_through = (refl, refl, refl); spread_barrier_nought_and_limit = (refl, refl, refl); spread_barrier_null_and_limit = (refl, refl, refl); drainage_and_flow = (refl, refl, refl); drainage_of_a_plain = (refl, refl, refl); flow_repaired = (refl, refl, refl); region_splits = (refl, refl, refl); sight_over_a_ridge = (refl, refl, refl); zonal_mean_with_nulls = (refl, refl, refl) }

@@ -18,7 +18,7 @@ use Rattle.grammar_core.specs.Run.{run}
 use Rattle.statement_parser.specs.Operations.{find_operation, operation_named}
 use Rattle.statement_parser.specs.Commands.{find_command, command_named}
 use Rattle.statement_parser.specs.LineOf.{line_of}
-use Rattle.map_lines.specs.Present.{present}
+use Rattle.map_lines.specs.Present.{rows_at}
 use Rattle.grid_text.specs.Contents.{grid_in}
 use Rattle.grid_text.specs.Printed.{grid_text}
 use Rattle.map_edits.specs.EngineStates.{value_of}
@@ -39,7 +39,7 @@ sampled a b c workers size say =
     ap (λ v. form_by v (string_bytes b) (string_bytes c) []) say.0 ∙ ap (λ v. form_by (codes "sample") v (string_bytes c) []) say.1.0 ∙ ap (λ v. form_by (codes "sample") workers v []) say.1.1.0
 
 pub returns : goal.returns
-unfolding digits tiles_across tiles_down tiles_in tile_top tile_left tile_of local_grid operate expansion_of lacks missing is_looped by_depth is_in_square changed_tiles op_damage op_work is_among is_reserved is_plain is_dotted number_text run find_operation operation_named find_command command_named line_of present grid_in grid_text value_of fault_of accept_counted edit_reads first_load next_load first_load_reads next_load_reads step_of is_quit long_reply line_reads
+unfolding digits tiles_across tiles_down tiles_in tile_top tile_left tile_of local_grid operate expansion_of lacks missing is_looped by_depth is_in_square changed_tiles op_damage op_work is_among is_reserved is_plain is_dotted number_text run find_operation operation_named find_command command_named line_of rows_at grid_in grid_text value_of fault_of accept_counted edit_reads first_load next_load first_load_reads next_load_reads step_of is_quit long_reply line_reads
 returns c = record {
   no_words = refl;
   no_pair = λ a b c say. rw (say.0, say.1.0) refl;

@@ -12,7 +12,7 @@ make_row-requires-clause-columns g c = λ k l.
     let w = tile_width c.args.extent c.args.tile in
     let first = width_at c.args.views.now h w 0 c.index-views-0.result c.requires.sizes (omega (arith, c.requires.two)) c.index-views-0.is in
     let second = width_at c.args.views.now h w 1 c.index-views-1.result c.requires.sizes (omega (arith, c.requires.two)) c.index-views-1.is in
-    (c.requires.takes, omega (arith, l, first, c.row-left.ensures.width), omega (arith, l, second, c.row-right.ensures.width))
+    (omega (arith, l, first, c.row-left.ensures.width), omega (arith, l, second, c.row-right.ensures.width))
 
 pub returns : goal.returns
 unfolding cell_by

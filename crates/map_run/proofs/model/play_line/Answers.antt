@@ -17,7 +17,7 @@ returns-in-Quit-clause-goes g c lines =
     let s = c.args.session.now in
     let line = c.args.line.now in
     let reply = c.in_ok-reply.ensures in
-    let same = reply.kept (λ e. let kind = c.in-Quit.is in cc) in
+    let same = reply.kept (λ e. let kind = c.in-Quit.is in cc) (λ e. let kind = c.in-Quit.is in cc) in
     rw same (model_quits s line lines _ _ ((quit_kind s line).0 (sym reply.steps.2 ∙ c.in-Quit.is)) refl reply.reads)
 
 pub returns-in_err-put_reply-in-Refused-clause-goes : goal.returns-in_err-put_reply-in-Refused-clause-goes

@@ -31,8 +31,8 @@ returns-in_err-push-in-Ok-clause-short g c =
     let there : slice_get steps t.place ≡ Some x = slice_get_read steps (length steps) t.place x refl task.below c.index-steps-task.is in
     if_err _ c.from_residual.result (short_next k.means k.formed k.suits k.sound k.first k.looks k.picks k.pieces base steps ts js t _ _ c.requires.tasks c.loop-task.invariant.begun at (halted_rises k.means k.formed k.suits k.sound k.first k.looks k.picks k.pieces base steps ts js t x _ _ _ c.requires.tasks at there c.loop-task.invariant.tally c.in-Ok.ensures.tally))
 
-pub returns-in_default-clause-short : goal.returns-in_default-clause-short
-returns-in_default-clause-short g c =
+pub returns-in_err-count-in-Err-clause-short : goal.returns-in_err-count-in-Err-clause-short
+returns-in_err-count-in-Err-clause-short g c =
     let k = g.K.Maker in
     let base = c.args.base.now in
     let steps = c.args.steps.now in
@@ -43,7 +43,7 @@ returns-in_default-clause-short g c =
     let at : slice_get ts (length js) ≡ Some t = ap (slice_get ts) c.loop-task.invariant.count ∙ slice_get_read ts (length ts) c.loop-task.task-index t refl c.loop-task-test.true c.task-item.is in
     let task = all_get (IsTask k.means k.formed k.suits base steps) ts c.requires.tasks (length js) t at in
     let there : slice_get steps t.place ≡ Some x = slice_get_read steps (length steps) t.place x refl task.below c.index-steps-task.is in
-    short_next k.means k.formed k.suits k.sound k.first k.looks k.picks k.pieces base steps ts js t _ _ c.requires.tasks c.loop-task.invariant.begun at (halted_rises k.means k.formed k.suits k.sound k.first k.looks k.picks k.pieces base steps ts js t x _ _ _ c.requires.tasks at there c.loop-task.invariant.tally c.in-Err.ensures.tally)
+    if_err _ c.from_residual-in_err-count-in-Err.result (short_next k.means k.formed k.suits k.sound k.first k.looks k.picks k.pieces base steps ts js t _ _ c.requires.tasks c.loop-task.invariant.begun at (halted_rises k.means k.formed k.suits k.sound k.first k.looks k.picks k.pieces base steps ts js t x _ _ _ c.requires.tasks at there c.loop-task.invariant.tally c.in-Err.ensures.tally))
 
 pub returns-in-Err-clause-halted : goal.returns-in-Err-clause-halted
 returns-in-Err-clause-halted g c =
@@ -57,7 +57,7 @@ returns-in-Err-clause-halted g c =
     let at : slice_get ts (length js) ≡ Some t = ap (slice_get ts) c.loop-task.invariant.count ∙ slice_get_read ts (length ts) c.loop-task.task-index t refl c.loop-task-test.true c.task-item.is in
     let task = all_get (IsTask k.means k.formed k.suits base steps) ts c.requires.tasks (length js) t at in
     let there : slice_get steps t.place ≡ Some x = slice_get_read steps (length steps) t.place x refl task.below c.index-steps-task.is in
-    halted_fault k.means k.formed k.suits k.sound k.first k.looks k.picks k.pieces base steps ts (length js) t x c.in-Viewers.count c.requires.tasks at there (subst (LacksJobs base.extent (k.means x.op) (cells_after t.operands)) c.in-Viewers.is c.in-Err.ensures.halt)
+    halted_fault k.means k.formed k.suits k.sound k.first k.looks k.picks k.pieces base steps ts (length js) t x c.in_ok-count-in-Err.count c.requires.tasks at there (subst (LacksJobs base.extent (k.means x.op) (cells_after t.operands)) c.in_ok-count-in-Err.ensures.viewers c.in-Err.ensures.halt)
 
 pub returns-in-Err-clause-rises : goal.returns-in-Err-clause-rises
 returns-in-Err-clause-rises g c =

@@ -1,9 +1,8 @@
-use Rattle.std.proofs.Common.{◌≡◌, ◌≢◌, inl, inr, ◌<◌, ℕ, length, set, get_or, Option, Some, None, slice_get, sym, subst, ◌∙◌, arith, get_or-set_other}
+use Rattle.std.proofs.Common.{◌≡◌, ◌≢◌, inl, inr, set, get_or, Some, None, slice_get, sym, subst, ◌∙◌, arith, get_or-set_other}
 use Rattle.std.proofs.lemmas.Bool.{cases_eq}
 use Rattle.std.proofs.lemmas.Option.{slice_get-get_or, slice_get_within, same_Some}
 use Rattle.map_waves.specs.Placing.{IsPlaced}
 use Rattle.map_waves.specs.declared.keeping.Kept.{Kept}
-use Rattle.map_waves.specs.declared.keeping.Made.{Made}
 use Rattle.map_waves.proofs.SetPlaces.{slice_get-set_same, slice_get-set_other, read_same}
 use Rattle.map_waves.proofs.placing.renew_all.Goals as goal
 

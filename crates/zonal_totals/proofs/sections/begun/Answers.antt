@@ -1,5 +1,6 @@
 use Rattle.std.proofs.Common.{◌+◌, ◌-◌, ◌/◌, ◌<◌, [], List, subst, ap, ◌∙◌, length, arith, ◌<ℤ◌, ◌≤ℤ◌}
 use Rattle.std.proofs.lemmas.List.{get_or_default}
+use Rattle.zonal_totals.specs.declared.pairs.Pair.{Pair}
 use Rattle.zonal_totals.specs.declared.entries.Entry.{Entry}
 use Rattle.zonal_totals.specs.Sections.{lowest}
 use Rattle.zonal_totals.proofs.Climbing.{le_from_not}
@@ -19,7 +20,7 @@ loop-low-preserved-then-is_of_earlier_zone c =
     let m = c.loop-low.low + (c.loop-low.high - c.loop-low.low) / 2 in
     let l : m < length cs = omega arith in
     let first = first_is cs m c.index-sections-middle.result c.first-first.result c.index-sections-middle.is l c.first-first.ensures in
-    let lt : c.args.pair.now.zone <ℤ c.first-first.result.pair.zone = c.is_of_earlier_zone.ensures.0 c.if-is_of_earlier_zone.true in
+    let lt : c.args.pair.now.zone <ℤ c.first-first.result.pair.zone = subst (λ (p : Pair). c.args.pair.now.zone <ℤ p.zone) c.pair.ensures (c.is_of_earlier_zone.ensures.0 c.if-is_of_earlier_zone.true) in
     record {
       order = omega arith;
       within = omega arith;
@@ -33,7 +34,7 @@ loop-low-preserved c =
     let m = c.loop-low.low + (c.loop-low.high - c.loop-low.low) / 2 in
     let l : m < length cs = omega arith in
     let first = first_is cs m c.index-sections-middle.result c.first-first.result c.index-sections-middle.is l c.first-first.ensures in
-    let le : c.first-first.result.pair.zone ≤ℤ c.args.pair.now.zone = le_from_not _ _ (λ h. let t = c.is_of_earlier_zone.ensures.1 h in let f = c.if-is_of_earlier_zone.false in cc) in
+    let le : c.first-first.result.pair.zone ≤ℤ c.args.pair.now.zone = subst (λ (p : Pair). p.zone ≤ℤ c.args.pair.now.zone) c.pair.ensures (le_from_not _ _ (λ h. let t = c.is_of_earlier_zone.ensures.1 h in let f = c.if-is_of_earlier_zone.false in cc)) in
     record {
       order = omega arith;
       within = c.loop-low.invariant.within;
