@@ -71,3 +71,25 @@ fn the_statements_of_calls_are_limited(rt: HostRuntime) -> Result<(), Fail> {
     ];
     tried(&rt, 1, 1, 1, &steps)
 }
+
+/// Procedures of 4, 16, 64 and 65 flat statements.
+const FOURFOLD: [&str; 4] = [
+    "procedure P(T): a = LocalSum of T and 1; b = LocalSum of T and 1; c = LocalSum of T and 1; result = LocalSum of T and 1",
+    "procedure Q(T): a = P(T); b = P(T); c = P(T); result = P(T)",
+    "procedure R(T): a = Q(T); b = Q(T); c = Q(T); result = Q(T)",
+    "procedure S(T): a = R(T); result = LocalSum of T and 1",
+];
+
+#[test]
+fn a_call_of_too_many_statements_is_told_as_that(rt: HostRuntime) -> Result<(), Fail> {
+    let steps = [
+        Takes(FOURFOLD[0], 0, 0),
+        Takes(FOURFOLD[1], 0, 0),
+        Takes(FOURFOLD[2], 0, 0),
+        Takes(FOURFOLD[3], 0, 0),
+        Refuses("B = S(A)", Said::Limit(Which::Statements)),
+        Takes("B = R(A)", 0, 0),
+        Refuses("B = S(A)", Said::Limit(Which::Statements)),
+    ];
+    tried(&rt, 1, 1, 1, &steps)
+}

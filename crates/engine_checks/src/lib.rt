@@ -3,6 +3,8 @@
 #![tactic(auto)]
 
 #[cfg(test)]
+mod alike;
+#[cfg(test)]
 mod calls;
 #[cfg(test)]
 mod displays;
@@ -14,6 +16,8 @@ mod edits;
 mod limits;
 #[cfg(test)]
 mod marks;
+#[cfg(test)]
+mod memory;
 #[cfg(test)]
 mod reads;
 #[cfg(test)]

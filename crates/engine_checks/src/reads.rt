@@ -3,13 +3,13 @@ use crate::trials::Step::{Loads, Reads, Shows, Takes};
 use crate::trials::{Step, tried};
 use std::test::Fail;
 
-/// A paint of one cell damages two tiles of the 1,024 of each layer, and reads no more than two tiles may be read for.
+/// A paint of one cell damages a tile of each of two layers of 1,024, of which one changes, and reads no more than two tiles may be read for.
 const PAINT: [Step<'static>; 5] = [
     Loads("L", 0),
     Takes("new A 0", 1024, 1024),
-    Takes("B = LocalSum of A and L", 1024, 1024),
-    Reads("paint A 500 500 500 500 1", 2, 128),
-    Shows("B", 499 * 1024 + 499, 1),
+    Takes("B = FocalMean of A", 1024, 1024),
+    Reads("paint A 500 500 500 500 1", 1, 2, 128),
+    Shows("B", 499 * 1024 + 499, 0),
 ];
 
 #[test]

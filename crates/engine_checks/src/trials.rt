@@ -34,7 +34,7 @@ pub enum Said {
     NoMemory,
 }
 
-fn told(answer: &Result<Accepted, Refusal>) -> Said {
+pub fn told(answer: &Result<Accepted, Refusal>) -> Said {
     match answer {
         Ok(Accepted { number, counts }) => {
             Said::Accepted(*number, [counts.changed, counts.evaluated, counts.worked])
@@ -125,8 +125,8 @@ pub enum Step<'a> {
     RefusesLoad(&'a str, u32, u32, Said),
     /// A line is accepted as the next edit, with so many tiles that changed and that were evaluated, and without work.
     Takes(&'a str, u64, u64),
-    /// A line is accepted with so many tiles that changed, all that were evaluated, at most so many looks, and no picks.
-    Reads(&'a str, u64, u64),
+    /// A line is accepted with so many tiles that changed and that were evaluated, at most so many looks, and no picks.
+    Reads(&'a str, u64, u64, u64),
     /// So many lines with the numbers from 0 on between these texts are accepted, each with so many tiles, all changed and evaluated.
     TakesEach(&'a str, &'a str, u8, u64),
     /// A line is refused for this.
@@ -205,10 +205,13 @@ impl<'a, R: AllocGlobal + Abort + Threads + Sync> Trial<'a, R> {
         self.says(text, Said::Accepted(number, [changed, evaluated, 0]))
     }
 
-    fn reads(&mut self, text: &str, tiles: u64, looks: u64) -> Result<(), Fail> {
+    fn reads(&mut self, text: &str, changed: u64, evaluated: u64, looks: u64) -> Result<(), Fail> {
         let number = self.next();
         let answer = self.line(text)?;
-        assert_eq!(self.rt; answer.said, Said::Accepted(number, [tiles, tiles, 0]));
+        assert_eq!(self.rt;
+            answer.said,
+            Said::Accepted(number, [changed, evaluated, 0])
+        );
         assert!(self.rt; answer.looks <= looks);
         assert_eq!(self.rt; answer.picks, 0);
         self.accepted = number;
@@ -322,7 +325,9 @@ impl<'a, R: AllocGlobal + Abort + Threads + Sync> Trial<'a, R> {
                 self.refuses_load(name, rows, columns, cause)
             }
             Step::Takes(text, changed, evaluated) => self.takes(text, changed, evaluated),
-            Step::Reads(text, tiles, looks) => self.reads(text, tiles, looks),
+            Step::Reads(text, changed, evaluated, looks) => {
+                self.reads(text, changed, evaluated, looks)
+            }
             Step::TakesEach(before, after, count, tiles) => {
                 self.takes_each(before, after, count, tiles)
             }

@@ -3,7 +3,7 @@ ghost use Rattle.std.specs.Prelude.{◌≡◌, IfOk};
 ghost use Rattle.map_defs.specs.Flow.{flow_grid};
 
 use crate::makers::{NULL, hold, layer_of, patch_with, tile_values, values_of};
-use drainage_flow::{direction_tile, flow_repair};
+use drainage_flow::{direction, direction_tile, flow_repair};
 use layer_tiles::{Change, Extent, KernelRefusal, Layer, Patch, Value};
 use map_outside::Counts;
 use std::alloc::Global;
@@ -66,6 +66,20 @@ fn drains(
     }
     let made = direction_tile(alloc, &Change::same(&surface), 0, &mut Counts::new())?;
     Ok(hold(&tile_values(alloc, &made)?, wanted))
+}
+
+/// The direction of a cell of three rows and columns, by itself; none for any other layer and past its end.
+fn direction_in_square(surface: &Layer, at: u32) -> Option<u8> {
+    let extent = surface.extent();
+    if extent.columns() != 3 || extent.cells() != 9 || at >= 9 {
+        return None;
+    }
+    let tile = extent.tile_of(at);
+    if tile >= extent.tiles() {
+        return None;
+    }
+    let window = surface.window(tile, 64, &mut Counts::new());
+    direction(&window, extent, at)
 }
 
 /// Whether the flow where there was none is this, with this work.
@@ -147,6 +161,22 @@ fn directions(rt: HostRuntime) -> Result<(), Fail> {
     let square = Extent::new(3, 3).ok_or("limits")?;
     assert!(rt; drains(rt.alloc(), square, &VALLEY, &[3, 0, 5, 3, 1, 0, 2, 1, 1])?);
     assert!(rt; drains(rt.alloc(), square, &FILLED, &[3, 0, 5, 2, 1, 0, 0, 2, 1])?);
+    Ok(())
+}
+
+#[test]
+fn directions_of_single_cells(rt: HostRuntime) -> Result<(), Fail> {
+    let square = Extent::new(3, 3).ok_or("limits")?;
+    let surface = layer_of(rt.alloc(), square, &[9, 4, 9, 9, 5, 4, 9, 9, NULL])?;
+    for (at, want) in [
+        (0, Some(3)),
+        (1, Some(0)),
+        (2, Some(5)),
+        (4, Some(1)),
+        (8, None),
+    ] {
+        assert_eq!(rt; direction_in_square(&surface, at), want, "{at}");
+    }
     Ok(())
 }
 

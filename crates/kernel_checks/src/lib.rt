@@ -6,6 +6,8 @@
 #[cfg(test)]
 mod arithmetic;
 #[cfg(test)]
+mod damage;
+#[cfg(test)]
 mod drainage;
 #[cfg(test)]
 mod focal_operations;

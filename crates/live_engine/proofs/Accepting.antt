@@ -2,7 +2,7 @@
 use Rattle.std.proofs.Common.{◌≡◌, ℕ, ◌+◌, ◌-◌, ◌*◌, ◌≤◌, List, length, Ok, sym, ap, ◌∙◌, arith}
 use Rattle.map_defs.specs.Ops.{Name}
 use Rattle.layer_tiles.specs.Tallies.{TallyState, RisesBy}
-use Rattle.layer_tiles.proofs.Rising.{rises_then, rises_within}
+use Rattle.layer_tiles.proofs.Rising.{rises_none, rises_then, rises_within}
 use Rattle.map_edits.specs.WholeStates.{WholeState}
 use Rattle.map_edits.specs.WholeEdits.{WholeEdit}
 use Rattle.map_edits.specs.Attempts.{attempted}
@@ -48,6 +48,14 @@ reads_more m e t a x y z few first then =
     let picks = (edit_reads (seen m) e).picks in
     rises_within (a + (all - own)) (0 + picks) all picks x z (omega (arith, few, enough)) (omega arith) (rises_then a 0 (all - own) picks x y z first then.rest)
 
+-- where nothing was looked at before
+pub reads_by_rest : (m : KeptMap) (e : WholeEdit) (t : WholeState) (x y : TallyState) → RisesByRest m e t x y → ReadsWithin (seen m) e x y
+reads_by_rest m e t x y rest = reads_more m e t 0 x x y (omega arith) (rises_none x) rest
+
+-- an edit that reads nothing
+pub reads_nothing : (s : WholeState) (e : WholeEdit) (x : TallyState) → ReadsWithin s e x x
+reads_nothing s e x = rises_within 0 0 (edit_reads s e).looks (edit_reads s e).picks x x (omega arith) (omega arith) (rises_none x)
+
 module _ (m : KeptMap) (e : WholeEdit) (t : WholeState) (shift : Shift) (sources : List Name) (kept : IsKept m) (set_up : IsSetUp m e t shift sources) where
   changes : ChangesOnly (touch_of e) (names_in m) t.names
   changes = others_are_kept (seen m) t e kept.lawful set_up.said set_up.attempt
@@ -69,6 +77,3 @@ module _ (m : KeptMap) (e : WholeEdit) (t : WholeState) (shift : Shift) (sources
     pub accepted_is : accept_counted (seen m) e ≡ Ok (record { state = stamped (seen m) t; counts = joined own_counts (counts_view prepared.counts) })
     unfolding accept_counted
     accepted_is = ap (of_attempt (seen m) e) set_up.attempt ∙ ap (unless_fault (touch_of e) (seen m) t) is.faultless ∙ ap (λ c. Ok (record { state = stamped (seen m) t; counts = c })) counted
-
-  pub reads_after : (a : ℕ) (x y z : TallyState) → a ≤ 64 * own_damage m e t → RisesBy a 0 x y → RisesByRest m e t y z → ReadsWithin (seen m) e x z
-  reads_after = reads_more m e t

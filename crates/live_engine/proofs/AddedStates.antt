@@ -1,12 +1,11 @@
--- The state that an edit makes which adds a source.
-use Rattle.std.proofs.Common.{◌≡◌, ℕ, ◌+◌, ◌<◌, ◌≤◌, ◌^◌, Bool, true, false, cond, List, [], ◌∷◌, ◌++◌, length, count_by, position, ◌==◌, ℤ, Option, Some, None, is_some, option_map, Ok, Err, bytes_eq, IsTrue, Bor, refl, sym, ap, subst, ◌∙◌, arith}
+-- A source that is added: when it may be, its draft, and how loads and new layers are refused.
+use Rattle.std.proofs.Common.{◌≡◌, ℕ, ◌+◌, ◌<◌, ◌≤◌, ◌^◌, Bool, true, false, cond, List, [], ◌∷◌, ◌++◌, length, count_by, position, ◌==◌, ℤ, Option, Some, None, is_some, Ok, Err, bytes_eq, IsTrue, refl, sym, ap, ◌∙◌, arith}
 use Rattle.std.proofs.lemmas.Bool.{true≢false, lt-ltb, le-ltb, and_from, eq-eqb}
-use Rattle.std.proofs.lemmas.List.{length-append}
 use Rattle.map_nums.specs.Grids.{Size, Grid, constant}
 use Rattle.map_words.specs.Names.{is_plain}
 use Rattle.map_defs.specs.Ops.{Name}
-use Rattle.map_defs.specs.MadeProcedures.{IsUndotted}
-use Rattle.layer_tiles.specs.Layers.{LayerState}
+use Rattle.layer_tiles.specs.Layers.{LayerState, IsLayer, layer_of}
+use Rattle.map_nums.specs.Counts.{raised}
 use Rattle.procedure_expand.proofs.Plain.{plain_undotted}
 use Rattle.statement_graph.specs.Groups.{Group, nodes_in, has_group}
 use Rattle.statement_graph.specs.Puts.{source_node}
@@ -16,30 +15,23 @@ use Rattle.map_edits.specs.EditForms.{Edit, load, new_layer}
 use Rattle.map_edits.specs.EntriesAfter.{same_size, add_source, entries_with}
 use Rattle.map_edits.specs.Edits.{with_entries}
 use Rattle.map_edits.specs.Refusals.{sources, exists_already, wrong_size, beyond}
-use Rattle.map_edits.specs.Limits.{is_source, is_flat, most_sources, most_flats}
+use Rattle.map_edits.specs.Limits.{is_source, is_flat, most_sources}
 use Rattle.map_edits.specs.Attempts.{marks_after, with_names, attempted}
-use Rattle.map_edits.specs.Touches.{is_whole}
 use Rattle.map_edits.specs.WholeEdits.{WholeEdit, of_names}
 use Rattle.map_edits.specs.Counted.{accept_counted}
-use Rattle.map_edits.specs.WholeStates.{WholeState, cells_of}
-use Rattle.map_edits.proofs.Puts.{find_put}
-use Rattle.map_edits.proofs.LawfulEdits.{IsGoodChange, entries_good, good_of}
-use Rattle.map_waves.specs.declared.plans.Shift.TheVariants.{Loaded}
-use Rattle.kept_map.specs.Groups.{groups_of}
+use Rattle.map_edits.specs.WholeStates.{WholeState}
+use Rattle.map_edits.proofs.LawfulEdits.{entries_good, good_of}
 use Rattle.kept_map.specs.Maps.{grid_of, entries_in, names_in, seen}
 use Rattle.kept_map.specs.Keeps.{IsKept}
-use Rattle.kept_map.specs.Edits.{IsSetUp, IsReplanned}
 use Rattle.kept_map.specs.declared.maps.KeptMap.{KeptMap}
 use Rattle.kept_map.proofs.Few.{few_nodes}
-use Rattle.kept_map.proofs.Given.{source_value}
 use Rattle.kept_map.proofs.Groupings.{nodes_in_groups, has_group_is, groups_add}
-use Rattle.kept_map.proofs.EditedFlats.{IsWrittenAs}
-use Rattle.kept_map.proofs.EditedPlans.{flats_make, flats_made, flats_touched, flats_ranged, stand_added}
-use Rattle.kept_map.proofs.SettingUp.{loaded_operands, loaded_changes, others_left}
 use Rattle.kept_map.proofs.SourcesAfter.{is_source_def, stood_by}
 use Rattle.live_engine.specs.Accepts.{Refuses}
 use Rattle.live_engine.specs.declared.edits.Refusal.TheVariants as a_refusal
-use Rattle.live_engine.specs.Adding.{IsAdding, added_to}
+use Rattle.live_engine.specs.Adding.{IsAdding}
+use Rattle.live_engine.specs.Drafts.{state_after, IsDraftOf}
+use Rattle.live_engine.specs.declared.drafts.Change.TheVariants.{Source}
 use Rattle.live_engine.proofs.Counted.{count_first, count_put}
 
 -- ---- counts
@@ -73,76 +65,36 @@ module _ (m : KeptMap) (keeps : IsKept m) (n : Name) where
       let few = few_nodes (entries_in m) in let ss = keeps.sources_few in let fs = keeps.flats_few in
       omega (arith, same, few, ss, fs)
 
--- ---- the state
+-- ---- the draft
 
-module _ (m : KeptMap) (keeps : IsKept m) (n : Name) (plain : IsTrue (is_plain n)) (absent : find_def (entries_in m) n ≡ None) (layer : LayerState) (size : layer.size ≡ m.extent) (few : count_by is_source (entries_in m) < most_sources)
-    (edit : Edit) (adding : IsAdding (seen m) edit n (grid_of layer)) where
+module _ (m : KeptMap) (keeps : IsKept m) (n key : Name) (plain : IsTrue (is_plain n)) (absent : find_def (entries_in m) n ≡ None) (layer : LayerState) (stamped : layer ≡ layer_of m.extent layer.cells (raised m.number 1)) (whole : IsLayer layer)
+    (same : key ≡ n) (few : count_by is_source (entries_in m) < most_sources) (graph : List Group) (graph_is : graph ≡ m.graph ++ record { name = n; nodes = source_node n ∷ [] } ∷ []) (edit : Edit) (adding : IsAdding (seen m) edit n (grid_of layer)) where
   abbrev new : List Entry
   new = put_entry (entries_in m) n (source (grid_of layer))
-
-  pub undotted_name : IsUndotted n
-  undotted_name = plain_undotted n plain
-
-  there : find_def new n ≡ Some (source (grid_of layer))
-  there = find_put (entries_in m) n (source (grid_of layer))
 
   entries_are : entries_with m.procedures (names_in m) edit ≡ Ok new
   entries_are = adding.after ∙ ap (λ b. cond b (Ok new) (Err (beyond sources))) (lt-ltb (count_by is_source (entries_in m)) most_sources few)
 
-  pub added_attempt : attempted (seen m) (of_names edit) ≡ Ok (added_to m n layer)
+  added_attempt : attempted (seen m) (of_names edit) ≡ Ok (state_after (seen m) n (Source key layer))
   added_attempt =
       ap (with_names (seen m) edit) entries_are
       ∙ ap (λ ms. Ok (record (seen m) { names = with_entries (names_in m) new; labels = ms; symbols = marks_after edit m.symbols })) (adding.marks m.labels)
       ∙ ap (λ ms. Ok (record (seen m) { names = with_entries (names_in m) new; symbols = ms })) (adding.marks m.symbols)
 
-  pub added_change : IsGoodChange (entries_in m) n new
-  added_change = subst (λ q. IsGoodChange (entries_in m) q new) adding.named (entries_good m.procedures (names_in m) edit new keeps.lawful.made (good_of (seen m) keeps.lawful) adding.plain entries_are)
-
-  wrote : IsWrittenAs (find_def new n) []
-  wrote = subst (λ o. IsWrittenAs o []) (sym there) refl
-
-  pub added_sources_few : count_by is_source new ≤ most_sources
-  added_sources_few = let more = source_more (entries_in m) n (grid_of layer) in omega (arith, more, few)
-
-  pub added_flats_few : count_by is_flat (layers new) ≤ most_flats
-  added_flats_few = let stay = flats_stay (entries_in m) n (grid_of layer) in let was = keeps.flats_few in omega (arith, stay, was)
-
-  pub added_set_up : (b : Bor LayerState) → b.now ≡ layer → IsSetUp m (of_names edit) (added_to m n layer) (Loaded b) (m.sources.names.keys ++ n ∷ [])
-  added_set_up b same = record {
-    said = adding.plain;
-    attempt = added_attempt;
-    shift_is = sized;
-    operands = loaded_operands m keeps b sized;
-    changes = loaded_changes m keeps (added_to m n layer).names added_change.good.none_looped b n undotted_name absent cells
-        (others_left m keeps (added_to m n layer).names n added_change (λ grid is. absurd (never grid is)));
-    count = let a = length-append m.sources.names.keys (n ∷ []) in let count = keeps.sources.count in omega (arith, a, count);
-  }
-    where
-      sized : b.now.size ≡ m.extent
-      sized = ap (λ (l : LayerState). l.size) same ∙ size
-
-      never : (grid : Grid) → find_def (entries_in m) n ≡ Some (source grid) → ⊥
-      never grid is = let no : None ≡ Some (source grid) = sym absent ∙ is in cc
-
-      cells : cells_of (added_to m n layer).names n ≡ Some b.now.cells
-      cells =
-          ap (option_map (λ (g : Grid). g.cells)) (source_value (added_to m n layer).names n (grid_of layer) added_change.good.groups added_change.good.apart added_change.good.none_looped there)
-          ∙ ap (λ (l : LayerState). Some l.cells) (sym same)
-
-  pub added_graph : (graph : List Group) → graph ≡ m.graph ++ record { name = n; nodes = source_node n ∷ [] } ∷ [] → graph ≡ groups_of new
-  added_graph graph is = is ∙ ap (λ g. g ++ record { name = n; nodes = source_node n ∷ [] } ∷ []) keeps.graph_is ∙ groups_add (entries_in m) n (grid_of layer) absent
-
-  pub added_replanned : (graph : List Group) → graph ≡ m.graph ++ record { name = n; nodes = source_node n ∷ [] } ∷ [] → IsReplanned m (of_names edit) (added_to m n layer) (m.sources.names.keys ++ n ∷ []) graph n []
-  added_replanned graph is = record {
-    graph_is = added_graph graph is;
-    stand = stand_added m keeps new n undotted_name added_change (grid_of layer) there;
-    makings = flats_make m keeps new n [] undotted_name added_change wrote;
-    found = flats_made m keeps new n [] undotted_name added_change wrote;
-    touched = λ q f at. flats_touched m keeps new n [] undotted_name added_change wrote q f at ∙ ap (λ touch. is_whole new touch q) (sym adding.touch);
-    ranges = flats_ranged m keeps new n [] undotted_name added_change wrote (λ k d within. absurd (omega arith));
-    sources_few = added_sources_few;
-    flats_few = added_flats_few;
-  }
+  pub added_draft : IsDraftOf m (of_names edit) n (Source key layer) graph
+  added_draft =
+      let good = (entries_good m.procedures (names_in m) edit new keeps.lawful.made (good_of (seen m) keeps.lawful) adding.plain entries_are).good in
+      record {
+        plain = plain;
+        said = adding.plain;
+        touch = adding.touch;
+        attempt = added_attempt;
+        lawful = record { made = keeps.lawful.made; groups = good.groups; apart = good.apart; none_looped = good.none_looped };
+        fits = record { same = same; absent = absent; stamped = stamped; whole = whole };
+        graph_is = graph_is ∙ ap (λ g. g ++ record { name = n; nodes = source_node n ∷ [] } ∷ []) keeps.graph_is ∙ groups_add (entries_in m) n (grid_of layer) absent;
+        sources_few = let more = source_more (entries_in m) n (grid_of layer) in omega (arith, more, few);
+        flats_few = let stay = flats_stay (entries_in m) n (grid_of layer) in let was = keeps.flats_few in omega (arith, stay, was);
+      }
 
 -- too many sources
 pub added_full : (m : KeptMap) (n : Name) (layer : LayerState) (edit : Edit) → IsAdding (seen m) edit n (grid_of layer) → most_sources ≤ count_by is_source (entries_in m) → attempted (seen m) (of_names edit) ≡ Err (beyond sources)

@@ -9,8 +9,7 @@ pub mod Patching
 pub mod Exact
 pub mod Counted
 pub mod StatementEntries
-pub mod StatementStates
-pub mod StatementMaps
+pub mod StatementSources
 pub mod Accepting
 pub mod Settled
 pub mod Bodies
@@ -19,8 +18,8 @@ pub mod Refusing
 pub mod AddedStates
 pub mod Denied
 pub mod FewCounts
-pub mod AddedMaps
+pub mod DraftStates
+pub mod DraftMaps
 pub mod DroppedStates
-pub mod DroppedMaps
 pub mod PaintedMaps
 pub mod Unpainted

@@ -5,7 +5,6 @@ use Rattle.std.proofs.lemmas.Bool.{eqb-true, eq-eqb}
 use Rattle.std.proofs.lemmas.List.{length-map}
 use Rattle.std.proofs.lemmas.Nat.{div-mul-add, mod-mul-add, mul-le, mod_below, div-add-mod', mul-add-lt}
 use Rattle.map_nums.specs.Grids.{Size, IsSize, cells_in}
-use Rattle.map_nums.specs.Tiles.{tiles}
 use Rattle.map_defs.specs.Differences.{tile_has}
 use Rattle.map_edits.specs.EditForms.{Rectangle}
 use Rattle.map_edits.specs.Painting.{is_within, holds}

@@ -1,41 +1,54 @@
--- An edit that notes something beside the names: the state that it makes, and the map after it.
-use Rattle.std.proofs.Common.{◌≡◌, inr, ℕ, ◌+◌, ◌≤◌, Bool, true, false, cond, nat_lt, [], ◌∷◌, length, Some, is_some, option_map, Ok, Err, refl, sym, ap, subst, ◌∙◌, arith}
+-- An edit that notes something beside the names: the state that it makes, and the map after it, whose layers are all as they were.
+use Rattle.std.proofs.Common.{◌≡◌, ℕ, ◌+◌, ◌≤◌, Bool, true, false, cond, nat_lt, List, [], ◌∷◌, filter, map, length, sum_by, position, Option, Some, None, is_some, option_map, unwrap_or, bytes_eq, Ok, Err, refl, sym, ap, subst, ◌∙◌, arith}
 use Rattle.std.specs.List.{All}
-use Rattle.std.proofs.lemmas.Bool.{true≢false}
+use Rattle.std.proofs.lemmas.Bool.{true≢false, false≢true}
 use Rattle.std.proofs.lemmas.Bool.Decides.{nat_tests}
 use Rattle.std.proofs.lemmas.List.Elements.{All-push}
+use Rattle.std.proofs.lemmas.List.Sums.{sum_by-cons}
 use Rattle.map_nums.specs.Counts.{raised}
-use Rattle.map_nums.specs.Grids.{Grid}
-use Rattle.map_defs.specs.Ops.{Name}
+use Rattle.map_nums.specs.Grids.{Grid, Cells}
+use Rattle.map_defs.specs.Ops.{Name, Op, terms_of}
 use Rattle.map_defs.specs.Calls.{wrong_call}
+use Rattle.map_defs.proofs.Unchanged.{changed_none}
+use Rattle.map_defs.specs.Differences.{changed_tiles}
 use Rattle.layer_tiles.specs.Layers.{LayerState, IsLayer}
+use Rattle.layer_tiles.specs.Tiles.{tiles_in}
 use Rattle.statement_parser.specs.Formed.{IsProcedure}
 use Rattle.statement_parser.specs.Procedures.{procedure_view}
+use Rattle.statement_parser.specs.Views.{op_view}
+use Rattle.op_jobs.specs.Beside.{suits}
 use Rattle.map_edits.specs.Refusals.{Which, beyond, procedures, labels, symbols, exists_already, unknown}
 use Rattle.map_edits.specs.Marks.{put_mark}
-use Rattle.map_edits.specs.WholeStates.{WholeState, cells_of}
+use Rattle.map_edits.specs.LayerDefs.{Making, given_grid, by_op, LayerDef, layers}
+use Rattle.map_edits.specs.EngineStates.{term_cells, value_of}
+use Rattle.map_edits.specs.LayerChanges.{changed_of, damage_of, work_of, operands_in, now_of}
+use Rattle.map_edits.specs.CountLaws.{CountsNothing}
+use Rattle.map_edits.specs.WholeStates.{WholeState, Stamps, cells_of}
 use Rattle.map_edits.specs.Attempts.{unless_more, with_procedure, with_labels, with_symbols, attempted}
-use Rattle.map_edits.specs.Touches.{touch_of, is_whole, nothing}
+use Rattle.map_edits.specs.Touches.{touch_of, nothing}
 use Rattle.map_edits.specs.GroupLaws.{IsSaid}
-use Rattle.map_edits.specs.EditCounts.{Counts}
-use Rattle.map_waves.specs.Bases.{source_by}
-use Rattle.map_waves.specs.declared.plans.Shift.TheVariants.{Nothing}
-use Rattle.edit_plans.specs.SourceCounts.{joined, no_counts, counts_of_touched}
-use Rattle.kept_map.specs.Maps.{grid_of, source_in, entries_in, names_in, seen}
-use Rattle.kept_map.specs.Keeps.{IsKept}
-use Rattle.kept_map.specs.Edits.{IsSetUp, IsSamePlan}
-use Rattle.kept_map.specs.Repairs.{IsPreparedFor}
+use Rattle.map_edits.specs.Counted.{Accepted, of_attempt, unless_fault, fault_after, accept_counted}
+use Rattle.map_edits.specs.EditCounts.{counts_of}
+use Rattle.map_edits.specs.StampsAfter.{stamps_at, stamped}
+use Rattle.map_edits.proofs.LawfulEdits.{lawful_stays}
+use Rattle.map_edits.proofs.LawfulFaults.{no_fault_stays}
+use Rattle.map_edits.proofs.Unchanged.{counts_nothing}
+use Rattle.edit_plans.specs.Orderly.{IsOrderly}
+use Rattle.edit_plans.specs.SourceCounts.{no_counts}
+use Rattle.edit_plans.proofs.Forming.{step_at}
+use Rattle.edit_plans.proofs.LayersMade.{EachLayer, IsFoundBy, layers_found}
+use Rattle.edit_plans.proofs.Positions.{position_at}
+use Rattle.edit_plans.proofs.Restamped.{old_is_stamped}
+use Rattle.kept_map.specs.Maps.{at_place, layer_in, entries_in, names_in, stamps_seen, seen}
+use Rattle.kept_map.specs.Keeps.{IsKept, IsKeptStep, AreKeptSteps}
 use Rattle.kept_map.specs.declared.maps.KeptMap.{KeptMap}
-use Rattle.kept_map.specs.declared.repairing.Prepared.{Prepared}
-use Rattle.kept_map.proofs.Given.{source_value}
-use Rattle.kept_map.proofs.Naming.{source_def}
-use Rattle.kept_map.proofs.SettingUp.{nothing_operands, left_changes, stamps_stay}
+use Rattle.kept_map.proofs.Asked.{IsTold, source_told, statement_told, nothing_told}
+use Rattle.kept_map.proofs.LayersByName.{layer_kept, layer_source}
+use Rattle.kept_map.proofs.SourceLayers.{layer_at, source_at, source_none, source_whole}
 use Rattle.live_engine.specs.Notes.{edit_of_note, procedures_with, labels_with, symbols_with, with_note, MayNote}
-use Rattle.live_engine.specs.Settles.{IsSettled}
 use Rattle.live_engine.specs.declared.noting.Note.{Note}
 use Rattle.live_engine.specs.declared.noting.Note.TheVariants as notes
 use Rattle.live_engine.proofs.Bodies.{body_made}
-use Rattle.live_engine.proofs.Settled.{LeavesPlan}
 
 not_less : (most count : ℕ) → count ≤ most → nat_lt most count ≡ false
 not_less most count few = grind (arith, nat_tests)
@@ -70,12 +83,11 @@ note_touches (notes.Procedure p) = refl
 note_touches (notes.Label n z text) = refl
 note_touches (notes.Symbol n z sign) = refl
 
-pub joined_none : (c : Counts) → joined no_counts c ≡ c
-joined_none c =
-    let a : 0 + c.changed ≡ c.changed = omega arith in
-    let b : 0 + c.evaluated ≡ c.evaluated = omega arith in
-    let d : 0 + c.worked ≡ c.worked = omega arith in
-    rw (a, b, d) refl
+-- and the rows of notes have no fault
+note_faultless : (note : Note) (t : WholeState) → fault_after (edit_of_note note) t ≡ None
+note_faultless (notes.Procedure p) t = refl
+note_faultless (notes.Label n z text) t = refl
+note_faultless (notes.Symbol n z sign) t = refl
 
 -- procedures are formed
 noted_formed : (s : WholeState) (note : Note) → MayNote s note → All IsProcedure s.procedures → All IsProcedure (procedures_with s.procedures note)
@@ -83,64 +95,178 @@ noted_formed s (notes.Procedure p) may formed = All-push IsProcedure s.procedure
 noted_formed s (notes.Label n z text) may formed = formed
 noted_formed s (notes.Symbol n z sign) may formed = formed
 
--- a source has the cells of its layer, whatever the number
-source_cells : (m : KeptMap) → IsKept m → (number : ℕ) (n : Name) (l : LayerState) → source_in m.sources n ≡ Some l → cells_of (record { size = m.extent; entries = entries_in m; number = number }) n ≡ Some l.cells
-source_cells m kept number n l there =
-    ap (option_map (λ (g : Grid). g.cells))
-    (source_value (record { size = m.extent; entries = entries_in m; number = number }) n (grid_of l) kept.lawful.groups kept.lawful.apart kept.lawful.none_looped (source_def m n kept l there))
+-- ---- over the layers that are defined
+
+module _ (q : LayerDef → Bool) (P : LayerDef → Type 0) where
+  same_layers : (f g : LayerDef → Stamps) → ((l : LayerDef) → P l → q l ≡ true → f l ≡ g l) → (ls : List LayerDef) → EachLayer P ls → map f (filter q ls) ≡ map g (filter q ls)
+  same_layers f g same [] each = refl
+  same_layers f g same (l ∷ ls) each = go (q l) refl (same_layers f g same ls each.1)
+    where
+      go : (b : Bool) → q l ≡ b → map f (filter q ls) ≡ map g (filter q ls) → map f (cond b (l ∷ filter q ls) (filter q ls)) ≡ map g (cond b (l ∷ filter q ls) (filter q ls))
+      go true h rest = ap (λ x. x ∷ map f (filter q ls)) (same l each.0 h) ∙ ap (λ xs. g l ∷ xs) rest
+      go false h rest = rest
+
+  sum_none : (f : LayerDef → ℕ) → ((l : LayerDef) → P l → q l ≡ true → f l ≡ 0) → (ls : List LayerDef) → EachLayer P ls → sum_by f (filter q ls) ≡ 0
+  sum_none f none [] each = refl
+  sum_none f none (l ∷ ls) each = go (q l) refl (sum_none f none ls each.1)
+    where
+      go : (b : Bool) → q l ≡ b → sum_by f (filter q ls) ≡ 0 → sum_by f (cond b (l ∷ filter q ls) (filter q ls)) ≡ 0
+      go true h rest = let first = sum_by-cons f l (filter q ls) in let one = none l each.0 h in omega (arith, first, one, rest)
+      go false h rest = rest
+
+-- ---- the map with a note
 
 module _ (m : KeptMap) (note : Note) (kept : IsKept m) (may : MayNote (seen m) note) where
-  abbrev pub after : WholeState
+  abbrev after : WholeState
   after = with_note (seen m) note
 
-  pub note_set_up : IsSetUp m (edit_of_note note) after Nothing m.sources.names.keys
-  note_set_up = record {
-    said = note_said (seen m) note may;
-    attempt = note_attempt (seen m) note may;
-    shift_is = tt;
-    operands = nothing_operands m kept;
-    changes = left_changes m kept after.names kept.lawful.none_looped Nothing (λ i l is. ap (source_by m.extent Nothing i) is) (λ n grid def. inr refl);
-    count = let count = kept.sources.count in omega (arith, count);
-  }
-
-  pub note_same_plan : IsSamePlan m (edit_of_note note) after
-  note_same_plan = record {
-    nodes = refl;
-    makings = λ n op is. is;
-    untouched = λ n op is. ap (λ u. is_whole (entries_in m) u n) (note_touches note);
-  }
-
-  pub note_own : counts_of_touched (touch_of (edit_of_note note)) (names_in m) after.names ≡ no_counts
-  note_own = ap (λ u. counts_of_touched u (names_in m) after.names) (note_touches note)
-
-  pub note_counts : (c : Counts) → joined (counts_of_touched (touch_of (edit_of_note note)) (names_in m) after.names) c ≡ c
-  note_counts c = ap (λ o. joined o c) note_own ∙ joined_none c
-
-  -- the map with the note, and its statements at rest
   abbrev pub noted : KeptMap
-  noted = record m { procedures = procedures_with m.procedures note; labels = labels_with m.labels note; symbols = symbols_with m.symbols note }
+  noted = record m { procedures = procedures_with m.procedures note; labels = labels_with m.labels note; symbols = symbols_with m.symbols note; number = raised m.number 1 }
 
-  module _ (prepared : Prepared) (is : IsPreparedFor m (edit_of_note note) after Nothing m.sources.names.keys m.planned.names.keys m.planned.steps.items prepared) (m' : KeptMap) (settled : IsSettled noted m' prepared) where
-    source_same : (n : Name) → source_in m'.sources n ≡ source_in m.sources n
-    source_same n = ap (λ (q : KeptMap). source_in q.sources n) settled.others
+  -- no value depends on the number of edits
+  same_values : value_of after.names ≡ value_of (names_in m)
+  unfolding value_of
+  same_values = refl
 
-    pub note_leaves : LeavesPlan m (edit_of_note note) after Nothing prepared kept note_set_up is m'
-    note_leaves = record {
-      extent = ap (λ (q : KeptMap). q.extent) settled.others;
-      names = ap (λ (q : KeptMap). q.names.entries) settled.others;
-      graph = ap (λ (q : KeptMap). q.graph) settled.others;
-      source_names = ap (λ (q : KeptMap). q.sources.names.keys) settled.others;
-      number = ap (λ (q : KeptMap). q.number) settled.others;
-      statements = record { plan_names = settled.statements.plan_names; rests = settled.statements.rests; kept_count = settled.statements.kept_count; placed = settled.statements.placed };
-      entries = ap entries_in settled.others;
-      count = ap (λ (q : KeptMap). length q.sources.layers.items) settled.others ∙ kept.sources.count;
-      whole = subst (λ (q : KeptMap). All (λ (l : LayerState). (l.size ≡ m.extent) × IsLayer l) q.sources.layers.items) (sym settled.others) kept.sources.whole;
-      procedures = ap (λ (q : KeptMap). q.procedures) settled.others;
-      labels = ap (λ (q : KeptMap). q.labels) settled.others;
-      symbols = ap (λ (q : KeptMap). q.symbols) settled.others;
-      formed = subst (λ (q : KeptMap). All IsProcedure q.procedures) (sym settled.others) (noted_formed (seen m) note may kept.formed);
-      stamped = λ n l there. stamps_stay m kept after refl n l (sym (source_same n) ∙ there) (stays n l (sym (source_same n) ∙ there));
-    }
-      where
-        stays : (n : Name) (l : LayerState) → source_in m.sources n ≡ Some l → cells_of after.names n ≡ Some l.cells
-        stays n l there = source_cells m kept (raised m.number 1) n l there
+  same_cells : (n : Name) → cells_of after.names n ≡ cells_of (names_in m) n
+  same_cells n = ap (λ (v : Name → Option Grid). option_map (λ (g : Grid). g.cells) (v n)) same_values
+
+  same_operands : (op : Op) → operands_in (names_in m) op ≡ operands_in after.names op
+  same_operands op = sym (ap (λ (v : Name → Option Grid). map (λ u. unwrap_or (term_cells m.extent v u) []) (terms_of op)) same_values)
+
+  orderly : IsOrderly after.names
+  orderly = record { groups = kept.lawful.groups; apart = kept.lawful.apart; none_looped = kept.lawful.none_looped }
+
+  -- ---- stamps
+
+  -- the layer of a name
+  record IsLayerOf (n : Name) (l : LayerState) : Type 0 where
+    pub found : layer_in m n ≡ Some l
+    pub told : IsTold m kept n l
+    pub whole : IsLayer l
+
+  layer_of : (n : Name) → is_some (value_of (names_in m) n) ≡ true → (l : LayerState) × IsLayerOf n l
+  layer_of n defined = of_source (position (bytes_eq n) m.sources.names.keys) refl
+    where
+      of_statement : position (bytes_eq n) m.sources.names.keys ≡ None → (o : Option ℕ) → position (bytes_eq n) m.planned.names.keys ≡ o → (l : LayerState) × IsLayerOf n l
+      of_statement absent None unplanned = absurd (false≢true (sym (ap is_some (nothing_told m kept n absent unplanned)) ∙ defined))
+      of_statement absent (Some k) at =
+          let named = position_at n m.planned.names.keys k at in
+          let count = kept.statements.planned_are.count in
+          let step = step_at m.planned.names.keys m.planned.steps.items count k n named in
+          let own = step_at m.planned.names.keys m.kept.items (kept.statements.count ∙ count) k n named in
+          let is : IsKeptStep (names_in m) n step.0 own.0 = kept.statements.each k n step.0 own.0 named step.1 own.1 in
+          let there = ap (λ (o : Option ℕ). at_place m.kept.items o) at ∙ own.1 in
+          (own.0.layer, record { found = layer_kept m n own.0 (source_none m.sources n absent) there; told = statement_told m kept n k own.0 absent at own.1; whole = is.whole })
+
+      of_source : (o : Option ℕ) → position (bytes_eq n) m.sources.names.keys ≡ o → (l : LayerState) × IsLayerOf n l
+      of_source None absent = of_statement absent (position (bytes_eq n) m.planned.names.keys) refl
+      of_source (Some i) at =
+          let l = layer_at m.sources n kept.sources.count i at in
+          let there = source_at m.sources n i at ∙ l.1 in
+          (l.0, record { found = layer_source m n l.0 there; told = source_told m kept n i l.0 at l.1; whole = (source_whole m.sources n (names_in m) l.0 kept.sources there).1 })
+
+  layer_cells : (n : Name) (l : LayerState) → IsLayerOf n l → cells_of (names_in m) n ≡ Some l.cells
+  layer_cells n l is = ap (option_map (λ (g : Grid). g.cells)) is.told.0
+
+  layer_stamps : (n : Name) → is_some (value_of (names_in m) n) ≡ true → unwrap_or (option_map (λ (k : LayerState). k.stamps) (layer_in m n)) [] ≡ stamps_at (seen m) after n
+  layer_stamps n defined =
+      let r = layer_of n defined in
+      let l = r.0 in
+      let cells = layer_cells n l r.1 in
+      ap (λ (o : Option LayerState). unwrap_or (option_map (λ (k : LayerState). k.stamps) o) []) r.1.found
+      ∙ old_is_stamped (seen m) after n l.cells l.cells l.stamps l.stamps kept.size cells (same_cells n ∙ cells) r.1.told.1
+      (record { count = r.1.whole.stamps ∙ ap tiles_in r.1.told.2; same = λ k within e. refl; changed = λ k within differs. absurd (differs refl) })
+
+  abbrev is_defined : LayerDef → Bool
+  is_defined l = is_some (value_of after.names l.name)
+
+  defined_before : (l : LayerDef) → is_defined l ≡ true → is_some (value_of (names_in m) l.name) ≡ true
+  defined_before l defined = ap (λ (v : Name → Option Grid). is_some (v l.name)) (sym same_values) ∙ defined
+
+  stamps_are : stamps_seen (layer_in noted) (names_in noted) ≡ (stamped (seen m) after).stamps
+  stamps_are =
+      same_layers is_defined (IsFoundBy (layers (entries_in m))) (λ l. record { name = l.name; stamps = unwrap_or (option_map (λ (k : LayerState). k.stamps) (layer_in m l.name)) [] }) (λ l. record { name = l.name; stamps = stamps_at (seen m) after l.name })
+      (λ l found defined. ap (λ (ks : List ℕ). record { name = l.name; stamps = ks }) (layer_stamps l.name (defined_before l defined))) (layers (entries_in m)) (layers_found after.names orderly)
+
+  seen_noted : seen noted ≡ stamped (seen m) after
+  seen_noted = ap (λ (ks : List Stamps). record after { stamps = ks }) stamps_are
+
+  -- ---- counts
+
+  nothing_counted : (l : LayerDef) → is_defined l ≡ true → CountsNothing nothing (names_in m) after.names l
+  nothing_counted l defined =
+      let r = layer_of l.name (defined_before l defined) in
+      let cells = layer_cells l.name r.0 r.1 in
+      by_making l r.0.cells cells (same_cells l.name ∙ cells)
+    where
+      by_making : (l : LayerDef) (w : Cells) → cells_of (names_in m) l.name ≡ Some w → cells_of after.names l.name ≡ Some w → CountsNothing nothing (names_in m) after.names l
+      by_making l w was now = go l.making refl
+        where
+          go : (making : Making) → l.making ≡ making → CountsNothing nothing (names_in m) after.names l
+          go (by_op op) is = subst (λ q. CountsNothing nothing (names_in m) after.names (record { name = l.name; making = q })) (sym is) (counts_nothing nothing (names_in m) after.names l.name op w refl (same_operands op) was now)
+          go (given_grid grid) is = subst (λ q. CountsNothing nothing (names_in m) after.names (record { name = l.name; making = q })) (sym is) (record {
+            changed = ap (λ o. changed_tiles m.extent o (now_of after.names l.name)) was ∙ ap (λ (o : Option Cells). changed_tiles m.extent (Some w) (unwrap_or o [])) now ∙ changed_none m.extent [] w;
+            damage = refl;
+            work = refl;
+          })
+
+  abbrev ls : List LayerDef
+  ls = filter is_defined (layers (entries_in m))
+
+  counts_are : counts_of nothing (names_in m) after.names ≡ no_counts
+  counts_are =
+      ap (λ k. record { changed = k; evaluated = sum_by (λ (l : LayerDef). length (damage_of nothing (names_in m) after.names l)) ls; worked = sum_by (λ (l : LayerDef). work_of nothing (names_in m) after.names l) ls })
+      (none (λ l. length (changed_of (names_in m) after.names l.name)) (λ l d. ap length (nothing_counted l d).changed))
+      ∙ ap (λ k. record { changed = 0; evaluated = k; worked = sum_by (λ (l : LayerDef). work_of nothing (names_in m) after.names l) ls }) (none (λ l. length (damage_of nothing (names_in m) after.names l)) (λ l d. ap length (nothing_counted l d).damage))
+      ∙ ap (λ (k : ℕ). record { changed = 0; evaluated = 0; worked = k }) (none (λ l. work_of nothing (names_in m) after.names l) (λ l d. (nothing_counted l d).work))
+    where
+      none : (f : LayerDef → ℕ) → ((l : LayerDef) → is_defined l ≡ true → f l ≡ 0) → sum_by f ls ≡ 0
+      none f zeros = sum_none is_defined (IsFoundBy (layers (entries_in m))) f (λ l found d. zeros l d) (layers (entries_in m)) (layers_found after.names orderly)
+
+  -- ---- the map
+
+  pub noted_is : (put : KeptMap) (number : ℕ) → put ≡ record m { procedures = procedures_with m.procedures note; labels = labels_with m.labels note; symbols = symbols_with m.symbols note } → number ≡ raised m.number 1 → record put { number = number } ≡ noted
+  noted_is put number is rises = ap (λ (x : KeptMap). record x { number = number }) is ∙ ap (λ k. record noted { number = k }) rises
+
+  pub note_accepted : accept_counted (seen m) (edit_of_note note) ≡ Ok (record { state = seen noted; counts = no_counts })
+  unfolding accept_counted
+  note_accepted =
+      ap (of_attempt (seen m) (edit_of_note note)) (note_attempt (seen m) note may)
+      ∙ ap (unless_fault (touch_of (edit_of_note note)) (seen m) after) (note_faultless note after)
+      ∙ ap (λ u. Ok (record { state = stamped (seen m) after; counts = counts_of u (names_in m) after.names })) (note_touches note)
+      ∙ ap (λ c. Ok (record { state = stamped (seen m) after; counts = c })) counts_are
+      ∙ ap (λ s. Ok (record { state = s; counts = no_counts })) (sym seen_noted)
+
+  steps_stay : AreKeptSteps (names_in noted) m.sources.names.keys m.planned m.kept.items
+  steps_stay = record {
+    planned_are = kept.statements.planned_are;
+    count = kept.statements.count;
+    each = λ k n x own at here now.
+        let is = kept.statements.each k n x own at here now in
+        record {
+          making = is.making;
+          ranges = is.ranges;
+          written = is.written;
+          value = same_cells n ∙ is.value;
+          size = is.size;
+          whole = is.whole;
+          beside = subst (λ (os : List Cells). suits m.extent (op_view x.op) os own.beside) (same_operands (op_view x.op)) is.beside;
+        };
+  }
+
+  pub noted_kept : IsKept noted
+  noted_kept =
+      let a : Accepted = record { state = seen noted; counts = no_counts } in
+      record {
+        size = kept.size;
+        named = kept.named;
+        formed = noted_formed (seen m) note may kept.formed;
+        lawful = lawful_stays (seen m) (edit_of_note note) a kept.lawful (note_said (seen m) note may) note_accepted;
+        sources_few = kept.sources_few;
+        flats_few = kept.flats_few;
+        graph_is = kept.graph_is;
+        faultless = no_fault_stays (seen m) (edit_of_note note) a kept.lawful kept.faultless note_accepted;
+        sources = record { stand = kept.sources.stand; apart = kept.sources.apart; count = kept.sources.count; whole = kept.sources.whole };
+        statements = steps_stay;
+      }

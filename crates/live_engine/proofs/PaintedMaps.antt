@@ -1,5 +1,5 @@
--- An edit that paints a source: the state that it makes, what it does to the sources, and the map after it.
-use Rattle.std.proofs.Common.{◌≡◌, ◌≢◌, inr, ℕ, ◌≤◌, ◌==◌, Bool, true, false, cond, if◌then◌else◌, List, [], count_by, length, set, position, Option, Some, None, is_some, option_map, unwrap_or, Ok, Err, slice_get, bytes_eq, Bor, refl, sym, ap, subst, ◌∙◌, arith, ℤ}
+-- An edit that repaints a source: the state that it makes, what it does to the sources, and the map after it.
+use Rattle.std.proofs.Common.{◌≡◌, inr, ℕ, ◌≤◌, ◌==◌, Bool, true, false, cond, if◌then◌else◌, List, [], count_by, length, set, position, Option, Some, None, is_some, option_map, unwrap_or, slice_get, bytes_eq, Bor, refl, sym, ap, subst, ◌∙◌, arith}
 use Rattle.std.specs.List.{All}
 use Rattle.std.proofs.lemmas.Bool.{true≢false, eqb-true, eq-eqb}
 use Rattle.std.proofs.lemmas.List.{length-map, length-set}
@@ -9,7 +9,6 @@ use Rattle.map_nums.specs.Counts.{raised}
 use Rattle.map_nums.specs.Grids.{Size, Grid, Cells}
 use Rattle.map_defs.specs.Ops.{Name, Op}
 use Rattle.map_defs.specs.Differences.{changed_tiles}
-use Rattle.map_defs.specs.MadeProcedures.{IsUndotted}
 use Rattle.layer_tiles.specs.Changes.{same_change, patched_change}
 use Rattle.layer_tiles.specs.Layers.{LayerState, IsLayer, IsStamped, IsCommitted}
 use Rattle.layer_tiles.specs.Patches.{PatchState, patched}
@@ -17,23 +16,20 @@ use Rattle.layer_tiles.specs.Tiles.{Block}
 use Rattle.statement_parser.specs.Formed.{IsProcedure}
 use Rattle.statement_graph.specs.Groups.{nodes_in}
 use Rattle.map_edits.specs.Entries.{source, Entry, find_def, put_entry}
-use Rattle.map_edits.specs.EditForms.{Rectangle, paint}
-use Rattle.map_edits.specs.Edits.{with_entries}
-use Rattle.map_edits.specs.EntriesAfter.{paint_source}
+use Rattle.map_edits.specs.EditForms.{Rectangle}
 use Rattle.map_edits.specs.LayerDefs.{given_grid, by_op, layers, find_making}
 use Rattle.map_edits.specs.LayerChanges.{changed_of}
 use Rattle.map_edits.specs.Limits.{is_source, is_flat, most_sources, most_flats}
-use Rattle.map_edits.specs.Painting.{is_within, painted}
-use Rattle.map_edits.specs.Refusals.{wrong_size}
 use Rattle.map_edits.specs.StampsAfter.{stamps_at}
-use Rattle.map_edits.specs.Attempts.{with_names, attempted}
-use Rattle.map_edits.specs.Touches.{touch_of, within, source_damage}
-use Rattle.map_edits.specs.WholeEdits.{WholeEdit, of_names}
+use Rattle.map_edits.specs.GroupLaws.{IsLawful}
+use Rattle.map_edits.specs.Touches.{touch_of, within, is_whole, source_damage}
+use Rattle.map_edits.specs.WholeEdits.{WholeEdit}
 use Rattle.map_edits.specs.WholeStates.{WholeState, cells_of}
 use Rattle.map_edits.proofs.Among.{same_name, bytes_eq-self, bytes_eq-turned}
 use Rattle.map_edits.proofs.Groups.{def_layers, group_making, making_by_head}
 use Rattle.map_edits.proofs.Heads.{head_of, head_undotted}
-use Rattle.map_edits.proofs.LawfulEdits.{IsGoodChange, good_of, entries_good}
+use Rattle.map_edits.proofs.GroupsKept.{put_makings}
+use Rattle.map_edits.proofs.LawfulEdits.{IsGoodChange, good_of}
 use Rattle.map_edits.proofs.Puts.{find_put, find_put_other}
 use Rattle.map_waves.specs.Bases.{source_by}
 use Rattle.map_waves.specs.Operands.{IsOperand}
@@ -58,46 +54,50 @@ use Rattle.map_waves.proofs.Making.{all_get}
 use Rattle.kept_map.proofs.SettingUp.{place_is, same_operand, constant_operand, placed_layer, placed_def, value_before, left_change, stamps_stay}
 use Rattle.kept_map.proofs.SourceLayers.{source_at, source_painted, source_unpainted, entries_painted}
 use Rattle.live_engine.specs.Painting.{met_tiles}
-use Rattle.live_engine.specs.Repainting.{IsRepainted}
+use Rattle.live_engine.specs.Repainting.{IsRepainted, IsRepaintOf, repainted_state}
+use Rattle.live_engine.specs.declared.repainting.Repaint.{Repaint}
 use Rattle.live_engine.specs.Settles.{HaveSettled, IsSettled}
 use Rattle.live_engine.proofs.Settled.{sources_agree, flats_agree, LeavesPlan}
 
 pub layer_size : (m : KeptMap) → IsKept m → (i : ℕ) (l : LayerState) → slice_get m.sources.layers.items i ≡ Some l → l.size ≡ m.extent
 layer_size m keeps i l e = (all_get (λ (k : LayerState). (k.size ≡ m.extent) × IsLayer k) m.sources.layers.items keeps.sources.whole i l e).0
 
-module _ (m : KeptMap) (n : Name) (r : Rectangle) (cell : Option ℤ) (place : ℕ) (l : LayerState) (kept : IsKept m) (plain : IsUndotted n) (at : position (bytes_eq n) m.sources.names.keys ≡ Some place)
-    (there : slice_get m.sources.layers.items place ≡ Some l) (on : is_within m.extent r ≡ true) where
-  abbrev pub edit : WholeEdit
-  edit = of_names (paint n r cell)
+-- an edit of a rectangle damages the tiles that the rectangle meets
+pub repaint_damage : (m : KeptMap) (n : Name) (r : Rectangle) (grid : Grid) → IsLawful (repainted_state (seen m) n grid) → (counts_of_touched (within n r) (names_in m) (repainted_state (seen m) n grid).names).evaluated ≡ length (met_tiles m.extent r)
+repaint_damage m n r grid lawful =
+    let entries = put_entry (entries_in m) n (source grid) in
+    ap (λ o. (counts_of_source (within n r) (names_in m) (repainted_state (seen m) n grid).names n o).evaluated) (source_making entries n lawful.groups lawful.apart grid (find_put (entries_in m) n (source grid)))
+    ∙ ap (λ b. length (cond b (met_tiles m.extent r) [])) (bytes_eq-self n)
 
-  abbrev pub grid : Grid
-  grid = painted m.extent r cell (grid_of l)
+module _ (m : KeptMap) (kept : IsKept m) (e : WholeEdit) (n : Name) (grid : Grid) (d : Repaint) (is : IsRepaintOf m e n grid d) where
+  abbrev place : ℕ
+  place = d.place
 
-  abbrev pub entries : List Entry
+  abbrev l : LayerState
+  l = is.layer
+
+  abbrev r : Rectangle
+  r = is.rectangle
+
+  abbrev entries : List Entry
   entries = put_entry (entries_in m) n (source grid)
 
-  abbrev pub after : WholeState
-  after = record (seen m) { names = with_entries (names_in m) entries }
+  abbrev after : WholeState
+  after = repainted_state (seen m) n grid
 
   size_is : l.size ≡ m.extent
-  size_is = layer_size m kept place l there
+  size_is = layer_size m kept place l is.there
 
   found : source_in m.sources n ≡ Some l
-  found = source_at m.sources n place at ∙ there
+  found = source_at m.sources n place is.place ∙ is.there
 
   def : find_def (entries_in m) n ≡ Some (source (grid_of l))
   def = source_def m n kept l found
 
   -- ---- the state that it makes
 
-  paint_entries : paint_source (names_in m) n r cell (find_def (entries_in m) n) ≡ Ok entries
-  paint_entries = ap (paint_source (names_in m) n r cell) def ∙ ap (λ b. cond b (Ok entries) (Err (wrong_size m.extent))) on
-
-  pub paint_attempt : attempted (seen m) edit ≡ Ok after
-  paint_attempt = ap (with_names (seen m) (paint n r cell)) paint_entries
-
   change : IsGoodChange (entries_in m) n entries
-  change = entries_good m.procedures (names_in m) (paint n r cell) entries kept.lawful.made (good_of (seen m) kept.lawful) plain paint_entries
+  change = record { good = good_of after is.lawful; makings = put_makings (entries_in m) n (source grid) kept.lawful.groups kept.lawful.apart is.plain tt }
 
   other_def : (q : Name) → bytes_eq q n ≡ false → find_def entries q ≡ find_def (entries_in m) q
   other_def q differs = find_put_other (entries_in m) n (source grid) q differs
@@ -114,22 +114,25 @@ module _ (m : KeptMap) (n : Name) (r : Rectangle) (cell : Option ℤ) (place : �
 
   -- ---- its statements
 
-  pub paint_same_plan : IsSamePlan m edit after
+  pub paint_same_plan : IsSamePlan m e after
   paint_same_plan = record {
     nodes = sym (nodes_in_groups entries) ∙ ap nodes_in (sym (groups_repaint (entries_in m) n (grid_of l) grid def)) ∙ nodes_in_groups (entries_in m);
-    makings = λ q op is. go q op is (bytes_eq n (head_of q)) refl;
-    untouched = λ q op is. refl;
+    makings = λ q op made. go q op made (bytes_eq n (head_of q)) refl;
+    untouched = λ q op made. ap (λ touch. is_whole entries touch q) is.touch;
   }
     where
       go : (q : Name) (op : Op) → find_making (layers (entries_in m)) q ≡ Some (by_op op) → (b : Bool) → bytes_eq n (head_of q) ≡ b → find_making (layers entries) q ≡ Some (by_op op)
-      go q op is false differs = change.makings q differs ∙ is
-      go q op is true same =
+      go q op was false differs = change.makings q differs ∙ was
+      go q op was true same =
           let own : n ≡ head_of q = same_name n (head_of q) same in
           let made : find_making (def_layers (head_of q) (source (grid_of l))) q ≡ Some (by_op op) =
-          ap (group_making q) (sym (ap (find_def (entries_in m)) (sym own) ∙ def)) ∙ sym (making_by_head (entries_in m) q kept.lawful.groups kept.lawful.apart) ∙ is in
+          ap (group_making q) (sym (ap (find_def (entries_in m)) (sym own) ∙ def)) ∙ sym (making_by_head (entries_in m) q kept.lawful.groups kept.lawful.apart) ∙ was in
           absurd (source_only (head_of q) q (grid_of l) op made)
 
   -- ---- how many names there are, and tiles
+
+  own_grid : put_entry (entries_in m) n (source (record { size = m.extent; cells = grid.cells })) ≡ entries
+  own_grid = ap (λ z. put_entry (entries_in m) n (source (record { size = z; cells = grid.cells }))) (sym is.grid_size)
 
   painted_layers : Name → Option LayerState
   painted_layers q = if bytes_eq q n then Some (record { size = m.extent; cells = grid.cells; stamps = [] }) else source_in m.sources q
@@ -139,8 +142,9 @@ module _ (m : KeptMap) (n : Name) (r : Rectangle) (cell : Option ℤ) (place : �
   painted_items =
       entries_painted m.extent (source_in m.sources) painted_layers n
       (λ q differs. ap (λ b. if b then Some (record { size = m.extent; cells = grid.cells; stamps = [] }) else source_in m.sources q) (bytes_eq-turned n q differs))
-      m.names.entries kept.lawful.apart (placed_item m n kept (ap is_some at))
+      m.names.entries kept.lawful.apart (placed_item m n kept (ap is_some is.place))
       ∙ ap (λ b. put_entry (entries_in m) n (source (source_grid m.extent (if b then Some (record { size = m.extent; cells = grid.cells; stamps = [] }) else source_in m.sources n)))) (bytes_eq-self n)
+      ∙ own_grid
 
   pub paint_sources_few : count_by is_source entries ≤ most_sources
   paint_sources_few = subst (λ k. k ≤ most_sources) (sources_agree m.extent m.extent (source_in m.sources) painted_layers m.names.entries ∙ ap (count_by is_source) painted_items) kept.sources_few
@@ -154,20 +158,23 @@ module _ (m : KeptMap) (n : Name) (r : Rectangle) (cell : Option ℤ) (place : �
   damaged : length (source_damage m.extent (within n r) n) ≡ length (met_tiles m.extent r)
   damaged = ap (λ b. length (cond b (met_tiles m.extent r) [])) (bytes_eq-self n)
 
-  pub paint_damage : own_damage m edit after ≡ length (met_tiles m.extent r)
-  paint_damage = ap (λ o. (counts_of_source (within n r) (names_in m) after.names n o).evaluated) own_making ∙ damaged
+  pub paint_damage : own_damage m e after ≡ d.met
+  paint_damage = ap (λ touch. (counts_of_touched touch (names_in m) after.names).evaluated) is.touch ∙ repaint_damage m n r grid is.lawful ∙ sym is.met
 
   -- ---- its patch
 
-  module _ (p : Bor PatchState) (patch_size : p.now.size ≡ l.size) (cells : patched l.size l.cells p.now.tiles ≡ (painted l.size r cell (grid_of l)).cells) (operand : IsOperand l.size (patched_change l p.now)) where
+  module _ (p : Bor PatchState) (same_patch : p.now ≡ d.patch) where
     abbrev pub shift : Shift
     shift = Painted place p
 
     same_layer : (i : ℕ) (k : LayerState) → (place == i) ≡ true → slice_get m.sources.layers.items i ≡ Some k → l ≡ k
-    same_layer i k same is = same_Some l k (sym there ∙ ap (slice_get m.sources.layers.items) (eqb-true place i same) ∙ is)
+    same_layer i k same its = same_Some l k (sym is.there ∙ ap (slice_get m.sources.layers.items) (eqb-true place i same) ∙ its)
 
     patched_cells : patched l.size l.cells p.now.tiles ≡ grid.cells
-    patched_cells = cells ∙ ap (λ z. (painted z r cell (grid_of l)).cells) size_is
+    patched_cells = ap (λ (q : PatchState). patched l.size l.cells q.tiles) same_patch ∙ is.cells
+
+    operand : IsOperand l.size (patched_change l p.now)
+    operand = subst (λ (q : PatchState). IsOperand l.size (patched_change l q)) (sym same_patch) is.operand
 
     own_change : IsChangeOf (names_in m) after.names n (patched_change l p.now)
     own_change = record {
@@ -192,7 +199,7 @@ module _ (m : KeptMap) (n : Name) (r : Rectangle) (cell : Option ℤ) (place : �
         subst (IsChangeOf (names_in m) after.names q) (sym (ap (source_by m.extent shift i) k.1)) (go k.0 k.1 (place == i) refl)
       where
         own : (place == i) ≡ true → n ≡ q
-        own same = same_Some n q (sym (position_at n m.sources.names.keys place at) ∙ ap (slice_get m.sources.names.keys) (eqb-true place i same) ∙ named)
+        own same = same_Some n q (sym (position_at n m.sources.names.keys place is.place) ∙ ap (slice_get m.sources.names.keys) (eqb-true place i same) ∙ named)
 
         apart : (place == i) ≡ false → bytes_eq n q ≡ false
         apart other = by (bytes_eq n q) refl
@@ -201,7 +208,7 @@ module _ (m : KeptMap) (n : Name) (r : Rectangle) (cell : Option ℤ) (place : �
             by false e = refl
             by true e =
                 let found_at : position (bytes_eq q) m.sources.names.keys ≡ Some i = place_is m.sources.names.keys kept.sources.apart i q named in
-                let one : place ≡ i = same_Some place i (sym at ∙ ap (λ a. position (bytes_eq a) m.sources.names.keys) (same_name n q e) ∙ found_at) in
+                let one : place ≡ i = same_Some place i (sym is.place ∙ ap (λ a. position (bytes_eq a) m.sources.names.keys) (same_name n q e) ∙ found_at) in
                 absurd (true≢false (sym (eq-eqb place i one) ∙ other))
 
         go : (k : LayerState) → slice_get m.sources.layers.items i ≡ Some k → (b : Bool) → (place == i) ≡ b → IsChangeOf (names_in m) after.names q (cond b (patched_change k p.now) (same_change k))
@@ -211,11 +218,11 @@ module _ (m : KeptMap) (n : Name) (r : Rectangle) (cell : Option ℤ) (place : �
             let head = head_undotted q (undotted (entries_in m) q (source (grid_of k)) kept.lawful.groups its) in
             left_change m kept after.names change.good.none_looped q k its (inr (change.makings q (ap (bytes_eq n) head ∙ apart other)))
 
-    pub paint_set_up : IsSetUp m edit after shift m.sources.names.keys
+    pub paint_set_up : IsSetUp m e after shift m.sources.names.keys
     paint_set_up = record {
-      said = plain;
-      attempt = paint_attempt;
-      shift_is = patch_size ∙ size_is;
+      said = is.said;
+      attempt = is.attempt;
+      shift_is = ap (λ (q : PatchState). q.size) same_patch ∙ is.size ∙ size_is;
       operands = operands;
       changes = changes;
       count = let count = kept.sources.count in omega (arith, count);
@@ -223,11 +230,12 @@ module _ (m : KeptMap) (n : Name) (r : Rectangle) (cell : Option ℤ) (place : �
 
     -- ---- what it counts
 
-    pub paint_own : (met : ℕ) → met ≡ length (met_tiles m.extent r) → counts_of_touched (touch_of edit) (names_in m) after.names ≡ record { changed = length p.now.tiles; evaluated = met; worked = 0 }
-    paint_own met is =
-        ap (counts_of_source (within n r) (names_in m) after.names n) own_making
+    pub paint_own : counts_of_touched (touch_of e) (names_in m) after.names ≡ record { changed = length p.now.tiles; evaluated = d.met; worked = 0 }
+    paint_own =
+        ap (λ touch. counts_of_touched touch (names_in m) after.names) is.touch
+        ∙ ap (counts_of_source (within n r) (names_in m) after.names n) own_making
         ∙ ap (λ k. record { changed = k; evaluated = length (source_damage m.extent (within n r) n); worked = 0 }) changed
-        ∙ ap (λ k. record { changed = length p.now.tiles; evaluated = k; worked = 0 }) (damaged ∙ sym is)
+        ∙ ap (λ k. record { changed = length p.now.tiles; evaluated = k; worked = 0 }) (damaged ∙ sym is.met)
       where
         changed : length (changed_of (names_in m) after.names n) ≡ length p.now.tiles
         changed =
@@ -240,12 +248,12 @@ module _ (m : KeptMap) (n : Name) (r : Rectangle) (cell : Option ℤ) (place : �
 
     -- ---- the map after it
 
-    module _ (prepared : Prepared) (is : IsPreparedFor m edit after shift m.sources.names.keys m.planned.names.keys m.planned.steps.items prepared) (mid m' : KeptMap) (settled : IsSettled m mid prepared) (repainted : IsRepainted mid m' place p.now) where
+    module _ (prepared : Prepared) (ready : IsPreparedFor m e after shift m.sources.names.keys m.planned.names.keys m.planned.steps.items prepared) (mid m' : KeptMap) (settled : IsSettled m mid prepared) (repainted : IsRepainted mid m' place p.now) where
       mid_sources : mid.sources ≡ m.sources
       mid_sources = ap (λ (q : KeptMap). q.sources) settled.others
 
       mid_there : slice_get mid.sources.layers.items place ≡ Some l
-      mid_there = ap (λ s. slice_get s.layers.items place) mid_sources ∙ there
+      mid_there = ap (λ s. slice_get s.layers.items place) mid_sources ∙ is.there
 
       abbrev new : LayerState
       new = repainted.layer
@@ -266,19 +274,20 @@ module _ (m : KeptMap) (n : Name) (r : Rectangle) (cell : Option ℤ) (place : �
       layers_are = repainted.layers ∙ ap (λ s. set s.layers.items place new) mid_sources
 
       own_source : source_in m'.sources n ≡ Some new
-      own_source = source_painted m.sources m'.sources n place l new names_stay layers_are at there
+      own_source = source_painted m.sources m'.sources n place l new names_stay layers_are is.place is.there
 
       other_source : (q : Name) → bytes_eq q n ≡ false → source_in m'.sources q ≡ source_in m.sources q
-      other_source q differs = source_unpainted m.sources m'.sources n place l new names_stay layers_are at there q differs
+      other_source q differs = source_unpainted m.sources m'.sources n place l new names_stay layers_are is.place is.there q differs
 
       entries_are : entries_in m' ≡ entries
       entries_are =
           ap (λ (q : KeptMap). entries_by q.extent (source_in m'.sources) q.names.entries) (repainted.others)
           ∙ ap (λ (q : KeptMap). entries_by q.extent (source_in m'.sources) q.names.entries) settled.others
-          ∙ entries_painted m.extent (source_in m.sources) (source_in m'.sources) n (λ q differs. other_source q (bytes_eq-turned n q differs)) m.names.entries kept.lawful.apart (placed_item m n kept (ap is_some at))
+          ∙ entries_painted m.extent (source_in m.sources) (source_in m'.sources) n (λ q differs. other_source q (bytes_eq-turned n q differs)) m.names.entries kept.lawful.apart (placed_item m n kept (ap is_some is.place))
           ∙ ap (λ o. put_entry (entries_in m) n (source (source_grid m.extent o))) own_source
           ∙ ap (λ z. put_entry (entries_in m) n (source (record { size = z; cells = new.cells }))) new_size
           ∙ ap (λ cs. put_entry (entries_in m) n (source (record { size = m.extent; cells = cs }))) new_cells
+          ∙ own_grid
 
       stamped : (q : Name) (k : LayerState) → source_in m'.sources q ≡ Some k → k.stamps ≡ stamps_at (seen m) after q
       stamped q k its = go (bytes_eq q n) refl
@@ -294,7 +303,7 @@ module _ (m : KeptMap) (n : Name) (r : Rectangle) (cell : Option ℤ) (place : �
               (subst (λ (cs : Cells). IsStamped m.extent l.cells cs (raised m.number 1) l.stamps new.stamps) new_cells (subst (λ (z : Size). IsStamped z l.cells new.cells (raised m.number 1) l.stamps new.stamps) size_is committed.stamps))
               ∙ ap (stamps_at (seen m) after) (sym own)
 
-      pub paint_leaves : LeavesPlan m edit after shift prepared kept paint_set_up is m'
+      pub paint_leaves : LeavesPlan m e after shift prepared kept paint_set_up ready m'
       paint_leaves = record {
         extent = ap (λ (q : KeptMap). q.extent) repainted.others ∙ ap (λ (q : KeptMap). q.extent) settled.others;
         names = ap (λ (q : KeptMap). q.names.entries) repainted.others ∙ ap (λ (q : KeptMap). q.names.entries) settled.others;

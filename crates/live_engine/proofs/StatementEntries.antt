@@ -1,5 +1,7 @@
 -- What a statement makes of the entries of a map, or why it is refused.
-use Rattle.std.proofs.Common.{◌≡◌, ◌<◌, ◌≤◌, Bool, true, false, cond, nat_lt, List, [], ◌∷◌, ◌++◌, map, length, count_by, Option, Some, None, Result, Ok, Err, IsTrue, IsFalse, refl, sym, ap, ◌∙◌, arith}
+use Rattle.std.proofs.Common.{◌≡◌, ◌<◌, ◌≤◌, Bool, true, false, cond, nat_lt, List, [], ◌∷◌, ◌++◌, map, length, count_by, Option, Some, None, Result, Ok, Err, Vec, IsTrue, IsFalse, refl, sym, ap, ◌∙◌, arith}
+use Rattle.std.specs.List.{All}
+use Rattle.std.specs.declared.alloc.Global.{Global}
 use Rattle.std.proofs.lemmas.Bool.{lt-ltb, le-ltb}
 use Rattle.std.proofs.lemmas.List.{map-append}
 use Rattle.map_words.specs.Names.{is_plain}
@@ -11,7 +13,7 @@ use Rattle.map_defs.specs.FlatNames.{IsInside, AreFlats}
 use Rattle.map_defs.specs.Statements as meant
 use Rattle.map_defs.specs.Expansion.{WrongCall, not_defined, wrong_count, expansion_of}
 use Rattle.statement_parser.specs.Formed.{IsWritten}
-use Rattle.statement_parser.specs.Views.{written_view}
+use Rattle.statement_parser.specs.Views.{op_view, written_view}
 use Rattle.statement_parser.specs.declared.line.Written.{Written}
 use Rattle.procedure_expand.specs.declared.flat.Flat.{Flat}
 use Rattle.procedure_expand.specs.Flats.{flats_view}
@@ -22,11 +24,14 @@ use Rattle.map_edits.specs.LayerDefs.{flat_layer, layers, node_of_layer, nodes_o
 use Rattle.map_edits.specs.Limits.{is_source, is_flat, is_zonal}
 use Rattle.map_edits.specs.EditForms.{define}
 use Rattle.map_edits.specs.EntriesAfter.{bounded, put_statement, define_with, entries_with}
+use Rattle.map_edits.specs.Edits.{with_entries}
 use Rattle.map_edits.specs.Attempts.{with_names, attempted}
 use Rattle.map_edits.specs.Counted.{of_attempt, accept_counted}
 use Rattle.map_edits.specs.GroupLaws.{IsSaid}
 use Rattle.map_edits.specs.Refusals.{Refusal, exists_already, beyond, statements, zonals, cycle, no_procedure, wrong_terms}
 use Rattle.procedure_expand.proofs.Plain.{plain_undotted}
+use Rattle.map_edits.proofs.LawfulEdits.{entries_good, good_of}
+use Rattle.op_jobs.specs.Ranges.{HasRanges}
 use Rattle.kept_map.specs.Groups.{statement_nodes}
 use Rattle.kept_map.specs.Maps.{entries_in, names_in, seen}
 use Rattle.kept_map.specs.Keeps.{IsKept}
@@ -35,7 +40,9 @@ use Rattle.kept_map.proofs.Few.{few_nodes}
 use Rattle.kept_map.proofs.Groupings.{nodes_in_groups, groups_put}
 use Rattle.live_engine.specs.Accepts.{Refuses, which_of}
 use Rattle.live_engine.specs.Counting.{IsBeyond}
-use Rattle.live_engine.specs.Drafts.{defines, entries_with_it, state_with_it, groups_with_it}
+use Rattle.live_engine.specs.Defining.{defines, entries_with_it, groups_with_it}
+use Rattle.live_engine.specs.Drafts.{IsDraftOf}
+use Rattle.live_engine.specs.declared.drafts.Change.TheVariants.{Statement}
 use Rattle.live_engine.specs.Expanding.{StandsFor}
 use Rattle.live_engine.specs.Standing.{standing_of}
 use Rattle.live_engine.specs.declared.limits.Kind.{Kind}
@@ -86,7 +93,7 @@ statement_own n fs named =
 -- ---- a statement of a map
 
 module _ (m : KeptMap) (keeps : IsKept m) (n : Name) (written : Written) where
-  pub defines_said : IsTrue (is_plain n) → IsWritten (written_view written) → IsSaid (defines n written)
+  defines_said : IsTrue (is_plain n) → IsWritten (written_view written) → IsSaid (defines n written)
   defines_said plain formed = (plain_undotted n plain, written_undotted (written_view written) formed)
 
   refused_names : (r : Refusal) → entries_with m.procedures (names_in m) (define n (written_view written)) ≡ Err r → accept_counted (seen m) (defines n written) ≡ Err r
@@ -164,7 +171,7 @@ module _ (m : KeptMap) (keeps : IsKept m) (n : Name) (written : Written) where
           ∙ ap nodes_in (groups_put (entries_in m) n (written_view written) (flats_view fs)) ∙ nodes_in_groups (entries_with_it m n written fs)
 
       module _ (few : IsBeyond (entries_with_it m n written fs) None) where
-        pub sources_with_few : count_by is_source (entries_with_it m n written fs) ≤ 32
+        sources_with_few : count_by is_source (entries_with_it m n written fs) ≤ 32
         sources_with_few = let most = keeps.sources_few in let less = sources_put (entries_in m) n (written_view written) (flats_view fs) in omega (arith, most, less)
 
         pub fits_graph : AreFlats (IsInside n) n [] (flats_view fs) → FitsAs m.graph n (statement_nodes (flats_view fs))
@@ -182,8 +189,29 @@ module _ (m : KeptMap) (keeps : IsKept m) (n : Name) (written : Written) where
         defined_cycle looped = (refused_names (cycle n) (puts_it ∙ bounded_within n (entries_with_it m n written fs) true few (ap (λ nodes. is_looped nodes n) (sym graph_nodes) ∙ looped)), refl)
 
         module _ (alone : IsFalse (is_looped (nodes_in (groups_with_it m n fs)) n)) where
-          pub defined_entries : entries_after_it ≡ Ok (entries_with_it m n written fs)
+          defined_entries : entries_after_it ≡ Ok (entries_with_it m n written fs)
           defined_entries = puts_it ∙ bounded_within n (entries_with_it m n written fs) false few (ap (λ nodes. is_looped nodes n) (sym graph_nodes) ∙ alone)
 
-          pub defined_attempt : attempted (seen m) (defines n written) ≡ Ok (state_with_it m n written fs)
+          defined_attempt : attempted (seen m) (defines n written) ≡ Ok (record (seen m) { names = with_entries (names_in m) (entries_with_it m n written fs) })
           defined_attempt = ap (with_names (seen m) (define n (written_view written))) defined_entries
+
+  -- ---- the draft
+
+  pub defined_draft : (no_source : IsOther) (flats : Vec Flat Global) (expands : expansion_of m.procedures n (written_view written) ≡ Ok (flats_view flats.items)) (few : IsBeyond (entries_with_it m n written flats.items) None)
+      → IsFalse (is_looped (nodes_in (groups_with_it m n flats.items)) n) → (graph : List Group) → graph ≡ groups_with_it m n flats.items → IsTrue (is_plain n) → IsWritten (written_view written) → All (λ (f : Flat). HasRanges (op_view f.op)) flats.items
+      → IsDraftOf m (defines n written) n (Statement written flats) graph
+  defined_draft no_source flats expands few alone graph graph_is plain formed ranges =
+      let fs = flats.items in
+      let said = defines_said plain formed in
+      let good = (entries_good m.procedures (names_in m) (define n (written_view written)) (entries_with_it m n written fs) keeps.lawful.made (good_of (seen m) keeps.lawful) said (defined_entries no_source fs expands few alone)).good in
+      record {
+        plain = plain;
+        said = said;
+        touch = refl;
+        attempt = defined_attempt no_source fs expands few alone;
+        lawful = record { made = keeps.lawful.made; groups = good.groups; apart = good.apart; none_looped = good.none_looped };
+        fits = record { formed = formed; ranges = ranges; other = no_source };
+        graph_is = graph_is ∙ ap (λ (g : List Group). put_group g n (statement_nodes (flats_view fs))) keeps.graph_is ∙ groups_put (entries_in m) n (written_view written) (flats_view fs);
+        sources_few = sources_with_few no_source fs expands few;
+        flats_few = few.0;
+      }

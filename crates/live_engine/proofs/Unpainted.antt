@@ -1,21 +1,32 @@
--- Why a source is not painted.
-use Rattle.std.proofs.Common.{◌≡◌, true, false, cond, position, Option, Some, None, is_some, Ok, Err, bytes_eq, refl, sym, ap, ◌∙◌, ℤ}
+-- When a source is painted, and why not.
+use Rattle.std.proofs.Common.{◌≡◌, true, false, cond, List, length, position, slice_get, Option, Some, None, is_some, Ok, Err, bytes_eq, refl, sym, ap, ◌∙◌, ℤ}
 use Rattle.std.proofs.lemmas.Bool.{true≢false, false≢true}
+use Rattle.map_nums.specs.Grids.{Grid}
 use Rattle.map_defs.specs.Ops.{Name}
+use Rattle.map_defs.specs.MadeProcedures.{IsUndotted}
+use Rattle.layer_tiles.specs.Changes.{patched_change}
 use Rattle.layer_tiles.specs.Layers.{LayerState}
-use Rattle.map_edits.specs.Entries.{Def, source, statement, find_def, put_entry}
+use Rattle.layer_tiles.specs.Patches.{patched}
+use Rattle.map_edits.specs.Entries.{Def, source, statement, Entry, find_def, put_entry}
 use Rattle.map_edits.specs.EditForms.{Rectangle, paint}
 use Rattle.map_edits.specs.EntriesAfter.{paint_source}
 use Rattle.map_edits.specs.Painting.{is_within, painted}
 use Rattle.map_edits.specs.Refusals.{unknown, is_derived, wrong_size}
 use Rattle.map_edits.specs.Attempts.{with_names, attempted}
 use Rattle.map_edits.specs.WholeEdits.{of_names}
+use Rattle.map_edits.specs.GroupLaws.{IsLawful}
+use Rattle.map_edits.proofs.LawfulEdits.{good_of, entries_good}
+use Rattle.map_waves.specs.Operands.{IsOperand}
 use Rattle.edit_plans.specs.Planned.{is_source_node}
 use Rattle.kept_map.specs.Maps.{grid_of, source_in, entries_in, names_in, seen}
 use Rattle.kept_map.specs.Keeps.{IsKept}
 use Rattle.kept_map.specs.declared.maps.KeptMap.{KeptMap}
 use Rattle.kept_map.proofs.Given.{source_node}
 use Rattle.kept_map.proofs.Naming.{source_def}
+use Rattle.live_engine.specs.Painting.{met_tiles}
+use Rattle.live_engine.specs.Repainting.{IsRepaintOf, repainted_state}
+use Rattle.live_engine.specs.declared.repainting.Repaint.{Repaint}
+use Rattle.live_engine.proofs.PaintedMaps.{layer_size}
 
 module _ (m : KeptMap) (kept : IsKept m) (n : Name) (r : Rectangle) (cell : Option ℤ) where
   painting : (o : Option Def) → find_def (entries_in m) n ≡ o → attempted (seen m) (of_names (paint n r cell)) ≡ with_names (seen m) (paint n r cell) (paint_source (names_in m) n r cell o)
@@ -41,3 +52,42 @@ module _ (m : KeptMap) (kept : IsKept m) (n : Name) (r : Rectangle) (cell : Opti
   paint_outside l there out =
       painting (Some (source (grid_of l))) (source_def m n kept l there)
       ∙ ap (λ b. with_names (seen m) (paint n r cell) (cond b (Ok (put_entry (entries_in m) n (source (painted m.extent r cell (grid_of l))))) (Err (wrong_size m.extent)))) out
+
+  module _ (l : LayerState) (plain : IsUndotted n) (found : source_in m.sources n ≡ Some l) (on : is_within m.extent r ≡ true) where
+    abbrev grid : Grid
+    grid = painted m.extent r cell (grid_of l)
+
+    abbrev entries : List Entry
+    entries = put_entry (entries_in m) n (source grid)
+
+    entries_are : paint_source (names_in m) n r cell (find_def (entries_in m) n) ≡ Ok entries
+    entries_are = ap (paint_source (names_in m) n r cell) (source_def m n kept l found) ∙ ap (λ b. cond b (Ok entries) (Err (wrong_size m.extent))) on
+
+    pub paint_attempt : attempted (seen m) (of_names (paint n r cell)) ≡ Ok (repainted_state (seen m) n grid)
+    paint_attempt = ap (with_names (seen m) (paint n r cell)) entries_are
+
+    pub paint_lawful : IsLawful (repainted_state (seen m) n grid)
+    paint_lawful =
+        let good = (entries_good m.procedures (names_in m) (paint n r cell) entries kept.lawful.made (good_of (seen m) kept.lawful) plain entries_are).good in
+        record { made = kept.lawful.made; groups = good.groups; apart = good.apart; none_looped = good.none_looped }
+
+    pub paint_draft : (d : Repaint) → position (bytes_eq n) m.sources.names.keys ≡ Some d.place → slice_get m.sources.layers.items d.place ≡ Some l → d.patch.size ≡ l.size
+        → patched l.size l.cells d.patch.tiles ≡ (painted l.size r cell (grid_of l)).cells → IsOperand l.size (patched_change l d.patch) → d.met ≡ length (met_tiles l.size r) → IsRepaintOf m (of_names (paint n r cell)) n grid d
+    paint_draft d at there size cells operand met =
+        let sized = layer_size m kept d.place l there in
+        record {
+          plain = plain;
+          said = plain;
+          rectangle = r;
+          touch = refl;
+          attempt = paint_attempt;
+          lawful = paint_lawful;
+          layer = l;
+          place = at;
+          there = there;
+          grid_size = refl;
+          size = size;
+          cells = cells ∙ ap (λ z. (painted z r cell (grid_of l)).cells) sized;
+          operand = operand;
+          met = met ∙ ap (λ z. length (met_tiles z r)) sized;
+        }

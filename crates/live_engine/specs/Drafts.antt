@@ -1,53 +1,138 @@
--- A statement that may be put among the names of a map, and the state that it would make.
-use Rattle.std.specs.Prelude.{◌≡◌, List, None, Some, Result, Ok, Err, IsFalse}
-use Rattle.std.specs.List.{All}
-use Rattle.map_nums.specs.Grids.{Grid}
+-- An edit of a name before it is carried out: what stands for the name afterwards, the graph, and the state that the edit would make.
+use Rattle.std.specs.Prelude.{◌≡◌, ◌<◌, ◌≤◌, List, [], ◌∷◌, ◌++◌, length, count_by, position, Some, None, Result, Ok, Err, bytes_eq, IsTrue}
+use Rattle.std.specs.List.{All, IsDistinct}
+use Rattle.indexmap.specs.IndexMap.{spare}
+use Rattle.map_nums.specs.Counts.{raised}
+use Rattle.map_nums.specs.Grids.{Size, Grid}
+use Rattle.map_words.specs.Names.{is_plain}
 use Rattle.map_defs.specs.Ops.{Name}
-use Rattle.map_defs.specs.Depths.{is_looped}
-use Rattle.map_defs.specs.Expansion.{expansion_of}
+use Rattle.layer_tiles.specs.Layers.{LayerState, IsLayer, layer_of}
+use Rattle.layer_tiles.specs.Tiles.{tiles_in}
+use Rattle.statement_parser.specs.Formed.{IsWritten}
 use Rattle.statement_parser.specs.Views.{op_view, written_view}
-use Rattle.statement_parser.specs.declared.line.Written.{Written}
+use Rattle.statement_parser.specs.declared.line.Written.{Written as Given}
 use Rattle.procedure_expand.specs.declared.flat.Flat.{Flat}
 use Rattle.procedure_expand.specs.Flats.{flats_view}
-use Rattle.statement_graph.specs.Groups.{Group, nodes_in, put_group}
-use Rattle.map_edits.specs.Entries.{source, statement, Entry, find_def, put_entry}
-use Rattle.map_edits.specs.EditForms.{define}
-use Rattle.map_edits.specs.Edits.{with_entries}
-use Rattle.map_edits.specs.WholeStates.{WholeState}
-use Rattle.map_edits.specs.WholeEdits.{WholeEdit, of_names}
+use Rattle.statement_graph.specs.Groups.{Group}
 use Rattle.op_jobs.specs.Ranges.{HasRanges}
-use Rattle.kept_map.specs.Groups.{statement_nodes}
-use Rattle.kept_map.specs.Maps.{entries_in, names_in, seen}
+use Rattle.map_edits.specs.Entries.{source, statement, Entry, find_def, put_entry, drop_entry}
+use Rattle.map_edits.specs.LayerDefs.{layers}
+use Rattle.map_edits.specs.EditCounts.{Counts}
+use Rattle.map_edits.specs.Edits.{with_entries}
+use Rattle.map_edits.specs.Marks.{Mark, drop_marks}
+use Rattle.map_edits.specs.Attempts.{attempted}
+use Rattle.map_edits.specs.Touches.{whole, touch_of}
+use Rattle.map_edits.specs.Limits.{is_source, is_flat, most_sources, most_flats}
+use Rattle.map_edits.specs.GroupLaws.{IsLawful, IsSaid}
+use Rattle.map_edits.specs.WholeStates.{WholeState}
+use Rattle.map_edits.specs.WholeEdits.{WholeEdit}
+use Rattle.map_waves.specs.declared.plans.Shift.{Shift}
+use Rattle.edit_plans.specs.SourceCounts.{joined}
+use Rattle.edit_plans.specs.declared.planning.Planned.{Planned}
+use Rattle.kept_map.specs.Groups.{groups_of}
+use Rattle.kept_map.specs.Maps.{grid_of, entries_in, seen}
+use Rattle.kept_map.specs.Edits.{IsSetUp}
+use Rattle.kept_map.specs.Repairs.{IsPreparedFor}
+use Rattle.kept_map.specs.Rooms.{HasNextRoom}
 use Rattle.kept_map.specs.declared.maps.KeptMap.{KeptMap}
+use Rattle.kept_map.specs.declared.repairing.Prepared.{Prepared}
 use Rattle.live_engine.specs.Accepts.{Refuses}
-use Rattle.live_engine.specs.Counting.{IsBeyond}
-use Rattle.live_engine.specs.declared.defining.Draft.{Draft}
+use Rattle.live_engine.specs.declared.drafts.Change.{Change}
+use Rattle.live_engine.specs.declared.drafts.Change.TheVariants.{Source, Statement, Out}
+use Rattle.live_engine.specs.declared.drafts.Draft.{Draft}
 use Rattle.live_engine.specs.declared.edits.Refusal.{Refusal}
 
-abbrev pub defines : Name → Written → WholeEdit
-defines n written = of_names (define n (written_view written))
+-- ---- the state after
 
--- the entries with the statement
-abbrev pub entries_with_it : KeptMap → Name → Written → List Flat → List Entry
-entries_with_it m n written flats = put_entry (entries_in m) n (statement (written_view written) (flats_view flats))
+abbrev pub entries_after : List Entry → Name → Change → List Entry
+entries_after es n (Source key layer) = put_entry es n (source (grid_of layer))
+entries_after es n (Statement written flats) = put_entry es n (statement (written_view written) (flats_view flats.items))
+entries_after es n Out = drop_entry es n
 
-abbrev pub state_with_it : KeptMap → Name → Written → List Flat → WholeState
-state_with_it m n written flats = record (seen m) { names = with_entries (names_in m) (entries_with_it m n written flats) }
+-- a name that is out loses its labels and symbols
+abbrev pub marks_left : List Mark → Name → Change → List Mark
+marks_left marks n (Source key layer) = marks
+marks_left marks n (Statement written flats) = marks
+marks_left marks n Out = drop_marks marks n
 
--- the graph with it
-abbrev pub groups_with_it : KeptMap → Name → List Flat → List Group
-groups_with_it m n flats = put_group m.graph n (statement_nodes (flats_view flats))
+abbrev pub state_after : WholeState → Name → Change → WholeState
+state_after s n change = record s { names = with_entries s.names (entries_after s.names.entries n change); labels = marks_left s.labels n change; symbols = marks_left s.symbols n change }
 
--- the name is no source's, these are the flat statements, there are not too many, and the name isn't reached from its own needs
-pub record IsDraft (m : KeptMap) (n : Name) (written : Written) (flats : List Flat) (graph : List Group) : Type 0 where
-  pub other : (grid : Grid) → find_def (entries_in m) n ≡ Some (source grid) → ⊥
-  pub expands : expansion_of m.procedures n (written_view written) ≡ Ok (flats_view flats)
+-- the names of the sources
+abbrev pub sources_after : List Name → Name → Change → List Name
+sources_after keys n (Source key layer) = keys ++ n ∷ []
+sources_after keys n (Statement written flats) = keys
+sources_after keys n Out = keys
+
+-- the flat statements that the edit writes
+abbrev pub flats_written : Change → List Flat
+flats_written (Source key layer) = []
+flats_written (Statement written flats) = flats.items
+flats_written Out = []
+
+-- all tiles of a new source count beside those of the statements
+abbrev pub counts_with : Size → Change → Counts → Counts
+counts_with size (Source key layer) counts = joined (record { changed = tiles_in size; evaluated = tiles_in size; worked = 0 }) counts
+counts_with size (Statement written flats) counts = counts
+counts_with size Out counts = counts
+
+-- ---- drafts
+
+-- a name that isn't there, and a layer of the map's size with the edit's number for its stamps
+pub record IsNewSource (m : KeptMap) (n key : Name) (layer : LayerState) : Type 0 where
+  pub same : key ≡ n
+  pub absent : find_def (entries_in m) n ≡ None
+  pub stamped : layer ≡ layer_of m.extent layer.cells (raised m.number 1)
+  pub whole : IsLayer layer
+
+-- a statement that is formed, of a name that is no source's
+pub record IsNextStatement (m : KeptMap) (n : Name) (written : Given) (flats : List Flat) : Type 0 where
+  pub formed : IsWritten (written_view written)
   pub ranges : All (λ (f : Flat). HasRanges (op_view f.op)) flats
-  pub few : IsBeyond (entries_with_it m n written flats) None
-  pub graph_is : graph ≡ groups_with_it m n flats
-  pub alone : IsFalse (is_looped (nodes_in (groups_with_it m n flats)) n)
+  pub other : (grid : Grid) → find_def (entries_in m) n ≡ Some (source grid) → ⊥
 
--- or why it may not
-abbrev pub IsDrafted : KeptMap → Name → Written → Result Draft Refusal → Type 0
-IsDrafted m n written (Ok d) = IsDraft m n written d.flats.items d.graph
-IsDrafted m n written (Err refusal) = Refuses (seen m) (seen m) (defines n written) refusal
+abbrev pub IsFit : KeptMap → Name → Change → Type 0
+IsFit m n (Source key layer) = IsNewSource m n key layer
+IsFit m n (Statement written flats) = IsNextStatement m n written flats.items
+IsFit m n Out = Unit {0}
+
+-- the edit can be tried, its fault apart
+pub record IsDraftOf (m : KeptMap) (e : WholeEdit) (n : Name) (change : Change) (graph : List Group) : Type 0 where
+  pub plain : IsTrue (is_plain n)
+  pub said : IsSaid e
+  pub touch : touch_of e ≡ whole n
+  pub attempt : attempted (seen m) e ≡ Ok (state_after (seen m) n change)
+  pub lawful : IsLawful (state_after (seen m) n change)
+  pub fits : IsFit m n change
+  pub graph_is : graph ≡ groups_of (entries_after (entries_in m) n change)
+  pub sources_few : count_by is_source (entries_after (entries_in m) n change) ≤ most_sources
+  pub flats_few : count_by is_flat (layers (entries_after (entries_in m) n change)) ≤ most_flats
+
+abbrev pub IsDraft : KeptMap → WholeEdit → Draft → Type 0
+IsDraft m e d = IsDraftOf m e d.name d.change d.graph
+
+-- or why it can't
+abbrev pub IsDrafted : KeptMap → WholeEdit → Result Draft Refusal → Type 0
+IsDrafted m e (Ok d) = IsDraft m e d
+IsDrafted m e (Err refusal) = Refuses (seen m) (seen m) e refusal
+
+-- ---- repaired
+
+-- the statements are planned and repaired
+pub record IsRepairedFor (m : KeptMap) (e : WholeEdit) (n : Name) (change : Change) (planned : Planned) (prepared : Prepared) : Type 0 where
+  pub shift : Shift
+  pub set_up : IsSetUp m e (state_after (seen m) n change) shift (sources_after m.sources.names.keys n change)
+  pub ready : IsPreparedFor m e (state_after (seen m) n change) shift (sources_after m.sources.names.keys n change) planned.names.keys planned.steps.items prepared
+
+-- ---- room
+
+abbrev pub HasRoomFor : KeptMap → Change → Type 0
+HasRoomFor m (Source key layer) = HasNextRoom m
+HasRoomFor m (Statement written flats) = 0 < spare m.names
+HasRoomFor m Out = Unit {0}
+
+-- a source after all others, or a source that can be taken out
+abbrev pub CanEnter : KeptMap → Name → Change → Type 0
+CanEnter m n (Source key layer) = HasNextRoom m × (key ≡ n) × (position (bytes_eq n) m.sources.names.keys ≡ None)
+CanEnter m n (Statement written flats) = 0 < spare m.names
+CanEnter m n Out = IsDistinct bytes_eq m.sources.names.keys × (length m.sources.layers.items ≡ length m.sources.names.keys)

@@ -12,9 +12,11 @@ use Rattle.map_waves.specs.Placing.{ArePlaced}
 use Rattle.edit_plans.specs.declared.planning.Planned.{Planned}
 use Rattle.kept_map.specs.Commits.{Rests}
 use Rattle.kept_map.specs.Lowering.{IsTakenOut}
-use Rattle.kept_map.specs.declared.maps.Item.TheVariants.{Source}
+use Rattle.kept_map.specs.declared.maps.Item.TheVariants.{Source, Statement}
 use Rattle.kept_map.specs.declared.maps.KeptMap.{KeptMap}
 use Rattle.kept_map.specs.declared.repairing.Prepared.{Prepared}
+use Rattle.live_engine.specs.declared.drafts.Change.{Change}
+use Rattle.live_engine.specs.declared.drafts.Change.TheVariants as changes
 
 -- the statements that were prepared, their plan and their graph; one more edit is counted
 pub record ArePut (old new : KeptMap) (graph : List Group) (planned : Planned) (prepared : Prepared) : Type 0 where
@@ -39,3 +41,9 @@ pub record IsNameOut (old new : KeptMap) (name : Name) : Type 0 where
   pub plan_names : new.planned.names.keys ≡ old.planned.names.keys
   pub taken : IsTakenOut (position (bytes_eq name) old.sources.names.keys) old.sources new.sources old.planned.steps.items new.planned.steps.items
   pub apart : IsDistinct bytes_eq new.sources.names.keys
+
+-- what stands for a name is put in place
+abbrev pub IsEntered : KeptMap → KeptMap → Name → Change → Type 0
+IsEntered old new n (changes.Source key layer) = IsSourcePut old new n layer
+IsEntered old new n (changes.Statement written flats) = (new ≡ record old { names = new.names }) × (new.names.entries ≡ insert_entry bytes_eq old.names.entries n (Statement written flats))
+IsEntered old new n changes.Out = IsNameOut old new n

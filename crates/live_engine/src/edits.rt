@@ -33,7 +33,7 @@ pub enum Which {
     Sources,
     /// 64 flat statements.
     Statements,
-    /// 24 of them Zonal.
+    /// 12 of them Zonal.
     Zonals,
     /// 4096 labels.
     Labels,

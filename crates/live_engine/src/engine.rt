@@ -74,7 +74,7 @@ fn apply_line<M: Tally + Send, G: Gate + Sync, R: Threads + Sync>(
 {
     match line {
         LineEdit::Define { name, written } => { define(map, crew, name, written, tally) }
-        LineEdit::Procedure(procedure) => { define_procedure(map, crew, procedure, tally) }
+        LineEdit::Procedure(procedure) => { define_procedure(map, crew.alloc, procedure) }
         LineEdit::Paint {
             name,
             r1,
@@ -93,8 +93,8 @@ fn apply_line<M: Tally + Send, G: Gate + Sync, R: Threads + Sync>(
         }
         LineEdit::New { name, cell } => { new_layer(map, crew, name, cell, tally) }
         LineEdit::Drop { name } => drop_name(map, crew, name, tally),
-        LineEdit::Label { name, value, text } => { label(map, crew, name, value, text, tally) }
-        LineEdit::Symbol { name, value, sign } => { symbol(map, crew, name, value, sign, tally) }
+        LineEdit::Label { name, value, text } => label(map, crew.alloc, name, value, text),
+        LineEdit::Symbol { name, value, sign } => symbol(map, crew.alloc, name, value, sign),
     }
 }
 

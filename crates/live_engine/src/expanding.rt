@@ -9,13 +9,25 @@ ghost use Rattle.statement_parser.specs.Formed.{IsWritten, IsProcedure};
 ghost use Rattle.statement_parser.specs.Views.{op_view, written_view};
 ghost use Rattle.procedure_expand.specs.Flats.{flats_view};
 ghost use Rattle.op_jobs.specs.Ranges.{HasRanges};
-ghost use Rattle.live_engine.specs.Expanding.{StandsFor};
+ghost use Rattle.live_engine.specs.Expanding.{StandsFor, not_expanded};
 
 use crate::edits::{Refusal, Which};
 use map_words::Name;
 use procedure_expand::{ExpandRefusal, Flat, Procs, expand};
 use statement_parser::Written;
 use std::alloc::Global;
+
+/// Why a call isn't expanded, as a refusal of the edit.
+pub(crate) fn not_expanded(refusal: ExpandRefusal) -> Refusal
+    ensures { result ≡ not_expanded refusal }
+{
+    match refusal {
+        ExpandRefusal::Unknown(procedure) => Refusal::NoProcedure(procedure),
+        ExpandRefusal::Count(given, wanted) => Refusal::Terms(given, wanted),
+        ExpandRefusal::Limit => Refusal::Limit(Which::Statements),
+        ExpandRefusal::NoMemory => Refusal::NoMemory,
+    }
+}
 
 /// The flat statements that a statement stands for, its own the last.
 ///
@@ -37,9 +49,6 @@ pub(crate) fn expanded(
 {
     match expand(alloc, procedures, name, written) {
         Ok(flats) => Ok(flats),
-        Err(ExpandRefusal::Unknown(procedure)) => Err(Refusal::NoProcedure(procedure)),
-        Err(ExpandRefusal::Count(given, wanted)) => Err(Refusal::Terms(given, wanted)),
-        Err(ExpandRefusal::Limit) => Err(Refusal::Limit(Which::Statements)),
-        Err(ExpandRefusal::NoMemory) => Err(Refusal::NoMemory),
+        Err(refusal) => Err(not_expanded(refusal)),
     }
 }

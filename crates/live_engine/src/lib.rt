@@ -7,6 +7,7 @@
 mod adding;
 mod counting;
 mod defining;
+mod drafts;
 mod dropping;
 mod edits;
 mod engine;

@@ -9,6 +9,9 @@ use statement_parser::{Op, Reach};
 /// A layer that was not there is worth a second worker from so many tiles on.
 const SEVERAL: u64 = 4;
 
+/// What a tile takes of an operation that only goes through its operands' cells.
+const PLAINEST: u64 = 4;
+
 /// What a repair takes of a layer that one job repairs, for each tile in which an operand changed.
 const REPAIR: u64 = 128;
 
@@ -26,10 +29,11 @@ pub(crate) fn weight_of(op: &Op, own: &Own, kept: Option<&Kept<Beside>>) -> u64 
     }
 }
 
-/// What so many tiles of an operation take.
+/// What so many tiles of an operation take. Four of the plainest are done before a thread has begun, so they are worth none.
 fn tiles_weight(op: &Op, tiles: u64, is_fresh: bool) -> u64 {
-    let weight = tile_weight(op).saturating_mul(tiles);
-    if is_fresh && tiles >= SEVERAL {
+    let each = tile_weight(op);
+    let weight = each.saturating_mul(tiles);
+    if is_fresh && tiles >= SEVERAL && each > PLAINEST {
         return weight.max(WORTH_A_WORKER);
     }
     weight
@@ -52,7 +56,7 @@ fn tile_weight(op: &Op) -> u64 {
         Op::Sight { .. } => 256,
         Op::Spread { .. } => 16,
         Op::Flow { .. } => 24,
-        _ => 4,
+        _ => PLAINEST,
     }
 }
 

@@ -4,7 +4,7 @@ use map_outside::Counts;
 use std::alloc::Global;
 use std::sync::atomic::{AtomicU64, Ordering};
 use std::test::Fail;
-use tile_workers::{Gate, NoGate};
+use tile_workers::{Board, Gate, NoGate};
 
 // Every job is done, also beside jobs that have no answer, and the tally has each job's looks and picks.
 #[test]
@@ -70,6 +70,21 @@ fn one_worker_forks_nothing(rt: HostRuntime) -> Result<(), Fail> {
     assert_eq!(rt; part.looks(), 6);
     whole.absorb(part);
     assert_eq!(rt; whole.looks(), 6);
+    Ok(())
+}
+
+/// Each draw, by whichever seat, gives how many numbers were drawn before.
+#[test]
+fn seats_draw_from_one_board(rt: HostRuntime) -> Result<(), Fail> {
+    let (board, mut seat) = Board::new(rt.alloc())?;
+    let first = board.draw(&mut seat);
+    let mut other = board.split(&mut seat);
+    let second = board.draw(&mut other);
+    let third = board.draw(&mut seat);
+    board.join(&mut seat, other);
+    let fourth = board.draw(&mut seat);
+    let count = board.close(seat);
+    assert_eq!(rt; [first, second, third, fourth, count], [0, 1, 2, 3, 4]);
     Ok(())
 }
 

@@ -5,7 +5,7 @@ ghost use Rattle.region_labels.specs.Provisional.{IsLabelBand};
 ghost use Rattle.region_labels.specs.Moves.{moved_label, IsUpTo};
 
 use crate::first::labels_of;
-use crate::labels::label_of;
+use crate::kept::Label;
 use layer_tiles::{Cell, Extent, NoMemory};
 use std::alloc::Global;
 
@@ -15,24 +15,24 @@ use std::alloc::Global;
 pub struct LabelBand {
     /// The first row.
     pub(crate) first: u32,
-    pub(crate) labels: Vec<Cell>,
+    pub(crate) labels: Vec<Label>,
     /// How many places have a label.
     pub(crate) count: u64,
 }
 
 /// A label of a place that lies `by` places further on the map than it was numbered.
-fn moved_label(label: Cell, by: u32) -> Cell
+fn moved_label(label: Label, by: u32) -> Label
     requires { IsUpTo by label }
     ensures { result ≡ moved_label by label }
 {
     match label.get() {
-        Some(number) => label_of(number as u32 - 1 + by),
+        Some(number) => Label::of(number as u32 - 1 + by),
         None => label,
     }
 }
 
 /// Moves each label `by` places.
-fn move_labels(labels: &mut [Cell], by: u32)
+fn move_labels(labels: &mut [Label], by: u32)
     requires { (k : ℕ) → k < length labels.old → IsUpTo by (cell_at labels.old k) }
     ensures { labels.new ≡ map (moved_label by) labels.old }
 {

@@ -9,7 +9,7 @@ ghost use Rattle.region_labels.specs.Repairs.{IsLabelStep, IsHandled};
 ghost use Rattle.region_labels.specs.Lists.{labelled, flood_of, MayGet, AreHandledTo};
 ghost use Rattle.region_labels.specs.Runs.{IsRunTo, IsClose, IsRunGrown, IsRunRow, IsRunRound};
 
-use crate::labels::label_of;
+use crate::kept::Label;
 use crate::lists::LabelList;
 use layer_tiles::{Cell, Extent, NoMemory};
 use std::alloc::Global;
@@ -27,7 +27,7 @@ struct Run {
 fn reach_run(
     cells: &[Cell],
     value: Cell,
-    label: Cell,
+    label: Label,
     at: u32,
     end: u32,
     list: &mut LabelList,
@@ -58,7 +58,7 @@ fn reach_run(
 fn reach_row(
     cells: &[Cell],
     value: Cell,
-    label: Cell,
+    label: Label,
     run: &Run,
     row: u32,
     list: &mut LabelList,
@@ -92,7 +92,7 @@ fn reach_row(
 fn reach_round(
     cells: &[Cell],
     value: Cell,
-    label: Cell,
+    label: Label,
     at: u32,
     count: u32,
     list: &mut LabelList,
@@ -125,7 +125,7 @@ fn reach_round(
 fn reach_region(
     cells: &[Cell],
     value: Cell,
-    label: Cell,
+    label: Label,
     root: u32,
     list: &mut LabelList,
 ) -> Result<(), NoMemory>
@@ -170,7 +170,7 @@ fn label_region(cells: &[Cell], at: u32, list: &mut LabelList) -> Result<u64, No
     if value.get().is_none() {
         return Ok(0);
     }
-    reach_region(cells, value, label_of(at), at, list)?;
+    reach_region(cells, value, Label::of(at), at, list)?;
     Ok(list.found().len() as u64)
 }
 
@@ -196,7 +196,7 @@ pub fn labels_of(
     alloc: Global,
     extent: Extent,
     cells: &[Cell],
-) -> Result<(Vec<Cell>, u64), NoMemory>
+) -> Result<(Vec<Label>, u64), NoMemory>
     requires { length cells.now ≡ cells_in extent }
     ensures regions { IfOk result (λ r. AreRegions extent cells.now r.0.items) }
     ensures count { IfOk result (λ r. r.1 ≡ length (filter (λ i. is_some (cell_at r.0.items i)) (places extent))) }

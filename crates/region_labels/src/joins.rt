@@ -8,14 +8,14 @@ ghost use Rattle.region_labels.specs.Roots.{root_in};
 ghost use Rattle.region_labels.specs.Provisional.{AreProvisional, AreTied, IsJoinStep, IsTiedTo, IsTiedAbove, IsLabelBand, AreLabelBands, IsLabelList};
 
 use crate::bands::LabelBand;
-use crate::labels::label_of;
+use crate::kept::Label;
 use crate::roots::{root_of, told};
 use crate::shows::ProvisionalLabels;
 use layer_tiles::{Cell, Extent, NoMemory};
 use std::alloc::Global;
 
 /// Makes the labels of two places of one region lead to one place, if they don't.
-fn join(extent: Extent, cells: &[Cell], one: u32, other: u32, labels: &mut [Cell])
+fn join(extent: Extent, cells: &[Cell], one: u32, other: u32, labels: &mut [Label])
     requires few { length labels.old ≤ cells_in extent }
     requires provisional { AreProvisional extent cells.now labels.old }
     requires one { one < length labels.old }
@@ -27,11 +27,11 @@ fn join(extent: Extent, cells: &[Cell], one: u32, other: u32, labels: &mut [Cell
     let _cells = extent.cells();
     let a = root_of(labels, one);
     let b = root_of(labels, other);
-    labels[a.max(b) as usize] = label_of(a.min(b));
+    labels[a.max(b) as usize] = Label::of(a.min(b));
 }
 
 /// Joins a place with one of the row above it, if both have one number.
-fn join_pair(extent: Extent, cells: &[Cell], above: u32, at: u32, labels: &mut [Cell])
+fn join_pair(extent: Extent, cells: &[Cell], above: u32, at: u32, labels: &mut [Label])
     requires count { length cells.now ≡ cells_in extent }
     requires few { length labels.old ≤ cells_in extent }
     requires provisional { AreProvisional extent cells.now labels.old }
@@ -48,7 +48,7 @@ fn join_pair(extent: Extent, cells: &[Cell], above: u32, at: u32, labels: &mut [
 }
 
 /// Joins the place of a row and a column with its neighbours in the row above.
-fn join_above(extent: Extent, cells: &[Cell], row: u32, column: u32, labels: &mut [Cell])
+fn join_above(extent: Extent, cells: &[Cell], row: u32, column: u32, labels: &mut [Label])
     requires count { length cells.now ≡ cells_in extent }
     requires few { length labels.old ≤ cells_in extent }
     requires provisional { AreProvisional extent cells.now labels.old }
@@ -68,7 +68,7 @@ fn join_above(extent: Extent, cells: &[Cell], row: u32, column: u32, labels: &mu
 }
 
 /// Joins the places of a row with those of the row above it.
-fn join_row(extent: Extent, cells: &[Cell], row: u32, labels: &mut [Cell])
+fn join_row(extent: Extent, cells: &[Cell], row: u32, labels: &mut [Label])
     requires count { length cells.now ≡ cells_in extent }
     requires few { length labels.old ≤ cells_in extent }
     requires provisional { AreProvisional extent cells.now labels.old }
@@ -87,7 +87,7 @@ fn add_band(
     extent: Extent,
     cells: &[Cell],
     band: &LabelBand,
-    labels: &mut Vec<Cell>,
+    labels: &mut Vec<Label>,
 ) -> Result<(), NoMemory>
     requires count { length cells.now ≡ cells_in extent }
     requires provisional { AreProvisional extent cells.now labels.old.items }
@@ -107,7 +107,7 @@ fn add_band(
 }
 
 /// Makes the label of a place tell the place to which it leads, at once.
-fn shorten(extent: Extent, cells: &[Cell], at: u32, labels: &mut [Cell])
+fn shorten(extent: Extent, cells: &[Cell], at: u32, labels: &mut [Label])
     requires few { length labels.old ≤ cells_in extent }
     requires provisional { AreProvisional extent cells.now labels.old }
     requires within { at < length labels.old }
@@ -115,12 +115,12 @@ fn shorten(extent: Extent, cells: &[Cell], at: u32, labels: &mut [Cell])
 {
     let _cells = extent.cells();
     if labels[at as usize].get().is_some() {
-        labels[at as usize] = label_of(root_of(labels, at));
+        labels[at as usize] = Label::of(root_of(labels, at));
     }
 }
 
 /// Makes the labels of a row's places, and of those that they tell, tell the places to which they lead, at once.
-fn shorten_row(extent: Extent, cells: &[Cell], row: u32, labels: &mut [Cell])
+fn shorten_row(extent: Extent, cells: &[Cell], row: u32, labels: &mut [Label])
     requires few { length labels.old ≤ cells_in extent }
     requires provisional { AreProvisional extent cells.now labels.old }
     requires within { (row + 1) * extent.columns ≤ length labels.old }
@@ -135,7 +135,7 @@ fn shorten_row(extent: Extent, cells: &[Cell], row: u32, labels: &mut [Cell])
 }
 
 /// Shortens the ways that labels lead from where bands meet: a region that winds through many bands may be joined place by place.
-fn shorten_ways(extent: Extent, cells: &[Cell], bands: &[LabelBand], labels: &mut [Cell])
+fn shorten_ways(extent: Extent, cells: &[Cell], bands: &[LabelBand], labels: &mut [Label])
     requires count { length labels.old ≡ cells_in extent }
     requires provisional { AreProvisional extent cells.now labels.old }
     requires bands { All (λ band. band.first < extent.rows) bands.now }

@@ -3,16 +3,17 @@ ghost use Rattle.std.specs.Prelude.{◌≡◌, ◌<◌, ◌≤◌, ◌++◌, ◌
 ghost use Rattle.map_nums.specs.Grids.{IsSize, cells_in, cell_at};
 ghost use Rattle.region_labels.specs.Runs.{IsBareFrom, IsRunIn};
 
-use layer_tiles::{Cell, Extent, NoMemory};
+use crate::kept::Label;
+use layer_tiles::{Extent, NoMemory};
 use std::alloc::Global;
 use std::marker::Model;
 
-/// The labels so far, null where there is none yet, and the places of the region in hand in the order in which they were
+/// The labels so far, none where there is none yet, and the places of the region in hand in the order in which they were
 /// reached.
 #[derive(Drop)]
 pub struct LabelList {
     extent: Extent,
-    labels: Vec<Cell>,
+    labels: Vec<Label>,
     found: Vec<u32>,
 }
 
@@ -34,7 +35,7 @@ impl LabelList {
         ensures { IfOk result (λ list. list ≡ record { size = extent; labels = replicate (cells_in extent) None; found = [] }) }
     {
         let count = extent.cells() as usize;
-        let labels = vec![in alloc; Cell::null(); count]?;
+        let labels = vec![in alloc; Label::none(); count]?;
         Ok(LabelList {
             extent,
             labels,
@@ -74,7 +75,7 @@ impl LabelList {
     }
 
     /// One more place of the region in hand, with its label.
-    pub fn add(&mut self, at: u32, label: Cell) -> Result<(), NoMemory>
+    pub fn add(&mut self, at: u32, label: Label) -> Result<(), NoMemory>
         requires { at < length self.old.labels }
         ensures ok { OnOk result (self.new ≡ record self.old { labels = slice_set self.old.labels at label; found = self.old.found ++ at ∷ [] }) }
         ensures err { OnErr result (self.new ≡ self.old) }
@@ -120,7 +121,7 @@ impl LabelList {
     }
 
     /// The labels, handed over.
-    pub fn into_labels(self) -> Vec<Cell>
+    pub fn into_labels(self) -> Vec<Label>
         ensures { result.items ≡ self.labels }
     {
         let LabelList { labels, .. } = self;

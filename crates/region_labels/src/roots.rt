@@ -2,10 +2,11 @@
 ghost use Rattle.std.specs.Prelude.{◌≡◌, ◌<◌, ◌≤◌, length};
 ghost use Rattle.region_labels.specs.Roots.{told_in, root_in, resolved, AreBack};
 
-use layer_tiles::{Cell, Value};
+use crate::kept::Label;
+use layer_tiles::Value;
 
 /// The place that a place's label tells: the place itself where it has none.
-pub fn told(labels: &[Cell], at: u32) -> u32
+pub fn told(labels: &[Label], at: u32) -> u32
     requires back { AreBack labels.now }
     requires within { at < length labels.now }
     ensures told { result ≡ told_in labels.now at }
@@ -18,7 +19,7 @@ pub fn told(labels: &[Cell], at: u32) -> u32
 }
 
 /// The place to which labels lead from a place.
-pub fn root_of(labels: &[Cell], at: u32) -> u32
+pub fn root_of(labels: &[Label], at: u32) -> u32
     requires back { AreBack labels.now }
     requires within { at < length labels.now }
     ensures root { result ≡ root_in labels.now at }
@@ -34,7 +35,7 @@ pub fn root_of(labels: &[Cell], at: u32) -> u32
 }
 
 /// The number, from 1, of the place to which labels lead; none where a place has no label.
-pub fn resolved(labels: &[Cell], at: u32) -> Option<Value>
+pub fn resolved(labels: &[Label], at: u32) -> Option<Value>
     requires back { AreBack labels.now }
     requires few { length labels.now ≤ 1500000 }
     requires within { at < length labels.now }

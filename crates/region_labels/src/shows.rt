@@ -6,8 +6,9 @@ ghost use Rattle.layer_tiles.specs.Answers.{IsTileAnswer};
 ghost use Rattle.layer_tiles.specs.Tiles.{tiles_in};
 ghost use Rattle.region_labels.specs.Roots.{AreBack, resolved_cells};
 
+use crate::kept::Label;
 use crate::roots::resolved;
-use layer_tiles::{Cell, Extent, KernelRefusal, Tile, Value};
+use layer_tiles::{Extent, KernelRefusal, Tile, Value};
 use map_nums::Wide;
 use std::alloc::Global;
 use tile_frame::{RowMaker, TileMaker, make_row, make_tile};
@@ -15,7 +16,7 @@ use tile_frame::{RowMaker, TileMaker, make_row, make_tile};
 /// Labels of a map that had none, place by place, which lead to those of its regions; and the units of work that they are.
 #[derive(Drop)]
 pub struct ProvisionalLabels {
-    pub(crate) labels: Vec<Cell>,
+    pub(crate) labels: Vec<Label>,
     pub worked: u64,
 }
 
@@ -46,7 +47,7 @@ impl ProvisionalLabels {
 struct LabelTile<'a> {
     extent: Extent,
     tile: u32,
-    labels: &'a [Cell],
+    labels: &'a [Label],
 }
 
 impl<'a> TileMaker for LabelTile<'a> {
@@ -73,7 +74,7 @@ impl<'a> TileMaker for LabelTile<'a> {
 /// The labels, place by place, and the place where a row begins.
 #[derive(Drop)]
 struct LabelRow<'a> {
-    labels: &'a [Cell],
+    labels: &'a [Label],
     start: u32,
 }
 

@@ -3,11 +3,12 @@ use Rattle.map_nums.specs.Grids.{Grid}
 use Rattle.map_edits.specs.EditForms.{load}
 use Rattle.map_edits.specs.EntriesAfter.{same_size}
 use Rattle.map_edits.specs.Refusals.{exists_already, wrong_size}
-use Rattle.map_edits.specs.WholeEdits.{of_names}
+use Rattle.map_edits.specs.WholeEdits.{WholeEdit, of_names}
 use Rattle.layer_tiles.specs.Layers.{LayerState}
 use Rattle.kept_map.specs.Maps.{grid_of, seen}
 use Rattle.live_engine.specs.Accepts.{Accepts, ReadsWithin}
 use Rattle.live_engine.specs.Adding.{IsAdding}
+use Rattle.live_engine.specs.Drafts.{IsDrafted}
 use Rattle.live_engine.proofs.AddedStates.{load_exists, load_size, load_adding, size_refused}
 use Rattle.live_engine.proofs.Refusing.{accept_refused}
 use Rattle.live_engine.proofs.adding.load.Goals as goal
@@ -33,7 +34,7 @@ returns-clause-accepts g c =
     let here : IsAdding s own c.args.name (grid_of c.args.layer) = load_adding s c.args.name (grid_of c.args.layer) c.requires.plain (sym c.has.ensures ∙ c.if-has.false) size in
     let adding : IsAdding r own c.args.name (grid_of c.restamp.new.self) =
     subst (λ (l : LayerState). IsAdding r own c.args.name (grid_of l)) (sym c.restamp.ensures) (subst (λ q. IsAdding q own c.args.name (grid_of c.args.layer)) (sym c.reserve.ensures.seen) here) in
-    subst (λ q. Accepts q (seen c.add_source.new.map) (of_names own) c.add_source.result) c.reserve.ensures.seen (c.add_source.ensures.accepts own adding)
+    subst (λ q. Accepts q (seen c.carry_out.new.map) (of_names own) c.carry_out.result) c.reserve.ensures.seen (c.carry_out.ensures.accepts (of_names own) (c.drafted-drafted.ensures.drafted own adding))
 
 pub returns-clause-reads : goal.returns-clause-reads
 returns-clause-reads g c =
@@ -44,4 +45,16 @@ returns-clause-reads g c =
     let here : IsAdding s own c.args.name (grid_of c.args.layer) = load_adding s c.args.name (grid_of c.args.layer) c.requires.plain (sym c.has.ensures ∙ c.if-has.false) size in
     let adding : IsAdding r own c.args.name (grid_of c.restamp.new.self) =
     subst (λ (l : LayerState). IsAdding r own c.args.name (grid_of l)) (sym c.restamp.ensures) (subst (λ q. IsAdding q own c.args.name (grid_of c.args.layer)) (sym c.reserve.ensures.seen) here) in
-    subst (λ q. ReadsWithin q (of_names own) (g.M.Tally.counts c.args.tally.now) (g.M.Tally.counts c.add_source.new.tally)) c.reserve.ensures.seen (c.add_source.ensures.reads own adding)
+    subst (λ q. ReadsWithin q (of_names own) (g.M.Tally.counts c.args.tally.now) (g.M.Tally.counts c.carry_out.new.tally)) c.reserve.ensures.seen (c.carry_out.ensures.reads (of_names own) (c.drafted-drafted.ensures.drafted own adding))
+
+pub carry_out-requires-clause-drafted : goal.carry_out-requires-clause-drafted
+carry_out-requires-clause-drafted g c =
+    let s = seen c.args.map.now in
+    let r = seen c.reserve.new.self in
+    let own = load c.args.name (grid_of c.args.layer) in
+    let size : same_size c.args.layer.size s.names.size ≡ true = ap (λ x. same_size x s.names.size) (sym c.extent.ensures.extent) ∙ sym c.same_size.ensures ∙ c.if-not-same_size.false in
+    let here : IsAdding s own c.args.name (grid_of c.args.layer) = load_adding s c.args.name (grid_of c.args.layer) c.requires.plain (sym c.has.ensures ∙ c.if-has.false) size in
+    let adding : IsAdding r own c.args.name (grid_of c.restamp.new.self) =
+    subst (λ (l : LayerState). IsAdding r own c.args.name (grid_of l)) (sym c.restamp.ensures) (subst (λ q. IsAdding q own c.args.name (grid_of c.args.layer)) (sym c.reserve.ensures.seen) here) in
+    let both : (e : WholeEdit) × IsDrafted c.reserve.new.self e c.drafted-drafted.result = (of_names own, c.drafted-drafted.ensures.drafted own adding) in
+    λ κs within. both

@@ -1,4 +1,4 @@
-use Rattle.std.proofs.Common.{◌≡◌, ◌+◌, ◌-◌, ◌*◌, ◌<◌, ◌≤◌, refl, ap, sym, subst, ◌∙◌, arith}
+use Rattle.std.proofs.Common.{◌≡◌, ◌+◌, ◌*◌, ◌<◌, ◌≤◌, refl, ap, sym, subst, ◌∙◌, arith}
 use Rattle.map_nums.specs.Grids.{Size}
 use Rattle.layer_tiles.specs.Tiles.{tiles_across, tiles_in, tile_height, tile_width}
 use Rattle.layer_tiles.proofs.Places.{across_some}

@@ -6,9 +6,9 @@ use Rattle.live_engine.proofs.Refusing.{accept_refused}
 use Rattle.live_engine.proofs.procedures.define_procedure.Goals as goal
 
 pub returns-then-is_some-clause-accepts : goal.returns-then-is_some-clause-accepts
-returns-then-is_some-clause-accepts g c =
+returns-then-is_some-clause-accepts c =
     let s = seen c.args.map.now in
     (accept_refused s _ _ (procedure_there s (procedure_view c.args.procedure) (ap is_some (sym c.find.ensures) ∙ some_seen c.find.result ∙ sym c.is_some.ensures ∙ c.if-is_some.true)), refl)
 
 pub returns-in-Err-clause-accepts : goal.returns-in-Err-clause-accepts
-returns-in-Err-clause-accepts g c = c.in-Err.ensures.refused (seen c.args.map.now) refl
+returns-in-Err-clause-accepts c = c.in-Err.ensures.refused (seen c.args.map.now) refl

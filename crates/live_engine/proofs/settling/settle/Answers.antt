@@ -1,9 +1,8 @@
-use Rattle.std.proofs.Common.{◌≡◌, length, map, Option, Some, slice_get, refl, sym, ap, subst, ◌∙◌, arith}
+use Rattle.std.proofs.Common.{◌≡◌, length, map, Some, slice_get, refl, sym, ap, subst, ◌∙◌, arith}
 use Rattle.std.specs.Vec.{with_items}
 use Rattle.std.proofs.lemmas.List.{with_items_is}
 use Rattle.std.proofs.lemmas.Option.{slice_get_within}
 use Rattle.map_nums.specs.Counts.{raised}
-use Rattle.op_jobs.specs.declared.beside.Beside.{Beside}
 use Rattle.map_waves.specs.Placing.{IsPlaced, slot_of}
 use Rattle.kept_map.proofs.Ready.{slot_kept}
 use Rattle.map_waves.proofs.Rowing.{some_at}

@@ -7,5 +7,5 @@ abbrev pub invariant-loop-tile : goal.invariant-loop-tile
 invariant-loop-tile l = record {
   size : l.patch.size ≡ l.extent;
   above : IsAboveLast l.patch.tiles l.tile;
-  patch : IsPatchOf l.extent None l.cells l.tile l.patch.tiles;
+  patch : IsPatchOf l.extent None l.labels l.tile l.patch.tiles;
 }

@@ -1,5 +1,5 @@
-use Rattle.std.proofs.Common.{◌+◌, ◌*◌, refl, sym, ap, subst, ◌∙◌, arith}
-use Rattle.std.proofs.lemmas.List.{length-replicate}
+use Rattle.std.proofs.Common.{◌+◌, ◌*◌, ◌<◌, ◌≤◌, length, None, refl, sym, ap, subst, ◌∙◌, arith}
+use Rattle.std.proofs.lemmas.List.{get_or-take, length-replicate, length-take-le}
 use Rattle.map_nums.specs.Grids.{cell_at}
 use Rattle.layer_tiles.specs.Tiles.{Block, IsBlockOf, tile_size}
 use Rattle.changed_cells.proofs.Ordering.{start_is}
@@ -14,27 +14,36 @@ loop-r-init c =
       rows = λ q k l m. absurd (omega (arith, l));
     }
 
-pub slice_bounds-set_row-end : goal.slice_bounds-set_row-end
-slice_bounds-set_row-end c = omega (arith, row_within c.args.extent c.args.tile c.loop-r.r c.place-place.result c.columns-columns.result c.place-place.ensures.size c.requires.within c.place-place.ensures.place c.place-place.ensures.placed c.columns-columns.ensures.columns c.loop-r-test.true, c.requires.count)
+pub slice_bounds-cells_of_row-end : goal.slice_bounds-cells_of_row-end
+slice_bounds-cells_of_row-end c = omega (arith, row_within c.args.extent c.args.tile c.loop-r.r c.place-place.result c.columns-columns.result c.place-place.ensures.size c.requires.within c.place-place.ensures.place c.place-place.ensures.placed c.columns-columns.ensures.columns c.loop-r-test.true, c.requires.count)
 
 pub set_row-requires-clause-row : goal.set_row-requires-clause-row
 set_row-requires-clause-row c = omega (arith, c.loop-r-test.true, c.place-place.ensures.place.height, c.loop-r.invariant.block.height)
 
 pub set_row-requires-clause-width : goal.set_row-requires-clause-width
 set_row-requires-clause-width c =
-    run_length c.args.cells.now ((c.place-place.result.top + c.loop-r.r) * c.columns-columns.result + c.place-place.result.left) c.place-place.result.width (omega (arith, row_within c.args.extent c.args.tile c.loop-r.r c.place-place.result c.columns-columns.result c.place-place.ensures.size c.requires.within c.place-place.ensures.place c.place-place.ensures.placed c.columns-columns.ensures.columns c.loop-r-test.true, c.requires.count))
-    ∙ c.place-place.ensures.place.width ∙ sym c.loop-r.invariant.block.width
+    let w = c.place-place.result.width in
+    let few : w ≤ length c.cells_of_row-row.result = omega (arith, c.place-place.ensures.place.width, c.place-place.ensures.placed.most_columns, c.cells_of_row-row.ensures.count) in
+    length-take-le w c.cells_of_row-row.result few ∙ c.place-place.ensures.place.width ∙ sym c.loop-r.invariant.block.width
 
 pub loop-r-preserved : goal.loop-r-preserved
 loop-r-preserved c =
     let s = c.args.extent in
     let t = c.args.tile in
+    let place = c.place-place.result in
     let p = c.place-place.ensures.place in
-    let cells = c.args.cells.now in
-    let start = (c.place-place.result.top + c.loop-r.r) * c.columns-columns.result + c.place-place.result.left in
-    row_cut s cells _ t c.loop-r.r c.loop-r.made c.set_row.new.self c.set_row.ensures
-    (λ k l. run_at cells start c.place-place.result.width k (omega (arith, l, p.width)) ∙ ap (cell_at cells) (start_is s t c.loop-r.r k c.place-place.result c.columns-columns.result p c.columns-columns.ensures.columns))
+    let labels = c.args.labels.now in
+    let row = c.cells_of_row-row.result in
+    let start = (place.top + c.loop-r.r) * c.columns-columns.result + place.left in
+    let within : start + place.width ≤ length labels = omega (arith, row_within s t c.loop-r.r place c.columns-columns.result c.place-place.ensures.size c.requires.within p c.place-place.ensures.placed c.columns-columns.ensures.columns c.loop-r-test.true, c.requires.count) in
+    let long = run_length labels start place.width within in
+    row_cut s labels _ t c.loop-r.r c.loop-r.made c.set_row.new.self c.set_row.ensures
+    (λ k l. let m : k < place.width = omega (arith, l, p.width) in
+    get_or-take place.width row k None m
+    ∙ c.cells_of_row-row.ensures.each k (omega (arith, m, long))
+    ∙ run_at labels start place.width k m
+    ∙ ap (cell_at labels) (start_is s t c.loop-r.r k place c.columns-columns.result p c.columns-columns.ensures.columns))
     c.loop-r.invariant
 
 pub returns : goal.returns
-returns c = all_cut c.args.extent c.args.cells.now c.args.tile c.loop-r.r c.loop-r.made (omega (arith, c.loop-r-test.false, c.place-place.ensures.place.height)) c.loop-r.invariant
+returns c = all_cut c.args.extent c.args.labels.now c.args.tile c.loop-r.r c.loop-r.made (omega (arith, c.loop-r-test.false, c.place-place.ensures.place.height)) c.loop-r.invariant

@@ -10,5 +10,5 @@ returns-clause-ok c =
     let new = c.reach_region.new.list in
     let some : IsSome c.index-cells-at.result = search rules in
     let v = some_value c.index-cells-at.result some in
-    let may : MayGet (Some (pos (suc c.args.at))) old new.labels = subst (λ (o : Option ℤ). MayGet o old new.labels) c.label_of.ensures c.reach_region.ensures.labels in
+    let may : MayGet (Some (pos (suc c.args.at))) old new.labels = subst (λ (o : Option ℤ). MayGet o old new.labels) c.of.ensures c.reach_region.ensures.labels in
     region_step c.args.list.now.size c.args.cells.now v.0 c.args.at old new (c.in_ok-reach_region.ensures.ok v.0 v.1) c.extent-size.ensures.count c.requires.before may

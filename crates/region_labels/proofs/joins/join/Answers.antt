@@ -14,9 +14,9 @@ high_is c = c.max.ensures ∙ ap (λ k. max k c.root_of-b.result) c.root_of-a.en
 pub returns-clause-step : goal.returns-clause-step
 returns-clause-step c =
     let r = c.requires.region in
-    join_step c.args.extent c.args.cells.now c.args.labels.now c.requires.provisional r.0 c.args.one c.args.other c.min.result c.max.result c.requires.one c.requires.other r.1 r.2 r.3 (low_is c) (high_is c) _ (ap (slice_set c.args.labels.now c.max.result) c.label_of.ensures)
+    join_step c.args.extent c.args.cells.now c.args.labels.now c.requires.provisional r.0 c.args.one c.args.other c.min.result c.max.result c.requires.one c.requires.other r.1 r.2 r.3 (low_is c) (high_is c) _ (ap (slice_set c.args.labels.now c.max.result) c.of.ensures)
 
 pub returns-clause-tied : goal.returns-clause-tied
 returns-clause-tied c =
     let r = c.requires.region in
-    join_tied c.args.extent c.args.cells.now c.args.labels.now c.requires.provisional r.0 c.args.one c.args.other c.min.result c.max.result c.requires.one c.requires.other r.1 r.2 r.3 (low_is c) (high_is c) _ (ap (slice_set c.args.labels.now c.max.result) c.label_of.ensures)
+    join_tied c.args.extent c.args.cells.now c.args.labels.now c.requires.provisional r.0 c.args.one c.args.other c.min.result c.max.result c.requires.one c.requires.other r.1 r.2 r.3 (low_is c) (high_is c) _ (ap (slice_set c.args.labels.now c.max.result) c.of.ensures)

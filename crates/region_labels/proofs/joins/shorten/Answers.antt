@@ -11,4 +11,4 @@ returns-then-is_some c =
     let at = c.args.at in
     let read = get_or_default labels at c.index-labels-at.result None c.requires.within in
     let some : is_some (cell_at labels at) ≡ true = ap is_some (sym read) ∙ ap is_some (sym c.get.ensures.value) ∙ sym c.is_some.ensures ∙ c.if-is_some.true in
-    shorten_step c.args.extent c.args.cells.now labels c.requires.provisional at c.requires.within some _ (ap (slice_set labels at) (c.label_of.ensures ∙ ap (λ r. Some (pos (suc r))) c.root_of.ensures.root))
+    shorten_step c.args.extent c.args.cells.now labels c.requires.provisional at c.requires.within some _ (ap (slice_set labels at) (c.of.ensures ∙ ap (λ r. Some (pos (suc r))) c.root_of.ensures.root))

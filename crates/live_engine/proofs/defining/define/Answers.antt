@@ -1,0 +1,15 @@
+use Rattle.std.proofs.Common.{subst}
+use Rattle.kept_map.specs.Maps.{seen}
+use Rattle.live_engine.specs.Accepts.{Accepts, ReadsWithin}
+use Rattle.live_engine.specs.Defining.{defines}
+use Rattle.live_engine.proofs.defining.define.Goals as goal
+
+pub returns-clause-accepts : goal.returns-clause-accepts
+returns-clause-accepts g c =
+    let e = defines c.args.name c.args.written in
+    subst (λ q. Accepts q (seen c.carry_out.new.map) e c.carry_out.result) c.reserve.ensures.seen (c.carry_out.ensures.accepts e c.drafted-drafted.ensures.drafted)
+
+pub returns-clause-reads : goal.returns-clause-reads
+returns-clause-reads g c =
+    let e = defines c.args.name c.args.written in
+    subst (λ q. ReadsWithin q e (g.M.Tally.counts c.args.tally.now) (g.M.Tally.counts c.carry_out.new.tally)) c.reserve.ensures.seen (c.carry_out.ensures.reads e c.drafted-drafted.ensures.drafted)

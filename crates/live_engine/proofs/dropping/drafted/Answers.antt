@@ -1,0 +1,16 @@
+use Rattle.std.proofs.Common.{refl, sym, ◌∙◌}
+use Rattle.map_edits.specs.Refusals.{unknown}
+use Rattle.kept_map.specs.Maps.{seen}
+use Rattle.live_engine.specs.Dropping.{drops}
+use Rattle.live_engine.proofs.DroppedStates.{drop_unknown, dropped_draft}
+use Rattle.live_engine.proofs.Refusing.{accept_refused}
+use Rattle.live_engine.proofs.dropping.drafted.Goals as goal
+
+pub returns-then-not-has-clause-drafted : goal.returns-then-not-has-clause-drafted
+returns-then-not-has-clause-drafted c =
+    let s = seen c.args.map.now in
+    (accept_refused s (drops c.args.name) (unknown c.args.name) (drop_unknown s c.args.name (sym c.has.ensures ∙ c.if-not-has.true)), refl)
+
+pub returns-clause-drafted : goal.returns-clause-drafted
+returns-clause-drafted c =
+    dropped_draft c.args.map.now c.requires.kept c.args.name c.requires.plain (sym c.has.ensures ∙ c.if-not-has.false) c.in_ok-graph.graph c.in_ok-graph.ensures
