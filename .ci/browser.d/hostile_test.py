@@ -88,12 +88,12 @@ class Requests(Case):
         """Each line is followed by one whose reply is known, so that a reply too many or too few would show."""
         odd = ['', ' ', '\t', '\r', '#', ' \t# x', '# x\r', '\r\r', '\x00', 'caf\u00e9', 'quit x', 'list\r', 'show Crater', 'grid Crater', 'stamps Crater',
                'legend Crater', 'table Crater Water', 'value Crater 1 1', 'grid Gone', 'ok 99 changed 0 evaluated 0 worked 0', 'x' * 4097, '#' * 4097,
-               'symbol Crater 1 k', 'label Crater 1 ok 50']
+               'symbol Crater 1 k', 'label Crater 1 ok 50', 'undo', 'undo it', ' undo\t\r']
         status, answer = self.run_of_live.say([line for kind in odd for line in (kind, 'value Elevation 68 31')])
         replies = [entry['reply'] for entry in answer['entries']]
         self.assertEqual((status, replies[1::2]), (200, ['value Elevation 68 31 195'] * len(odd)))
         self.assertEqual([kind for kind, reply in zip(odd, replies[::2]) if not reply], ['', ' ', '\t', '\r', '#', ' \t# x', '# x\r'])
-        self.assertEqual(answer['state']['edits'], 8)
+        self.assertEqual(answer['state']['edits'], 10)
         self.assertEqual(self.run_of_live.say(['\tquit \r', 'list'])[1]['entries'][-1]['line'], '\tquit \r')
         wait(lambda: self.run_of_live.state()['ended'] == 'the program ended with status 0', 'the end')
 

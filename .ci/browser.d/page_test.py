@@ -115,9 +115,17 @@ class Strokes(Browsing):
         self.assertEqual(self.grids(['Crater']), before)
         self.assertEqual(self.page.cells('Crater'), before['Crater'])
 
-    def test_undo_is_offered_where_the_program_knows_it(self):
-        known = not play(self.run_of_live.words, b'undo\n').splitlines()[-1].startswith((b'refused syntax', b'refused operation'))
-        self.assertEqual(self.browser.run("return document.getElementById('undo').hidden"), not known)
+    def test_undo_takes_the_newest_line_back(self):
+        before = self.grids()
+        self.paint((57, 24), (62, 30))
+        lines = self.run_of_live.lines()
+        for _ in lines:
+            self.page.after(lambda: self.browser.click('#undo'))
+        self.assertEqual(self.run_of_live.lines(), lines + ['undo'] * len(lines))
+        self.assertEqual(self.grids(), before)
+        for name in ('Crater', 'Lake'):
+            self.is_seen(before[name], name, [(1, 0)])
+            self.are_same(self.page.cells(name), before[name], name)
 
 
 class LargeMaps(Browsing):

@@ -200,7 +200,7 @@ def parse_words(words, is_open):
         return 'define', name, parse_body(words)
     if first == 'model' and is_open:
         return words.take(), words.number(1, 2)
-    if first not in ('procedure', 'paint', 'new', 'drop', 'value', 'grid', 'show', 'legend', 'table', 'stamps', 'list', 'quit'):
+    if first not in ('procedure', 'paint', 'new', 'drop', 'undo', 'value', 'grid', 'show', 'legend', 'table', 'stamps', 'list', 'quit'):
         words.refuse()
     words.take()
     if first == 'procedure':
@@ -215,7 +215,7 @@ def parse_words(words, is_open):
         return first, words.name(is_any), words.number(1, 4096), words.number(1, 4096)
     if first == 'table':
         return first, words.name(is_any), words.name(is_any)
-    return (first,) if first in ('list', 'quit') else (first, words.name(is_any))
+    return (first,) if first in ('undo', 'list', 'quit') else (first, words.name(is_any))
 
 
 def parse_line(line, length, language, is_open):

@@ -1,13 +1,21 @@
-"""The map machine: sources, procedures, statements, labels, symbols and stamps; every edit evaluates all anew."""
+"""The map machine: sources, procedures, statements, labels, symbols and stamps; every edit evaluates all anew, and may be taken back."""
 
-from collections import Counter
+from collections import Counter, namedtuple
 
 from grids import GREATEST, Refused, print_grid
 from lines import Call, Op, ZONAL, print_body, print_procedure
 from operations import MOST_VIEWERS, damage, differing, layer_of, work
 
 MOST = {'sources': 32, 'statements': 64, 'zonals': 12, 'labels': 4096, 'symbols': 4096, 'procedures': 32}
+MOST_KEPT = 64
 LAST_NUMBER = 2 ** 64 - 1
+PARTS = ('procedures', 'names', 'sources', 'labels', 'symbols')  # what edits change; layers and stamps follow from it
+
+# What an edit touches: a name, None where no layer is touched, and places of its grid, None for all that stands for the name.
+Touch = namedtuple('Touch', 'name places')
+NOTHING = Touch(None, None)
+# An edit that can be taken back: the parts as they were before it, in the order of PARTS, and what it touched.
+Kept = namedtuple('Kept', 'parts touch')
 
 
 class Machine:
@@ -19,11 +27,12 @@ class Machine:
         self.sources = {}
         self.labels, self.symbols = {}, {}  # by name and value
         self.layers, self.stamps = {}, {}   # of what is defined
+        self.kept = ()  # the edits that can be taken back, the newest last
 
     def copy(self):
         other = Machine(self.extent, self.header)
-        other.number, other.language, other.is_open = self.number, self.language, self.is_open
-        for part in ('procedures', 'names', 'sources', 'labels', 'symbols', 'layers', 'stamps'):
+        other.number, other.language, other.is_open, other.kept = self.number, self.language, self.is_open, self.kept
+        for part in (*PARTS, 'layers', 'stamps'):
             setattr(other, part, dict(getattr(self, part)))
         return other
 
@@ -119,7 +128,7 @@ class Machine:
                     raise Refused(f'overflow {name} {row + 1} {column + 1}')
             self.layers[name] = layer
 
-    # Edits. Each changes a copy of the machine, or is refused.
+    # Edits. Each changes a copy of the machine and tells what it touches, or is refused.
 
     def limit(self, what, count):
         if count > MOST[what]:
@@ -130,6 +139,7 @@ class Machine:
             raise Refused(f'exists {name}')
         self.names[name], self.sources[name] = None, cells
         self.limit('sources', len(self.sources))
+        return Touch(name, None)
 
     def paint(self, name, top, left, bottom, right, cell):
         if name not in self.names:
@@ -144,7 +154,7 @@ class Machine:
         for at in painted:
             cells[at] = cell
         self.sources[name] = tuple(cells)
-        return painted
+        return Touch(name, painted)
 
     def drop(self, name):
         if name not in self.names:
@@ -154,6 +164,7 @@ class Machine:
         for marks in (self.labels, self.symbols):
             for key in [key for key in marks if key[0] == name]:
                 del marks[key]
+        return Touch(name, None)
 
     def mark(self, kind, name, value, text):
         if name not in self.names:
@@ -161,6 +172,7 @@ class Machine:
         marks = self.labels if kind == 'label' else self.symbols
         marks[name, value] = text
         self.limit(kind + 's', len(marks))
+        return NOTHING
 
     def put_procedure(self, procedure):
         if procedure.name in self.procedures:
@@ -169,6 +181,7 @@ class Machine:
             self.check_call(written, self.procedures)
         self.procedures[procedure.name] = procedure
         self.limit('procedures', len(self.procedures))
+        return NOTHING
 
     def define(self, name, written):
         if name in self.sources:
@@ -181,6 +194,29 @@ class Machine:
         self.limit('zonals', sum(op.kind in ZONAL for _, op in flats))
         if self.is_cycle(name):
             raise Refused(f'cycle {name}')
+        return Touch(name, None)
+
+    def undo(self):
+        """Puts the parts back as they were before the newest edit that is kept. It touches what that edit touched."""
+        if not self.kept:
+            raise Refused('nothing')
+        *before, newest = self.kept
+        self.kept = tuple(before)
+        for part, was in zip(PARTS, newest.parts):
+            setattr(self, part, dict(was))
+        return newest.touch
+
+    def keep(self, before, touch):
+        """Keeps an edit of a machine, so that it can be taken back."""
+        kept = Kept(tuple(getattr(before, part) for part in PARTS), touch)
+        self.kept = (*before.kept, kept)[-MOST_KEPT:]
+
+    def standing(self, touch):
+        """What is touched, as it stands after the edit: the flat statements, and the places of a source."""
+        if touch.name in self.sources:
+            return (), {touch.name: range(self.extent.count) if touch.places is None else touch.places}
+        written = self.names.get(touch.name)
+        return {flat for flat, _ in self.expand(touch.name, touch.name, written)} if written else (), {}
 
     def count(self, before, written, painted):
         """The changed tiles, the damage and the work, over all that is defined now; sets the stamps."""
@@ -210,28 +246,28 @@ class Machine:
             total['worked'] += work(extent, op, touched, changed, layer)
         return total['changed'], total['evaluated'], total['worked']
 
+    def change(self, kind, *parts):
+        """Does an edit, evaluation apart. -> what it touches."""
+        if kind == 'new':
+            return self.put_source(parts[0], parts[1:] * self.extent.count)
+        if kind in ('label', 'symbol'):
+            return self.mark(kind, *parts)
+        edits = {'load': self.put_source, 'paint': self.paint, 'drop': self.drop, 'procedure': self.put_procedure, 'define': self.define,
+                 'undo': self.undo}
+        return edits[kind](*parts)
+
     def edited(self, kind, *parts):
         """-> the machine after an edit, and the reply. Refused where the edit is."""
-        after, written, painted = self.copy(), (), {}
-        if kind in ('load', 'new'):
-            name, cells = parts if kind == 'load' else (parts[0], parts[1:] * self.extent.count)
-            after.put_source(name, cells)
-            painted = {name: range(self.extent.count)}
-        elif kind == 'paint':
-            painted = {parts[0]: after.paint(*parts)}
-        elif kind == 'drop':
-            after.drop(*parts)
-        elif kind == 'procedure':
-            after.put_procedure(*parts)
-        elif kind == 'define':
-            after.define(*parts)
-            written = {name for name, _ in after.expand(parts[0], *parts)}
-        else:
-            after.mark(kind, *parts)
+        after = self.copy()
+        touch = after.change(kind, *parts)
+        if kind == 'load':
+            after.kept = ()
+        elif kind != 'undo':
+            after.keep(self, touch)
         after.evaluate()
         after.number = min(self.number + 1, LAST_NUMBER)
         after.is_open = self.is_open and kind == 'load'
-        changed, evaluated, worked = after.count(self, written, painted)
+        changed, evaluated, worked = after.count(self, *after.standing(touch))
         return after, [f'ok {after.number} changed {changed} evaluated {evaluated} worked {worked}']
 
     # Requests

@@ -169,6 +169,8 @@ class Refusals(Talk):
                 ('Wet = LocalRatio of Heights and 1 ignoring nulls', 35, 'syntax', "ignoring can't stand here: LocalRatio of TERM and TERM"),
                 ('model 3', 7, 'number', 'the language is 1 or 2'),
                 ('model', 6, 'syntax', 'the line ends too early: model VERSION'),
+                ('undo it', 6, 'syntax', "it can't stand here: undo"),
+                ('undo = LocalSum of Heights and 1', 6, 'syntax', "= can't stand here: undo"),
                 ('Wet = LocalSun of Heights and 1', 7, 'operation', 'LocalSun is no operation; did you mean LocalSum?'),
                 ('Wet = localsum of Heights and 1', 7, 'operation', 'localsum is no operation; did you mean LocalSum?'),
                 ('Wet = FocalMean of Heights at 33', 31, 'number', 'a radius is 1 to 32'),
@@ -222,9 +224,11 @@ class Refusals(Talk):
                 ('paint Heights 1 1 3 1 5', 'refused size 2 2',
                  'the map has 2 rows and 2 columns; the first corner of a rectangle lies above and to the left of the second'),
                 ('Slope = LocalSum of Slope and 1', 'refused cycle Slope', 'Slope would read its own layer'),
+                ('undo', 'ok 4 changed 0 evaluated 0 worked 0', None), (' undo', 'ok 5 changed 0 evaluated 0 worked 0', None),
+                ('undo', 'refused nothing', 'no edit is left to take back: the newest 64 can be, and loads stay'),
                 ('X = LocalProduct of 1000000000000000 and Heights', 'refused overflow X 1 2',
                  'X would be beyond 1000000000000000 in row 1, column 2')):
-            self.assertEqual(terminal.line(line), [reply, f'  # {sentence}'])
+            self.assertEqual(terminal.line(line), [reply, f'  # {sentence}'] if sentence else [reply])
 
     def test_a_layer_that_is_missing(self):
         terminal = self.begun()
@@ -249,7 +253,8 @@ class Refusals(Talk):
     def test_a_line_of_the_model_after_one_without_a_reply(self):
         for model, number, line in (('value Heights 1 1\nmodel +2\nB = LocalMean of Heights and 1 ignoring nulls\nC = LocalSun of B and 1', 4, 'C = LocalSun of B and 1'),
                                     ('new B 1\n\nmodel 2\nC = LocalSun of B and 1', 3, 'model 2'), ('model 1\nlist\nmodel 2', 3, 'model 2'),
-                                    ('list\nmodel 3\nmodel 2', 2, 'model 3')):
+                                    ('list\nmodel 3\nmodel 2', 2, 'model 3'),
+                                    ('new B 1\n# back\nundo\nundo', 4, 'undo'), ('new B 1\nundo\nmodel 2', 3, 'model 2')):
             self.write('my.model', model)
             shown, status = self.talk('run', '1', 'my.model', 'Heights=a.asc').end()
             self.assertEqual(status, 3)
@@ -288,6 +293,8 @@ class Keys(Talk):
         self.assertEqual(terminal.line('value Fr\t1 1'), ['value Fresh 1 1 1'])
         terminal.line('drop Fresh')
         self.assertEqual(terminal.line('value Fr\t1 1')[1], 'refused syntax 12')  # the name isn't completed, and the column is missing
+        terminal.line('und\t')
+        self.assertEqual(terminal.line('value Fr\t1 1'), ['value Fresh 1 1 1'])
 
     def test_history(self):
         terminal = self.begun()
@@ -347,6 +354,17 @@ class Own(Talk):
         again, _ = program(['run', '1', '-', 'Heights=a.asc'], self.read('it.session') + b'list\n', self.folder)
         self.assertEqual(again.decode().splitlines()[-len(listed):], listed)
 
+    def test_log_of_edits_that_are_taken_back(self):
+        """They stand in it with the undo, so that the numbers are the same again."""
+        terminal = self.begun()
+        for line in ('undo', 'new Mask 1', 'drop Heights', 'undo', 'Wet = LocalProduct of Heights and Mask'):
+            terminal.line(line)
+        stamped = terminal.line('stamps Wet') + terminal.line('stamps Heights')
+        self.assertEqual(terminal.line('.log it.session'), ['  # it.session: accepted edits: 4'])
+        self.assertEqual(self.read('it.session'), b'new Mask 1\ndrop Heights\nundo\nWet = LocalProduct of Heights and Mask\n')
+        again, _ = program(['run', '1', '-', 'Heights=a.asc'], self.read('it.session') + b'stamps Wet\nstamps Heights\n', self.folder)
+        self.assertEqual(again.decode().splitlines()[-len(stamped):], stamped)
+
     def test_log_of_language_2(self):
         terminal = self.begun()
         self.assertEqual([terminal.line(line) for line in ('value Heights 1 1', 'model 2')], [['value Heights 1 1 1'], []])
@@ -360,6 +378,7 @@ class Own(Talk):
         self.assertEqual(terminal.line('.help model'), ['  # model VERSION'])
         self.assertEqual(terminal.line('.help FocalSum'), ['  # FocalSum of TERM [at RADIUS]', '  # ' + OPERATIONS['FocalSum'][1]])
         self.assertEqual(terminal.line('.help paint'), ['  # paint NAME ROW COL ROW COL CELL'])
+        self.assertEqual(terminal.line('.help undo'), ['  # undo'])
         self.assertEqual(terminal.line('.help qqqqqq'), ['  # qqqqqq is no line and no operation'])
         self.assertIn('  # .save LAYER FILE  writes its grid, and beside it the .prj of the first grid', terminal.line('.help'))
         self.assertEqual(terminal.line('.mpa Heights'), ['  # .mpa is no line of the talk; did you mean .map?'])
@@ -397,7 +416,7 @@ class Language(Case):
         lines = [random.choice(starts) + ' '.join(random.choices(words, k=random.randint(0, 5))) for _ in range(1200)]
         lines = [line for line in lines if line.strip() and line.split()[0] not in (*REQUESTS, 'model') or line.startswith('value')]
         lines += ['model', 'model 3', 'model 2 2', 'new Bb 1', 'model 2']
-        lines += ['drop Zz', 'new A 1', 'paint A 2 1 2 1 1', 'B = Zz(A)', 'procedure Pp(a): result = LocalSum of a and 1', 'B = Pp(A, A)', 'x' * 4097,
+        lines = ['undo', *lines, 'drop Zz', 'new A 1', 'paint A 2 1 2 1 1', 'B = Zz(A)', 'procedure Pp(a): result = LocalSum of a and 1', 'B = Pp(A, A)', 'x' * 4097,
                   'B = LocalProduct of A and 1000000000000000', 'D = LocalSum of E and 1', 'E = LocalSum of D and 1', 'paint D 1 1 1 1 1']
         lines += [f'new S{number} 1' for number in range(40)] + [f'T{number} = LocalSum of A and 1' for number in range(70)]
         out, status = program(['run', '1', '-', 'A=a.asc'], '\n'.join(lines + ['']).encode(), self.folder)
@@ -408,7 +427,8 @@ class Language(Case):
             if reply.split()[0] in ('refused', 'undefined'):
                 self.assertTrue(explain(reply, line.encode(), Names(['source A'])), (line, reply))
                 kinds.add(reply.split()[1])
-        self.assertLessEqual({'syntax', 'operation', 'number', 'long', 'unknown', 'derived', 'exists', 'size', 'limit', 'procedure', 'count', 'cycle', 'overflow'}, kinds)
+        self.assertLessEqual({'syntax', 'operation', 'number', 'long', 'unknown', 'derived', 'exists', 'size', 'limit', 'procedure', 'count', 'cycle', 'overflow',
+                              'nothing'}, kinds)
 
     def test_nearest(self):
         self.assertEqual(nearest('elevaton', ['Cover', 'Elevation']), 'Elevation')

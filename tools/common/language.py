@@ -24,12 +24,12 @@ REQUESTS = {
 }
 EDITS = {
     'paint': 'paint NAME ROW COL ROW COL CELL', 'new': 'new NAME CELL', 'drop': 'drop NAME', 'label': 'label NAME NUMBER TEXT',
-    'symbol': 'symbol NAME NUMBER SIGN', 'procedure': 'procedure NAME(NAME, ..): NAME = OPERATION; ..; result = OPERATION',
+    'symbol': 'symbol NAME NUMBER SIGN', 'undo': 'undo', 'procedure': 'procedure NAME(NAME, ..): NAME = OPERATION; ..; result = OPERATION',
 }
 LINES = {**EDITS, **REQUESTS, 'model': 'model VERSION'}
 DEFINITIONS = ('NAME = OPERATION', 'NAME = PROCEDURE(TERM, ..)')
 RESERVED = {*OPERATIONS, *LINES, 'FocalNeighbor', *'''result null of and with for to at within spreading radiating in on from carrying
-    ignoring nulls undo branch end'''.split()}
+    ignoring nulls branch end'''.split()}
 WORD = re.compile(r'[=(),;:]|[^ \t=(),;:]+')
 NAME = re.compile('[A-Za-z][A-Za-z0-9_]{0,31}')
 
@@ -48,6 +48,7 @@ SENTENCES = {
     'count': 'terms that are given: {0}; that the procedure takes: {1}',
     'size': 'the map has {0} rows and {1} columns; the first corner of a rectangle lies above and to the left of the second',
     'cycle': '{0} would read its own layer',
+    'nothing': 'no edit is left to take back: the newest 64 can be, and loads stay',
     'viewers': '{0} would have {1} viewers, and at most 64 can be',
     'overflow': '{0} would be beyond 1000000000000000 in row {1}, column {2}',
 }

@@ -146,7 +146,6 @@ function useState(told) {
   state = told;
   at('ended').hidden = !state.ended;
   at('ended').textContent = state.ended || '';
-  at('undo').hidden = !state.undo;
   for (const control of [at('line'), at('undo')]) control.disabled = Boolean(state.ended);
   if (before === JSON.stringify(names())) return;
   const fresh = names().filter((name) => !known.has(name) && !state.dotted.includes(name));

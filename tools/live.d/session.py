@@ -65,7 +65,7 @@ class Session:
         self.program, self.words = program, words
         self.turns = Turns()
         self.entries, self.replies, self.written = [], tempfile.TemporaryFile(), 0
-        self.names, self.edits, self.marks, self.knows_undo, self.size = Names(), 0, 0, False, None
+        self.names, self.edits, self.marks, self.size = Names(), 0, 0, None
 
     def begin(self):
         """Reads what is written before the first line of the session; answers it. Ended where no session comes about."""
@@ -73,8 +73,6 @@ class Session:
         self.keep(text)
         self.count_edits(reply[0] for reply in split(text.decode('latin-1').splitlines()))
         self.learn_names()
-        # refused at once where no line begins with this word, and at the second one where it does
-        self.knows_undo = self.ask(b'undo undo')[0].first_line() not in ('refused syntax 1', 'refused operation 1')
         return text
 
     # What pages send
@@ -247,8 +245,8 @@ class Session:
     def state(self):
         status = self.program.status()
         return {'edits': self.edits, 'marks': self.marks, 'lines': len(self.entries), 'working': self.turns.is_taken(),
-                'undo': self.knows_undo, 'ended': ending(status), 'sources': self.names.sources,
-                'statements': self.names.statements, 'dotted': self.names.dotted()}
+                'ended': ending(status), 'sources': self.names.sources, 'statements': self.names.statements,
+                'dotted': self.names.dotted()}
 
     def since(self, first):
         """What a page is shown of the entries from a number on."""

@@ -16,7 +16,7 @@ use Rattle.map_edits.proofs.Unfolds.{value_unfolds}
 use Rattle.map_waves.specs.Statements.{made, cells_were}
 use Rattle.map_waves.specs.Plans.{Plan, operand_in, changes_to, operands_at}
 use Rattle.edit_plans.specs.PlansFor.{IsRefFor, AreRefsFor, IsPlanFor}
-use Rattle.edit_plans.specs.Touching.{ChangesOnly}
+use Rattle.map_edits.specs.Touching.{ChangesOnly}
 use Rattle.map_waves.specs.declared.plans.Ref.{Ref}
 use Rattle.map_waves.specs.declared.plans.Ref.TheVariants.{Source, Statement, Number}
 use Rattle.map_waves.proofs.Running.{changes_at}

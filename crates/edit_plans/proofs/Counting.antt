@@ -16,7 +16,7 @@ use Rattle.map_edits.specs.Laws.{HasNoCycle}
 use Rattle.map_waves.specs.Statements.{cells_were}
 use Rattle.map_waves.specs.Plans.{Plan, reckoned, operands_at, change_at, damage_at, work_at}
 use Rattle.edit_plans.specs.PlansFor.{IsPlanFor}
-use Rattle.edit_plans.specs.Touching.{ChangesOnly}
+use Rattle.map_edits.specs.Touching.{ChangesOnly}
 use Rattle.edit_plans.proofs.Valued.{all_made, operands_made}
 use Rattle.edit_plans.proofs.Before.{stood_on, reckoned_stood}
 

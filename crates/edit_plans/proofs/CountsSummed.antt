@@ -11,7 +11,7 @@ use Rattle.map_edits.specs.Laws.{HasNoCycle}
 use Rattle.map_waves.specs.Plans.{Plan, change_at, damage_at, work_at}
 use Rattle.map_waves.specs.Answers.{total_of}
 use Rattle.edit_plans.specs.PlansFor.{IsPlanFor}
-use Rattle.edit_plans.specs.Touching.{ChangesOnly}
+use Rattle.map_edits.specs.Touching.{ChangesOnly}
 use Rattle.edit_plans.specs.Orderly.{IsOrderly}
 use Rattle.edit_plans.specs.SourceCounts.{is_given, joined, counts_of_sources, counts_to_place}
 use Rattle.edit_plans.specs.CountLaws.{CountsAreSummed}

@@ -17,7 +17,7 @@ use Rattle.map_edits.proofs.Unfolds.{value_unfolds}
 use Rattle.map_edits.proofs.Unchanged.{counts_nothing}
 use Rattle.map_edits.proofs.Once.{IsOnce}
 use Rattle.map_edits.proofs.GroupsOnce.{groups_once}
-use Rattle.edit_plans.specs.Touching.{touches_source, ChangesOnly}
+use Rattle.map_edits.specs.Touching.{touches_source, ChangesOnly}
 use Rattle.edit_plans.specs.Orderly.{IsOrderly}
 use Rattle.edit_plans.specs.SourceCounts.{is_given, no_counts, counts_of_sources, counts_of_source}
 use Rattle.edit_plans.specs.CountLaws.{OneSourceCounts}

@@ -21,7 +21,7 @@ use Rattle.map_edits.proofs.Unfolds.{depth_unfolds, depth_by}
 use Rattle.map_waves.specs.Plans.{Plan, damage_at, work_at}
 use Rattle.map_waves.specs.Answers.{total_of}
 use Rattle.edit_plans.specs.PlansFor.{IsPlanFor}
-use Rattle.edit_plans.specs.Touching.{ChangesOnly}
+use Rattle.map_edits.specs.Touching.{ChangesOnly}
 use Rattle.edit_plans.specs.Orderly.{IsOrderly}
 use Rattle.edit_plans.specs.SourceCounts.{is_given, joined, counts_of_sources, counts_to_place}
 use Rattle.edit_plans.specs.ReadLaws.{ReadsAreAllowed}

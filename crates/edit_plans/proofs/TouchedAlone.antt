@@ -21,15 +21,16 @@ use Rattle.map_edits.specs.Edits.{with_entries}
 use Rattle.map_edits.specs.Laws.{edited}
 use Rattle.map_edits.specs.Marks.{put_mark}
 use Rattle.map_edits.specs.WholeStates.{WholeState}
-use Rattle.map_edits.specs.WholeEdits.{WholeEdit, of_names, define_procedure, label, symbol}
+use Rattle.map_edits.specs.Pasts.{with_parts}
+use Rattle.map_edits.specs.WholeEdits.{WholeEdit, of_names, define_procedure, label, symbol, put_back}
 use Rattle.map_edits.specs.Attempts.{marks_after, with_names, with_procedure, with_labels, with_symbols, attempted}
-use Rattle.map_edits.specs.Touches.{nothing, whole, touch_of_names, touch_of, stands_for}
+use Rattle.map_edits.specs.Touches.{nothing, whole, within, touch_of_names, touch_of, stands_for}
 use Rattle.map_edits.specs.GroupLaws.{IsLawful, IsPlainEdit, IsSaid}
 use Rattle.map_edits.proofs.Among.{same_name}
 use Rattle.map_edits.proofs.Heads.{head_of}
 use Rattle.map_edits.proofs.Groups.{def_layers, group_making, making_by_head}
 use Rattle.map_edits.proofs.LawfulEdits.{AreGood, IsGoodChange, good_of, entries_good, within_is, known_is, new_is}
-use Rattle.edit_plans.specs.Touching.{ChangesOnly}
+use Rattle.map_edits.specs.Touching.{ChangesOnly}
 use Rattle.edit_plans.specs.Orderly.{IsOrderly}
 use Rattle.edit_plans.specs.TouchLaws.{OthersAreKept, OrderIsKept}
 
@@ -127,10 +128,18 @@ same_size : (s t : EngineState) (es : List Entry) → with_entries s es ≡ t �
 same_size s t es e = ap (λ (u : EngineState). u.size) e
 
 -- an edit that touches all of a name
-all_touched : (s t : EngineState) (m : Name) → s.size ≡ t.size → IsGoodChange s.entries m t.entries → ChangesOnly (whole m) s t
+pub all_touched : (s t : EngineState) (m : Name) → s.size ≡ t.size → IsGoodChange s.entries m t.entries → ChangesOnly (whole m) s t
 all_touched s t m size change = record {
   size = size;
   statements = λ n op away e. keeps_statement s.entries t.entries m change n op away e;
+  sources = λ n grid differs e. keeps_source s.entries t.entries m change n grid differs e;
+}
+
+-- an edit that touches a rectangle of a source
+pub part_touched : (s t : EngineState) (m : Name) (r : Rectangle) (g : Grid) → s.size ≡ t.size → IsGoodChange s.entries m t.entries → find_def t.entries m ≡ Some (source g) → ChangesOnly (within m r) s t
+part_touched s t m r g size change there = record {
+  size = size;
+  statements = λ n op away e. keeps_all s.entries t.entries m change g there n op e;
   sources = λ n grid differs e. keeps_source s.entries t.entries m change n grid differs e;
 }
 
@@ -169,14 +178,8 @@ module _ (s t : WholeState) (l : IsLawful s) where
       by_edit (define n written) plain is = all_touched s.names t.names n size (change (define n written) plain is)
       by_edit (drop_name n) plain is = all_touched s.names t.names n size (change (drop_name n) plain is)
       by_edit (paint n r cell) plain is =
-          let good = change (paint n r cell) plain is in
           let def = painted_is s.names es n r cell (find_def s.names.entries n) is in
-          let there : find_def t.names.entries n ≡ Some (source def.0) = ap (λ es. find_def es n) (sym entries) ∙ def.1 in
-          record {
-            size = size;
-            statements = λ m op away e. keeps_all s.names.entries t.names.entries n good def.0 there m op e;
-            sources = λ m grid differs e. keeps_source s.names.entries t.names.entries n good m grid differs e;
-          }
+          part_touched s.names t.names n r def.0 size (change (paint n r cell) plain is) (ap (λ es. find_def es n) (sym entries) ∙ def.1)
 
   of_entries : (edit : Edit) (o : Result (List Entry) Refusal) → IsPlainEdit edit → entries_with s.procedures s.names edit ≡ o → with_names s edit o ≡ Ok t → ChangesOnly (touch_of_names edit) s.names t.names
   of_entries edit (Err r) plain is e = absurd cc
@@ -196,7 +199,7 @@ module _ (s t : WholeState) (l : IsLawful s) where
   of_procedure p (Some (wrong_count given wanted)) e = absurd cc
   of_procedure p None e = left_alone _ (within_is 32 (length s.procedures + 1) procedures _ t e) refl
 
-  others_kept : (e : WholeEdit) → IsSaid e → attempted s e ≡ Ok t → ChangesOnly (touch_of e) s.names t.names
+  others_kept : (e : WholeEdit) → IsSaid s e → attempted s e ≡ Ok t → ChangesOnly (touch_of e) s.names t.names
   others_kept (of_names edit) said e = of_entries edit (entries_with s.procedures s.names edit) said refl e
   others_kept (define_procedure p) said e = of_procedure p (wrong_call s.procedures p.body) (new_is (is_some (find_procedure s.procedures p.name)) (exists_already p.name) (with_procedure s p (wrong_call s.procedures p.body)) t e).1
   others_kept (label n z text) said e =
@@ -205,6 +208,7 @@ module _ (s t : WholeState) (l : IsLawful s) where
   others_kept (symbol n z sign) said e =
       let r = known_is (is_some (find_def s.names.entries n)) (unknown n) (with_symbols s (put_mark s.symbols n z (sign ∷ []))) t e in
       left_alone _ (within_is 4096 (length (put_mark s.symbols n z (sign ∷ []))) symbols _ t r) refl
+  others_kept (put_back p) said e = let same : with_parts s p.parts ≡ t = cc in subst (λ (u : WholeState). ChangesOnly p.touch s.names u.names) same said.only
 
   -- ---- order
 
@@ -228,7 +232,7 @@ module _ (s t : WholeState) (l : IsLawful s) where
   order_of_procedure p (Some (wrong_count given wanted)) e = absurd cc
   order_of_procedure p None e = stays _ (within_is 32 (length s.procedures + 1) procedures _ t e) refl
 
-  order_kept : (e : WholeEdit) → IsSaid e → attempted s e ≡ Ok t → IsOrderly t.names
+  order_kept : (e : WholeEdit) → IsSaid s e → attempted s e ≡ Ok t → IsOrderly t.names
   order_kept (of_names edit) said e = order_of_entries edit (entries_with s.procedures s.names edit) said refl e
   order_kept (define_procedure p) said e = order_of_procedure p (wrong_call s.procedures p.body) (new_is (is_some (find_procedure s.procedures p.name)) (exists_already p.name) (with_procedure s p (wrong_call s.procedures p.body)) t e).1
   order_kept (label n z text) said e =
@@ -237,6 +241,9 @@ module _ (s t : WholeState) (l : IsLawful s) where
   order_kept (symbol n z sign) said e =
       let r = known_is (is_some (find_def s.names.entries n)) (unknown n) (with_symbols s (put_mark s.symbols n z (sign ∷ []))) t e in
       stays _ (within_is 4096 (length (put_mark s.symbols n z (sign ∷ []))) symbols _ t r) refl
+  order_kept (put_back p) said e =
+      let same : with_parts s p.parts ≡ t = cc in
+      by_good p.parts.entries (ap (λ (u : WholeState). u.names.entries) same) (record { groups = said.groups; apart = said.apart; none_looped = said.none_looped })
 
 pub others_are_kept : OthersAreKept
 others_are_kept s t e l said is = others_kept s t l e said is

@@ -8,7 +8,7 @@ use Rattle.map_edits.specs.Touches.{Touch}
 use Rattle.map_edits.specs.EditCounts.{counts_of}
 use Rattle.map_waves.specs.Plans.{Plan}
 use Rattle.edit_plans.specs.PlansFor.{IsPlanFor}
-use Rattle.edit_plans.specs.Touching.{ChangesOnly}
+use Rattle.map_edits.specs.Touching.{ChangesOnly}
 use Rattle.edit_plans.specs.Orderly.{IsOrderly}
 use Rattle.edit_plans.specs.SourceCounts.{joined, counts_of_sources, counts_of_touched, counts_to_place}
 

@@ -12,7 +12,7 @@ use Rattle.map_waves.specs.Keeping.{IsRightOver}
 use Rattle.map_waves.specs.Plans.{Plan, operands_at}
 use Rattle.map_waves.specs.declared.keeping.Kept.{Kept}
 use Rattle.edit_plans.specs.PlansFor.{IsPlanFor}
-use Rattle.edit_plans.specs.Touching.{ChangesOnly}
+use Rattle.map_edits.specs.Touching.{ChangesOnly}
 
 -- what is kept of a statement that the edit didn't write, of a state without a fault, is right for its operands before
 abbrev pub KeptIsRight : {B : Type 0} → (Size → Op → List Cells → B → Type 0) → Type 0

@@ -1,7 +1,6 @@
 pub mod PlansFor
 pub mod Telling
 pub mod PlanLaws
-pub mod Touching
 pub mod Orderly
 pub mod SourceCounts
 pub mod CountLaws

@@ -14,7 +14,7 @@ use Rattle.map_edits.specs.CountLaws.{IsWithin}
 use Rattle.map_edits.specs.Laws.{HasNoCycle}
 use Rattle.map_waves.specs.Plans.{Plan}
 use Rattle.edit_plans.specs.PlansFor.{IsPlanFor}
-use Rattle.edit_plans.specs.Touching.{ChangesOnly}
+use Rattle.map_edits.specs.Touching.{ChangesOnly}
 use Rattle.edit_plans.specs.Orderly.{IsOrderly}
 use Rattle.edit_plans.specs.SourceCounts.{joined, counts_of_sources, counts_to_place}
 

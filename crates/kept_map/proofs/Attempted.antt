@@ -10,7 +10,8 @@ use Rattle.map_edits.specs.EditForms.{Edit}
 use Rattle.map_edits.specs.Edits.{with_entries}
 use Rattle.map_edits.specs.Marks.{put_mark}
 use Rattle.map_edits.specs.WholeStates.{WholeState}
-use Rattle.map_edits.specs.WholeEdits.{WholeEdit, of_names, define_procedure, label, symbol}
+use Rattle.map_edits.specs.Pasts.{with_parts}
+use Rattle.map_edits.specs.WholeEdits.{WholeEdit, of_names, define_procedure, label, symbol, put_back}
 use Rattle.map_edits.specs.EntriesAfter.{entries_with}
 use Rattle.map_edits.specs.Attempts.{marks_after, with_names, with_procedure, with_labels, with_symbols, attempted}
 use Rattle.map_edits.proofs.LawfulEdits.{within_is, known_is, new_is}
@@ -45,3 +46,4 @@ module _ (s t : WholeState) where
   attempt_counts (symbol n z sign) is =
       let r = known_is (is_some (find_def s.names.entries n)) (unknown n) (with_symbols s (put_mark s.symbols n z (sign ∷ []))) t is in
       left_count _ (within_is 4096 (length (put_mark s.symbols n z (sign ∷ []))) symbols _ t r) refl
+  attempt_counts (put_back p) is = let same : with_parts s p.parts ≡ t = cc in by_entries p.parts.entries (ap (λ (u : WholeState). u.names) same)

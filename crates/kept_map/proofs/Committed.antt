@@ -27,7 +27,7 @@ use Rattle.map_edits.proofs.Defined.{value_is_defined}
 use Rattle.map_edits.proofs.Order.{all_flats_listed}
 use Rattle.map_edits.proofs.GroupsOnce.{groups_once}
 use Rattle.map_edits.proofs.LawfulEdits.{lawful_stays}
-use Rattle.map_edits.proofs.LawfulFaults.{no_fault_stays}
+use Rattle.map_edits.proofs.LawfulFaults.{said_puts_back, no_fault_stays}
 use Rattle.statement_parser.specs.Views.{op_view}
 use Rattle.statement_parser.specs.declared.op.Op.{Op as Given}
 use Rattle.op_jobs.specs.Beside.{suits}
@@ -201,7 +201,7 @@ module _ (m m' : KeptMap) (e : WholeEdit) (t : WholeState) (shift : Shift) (sour
     sources_few = subst (λ (q : EngineState). count_by is_source q.entries ≤ most_sources) (sym new.names_are) new.sources_few;
     flats_few = subst (λ (q : EngineState). count_by is_flat (layers q.entries) ≤ most_flats) (sym new.names_are) new.flats_few;
     graph_is = new.graph_is ∙ ap (λ (q : EngineState). groups_of q.entries) (sym new.names_are);
-    faultless = subst (λ (q : EngineState). fault_of q ≡ None) (sym new.names_are) (no_fault_stays (seen m) e (done (touch_of e) (seen m) t) kept.lawful kept.faultless is_accepted);
+    faultless = subst (λ (q : EngineState). fault_of q ≡ None) (sym new.names_are) (no_fault_stays (seen m) e (done (touch_of e) (seen m) t) kept.lawful kept.faultless (said_puts_back (seen m) e set_up.said) is_accepted);
     sources = subst (λ (q : EngineState). AreKeptSources q m'.sources) (sym new.names_are) new.sources;
     statements = subst (λ (q : EngineState). AreKeptSteps q m'.sources.names.keys m'.planned m'.kept.items) (sym new.names_are) kept_steps;
   }

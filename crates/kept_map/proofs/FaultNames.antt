@@ -12,7 +12,7 @@ use Rattle.map_edits.specs.WholeEdits.{WholeEdit}
 use Rattle.map_edits.specs.Attempts.{attempted}
 use Rattle.map_edits.specs.Touches.{Touch, touch_of}
 use Rattle.map_edits.specs.Counted.{has_fault_row, fault_after, done, unless_fault, of_attempt, accept_counted}
-use Rattle.map_edits.specs.GroupLaws.{IsLawful}
+use Rattle.map_edits.specs.GroupLaws.{IsLawful, PutsBackReached}
 use Rattle.map_edits.proofs.LawfulFaults.{no_fault_stays}
 use Rattle.map_waves.specs.Statements.{Fault, too_many, wide_at}
 use Rattle.map_waves.specs.Plans.{Plan}
@@ -37,14 +37,14 @@ none_after t e none = go (has_fault_row e)
     go false = refl
 
 -- of a state without a fault an edit that may have none makes none
-pub fault_is_after : (s t : WholeState) (e : WholeEdit) → IsLawful s → fault_of s.names ≡ None → attempted s e ≡ Ok t → fault_after e t ≡ fault_of t.names
-fault_is_after s t e lawful none tried = go (has_fault_row e) refl
+pub fault_is_after : (s t : WholeState) (e : WholeEdit) → IsLawful s → fault_of s.names ≡ None → PutsBackReached s e → attempted s e ≡ Ok t → fault_after e t ≡ fault_of t.names
+fault_is_after s t e lawful none reached tried = go (has_fault_row e) refl
   where
     go : (b : Bool) → has_fault_row e ≡ b → fault_after e t ≡ fault_of t.names
     go true row = ap (λ (b : Bool). if b then fault_of t.names else None) row
     go false row =
         let untold : fault_after e t ≡ None = ap (λ (b : Bool). if b then fault_of t.names else None) row in
-        untold ∙ sym (no_fault_stays s e (done (touch_of e) s t) lawful none (accepted s t e tried untold))
+        untold ∙ sym (no_fault_stays s e (done (touch_of e) s t) lawful none reached (accepted s t e tried untold))
 
 module _ (e : WholeEdit) (touch : Touch) (s : EngineState) (t : WholeState) (p : Plan) (sources names : List Name) (plan : IsPlanFor touch s t.names p sources names) (none : HasNoCycle (nodes_of t.names.entries)) where
   pub faultless : AreFaultless p 0 (length names) → fault_after e t ≡ None

@@ -11,6 +11,7 @@ use Rattle.map_edits.specs.WholeStates.{WholeState}
 use Rattle.map_edits.specs.WholeEdits.{WholeEdit}
 use Rattle.map_edits.specs.Touches.{touch_of}
 use Rattle.map_edits.specs.Counted.{fault_after}
+use Rattle.map_edits.proofs.LawfulFaults.{said_puts_back}
 use Rattle.map_waves.specs.Plans.{Plan, changed_to, evaluated_to, worked_to}
 use Rattle.map_waves.specs.Bases.{plan_of}
 use Rattle.map_waves.specs.Prepared.{IsPrepared, ArePrepared}
@@ -55,7 +56,7 @@ module _ (m : KeptMap) (kept : IsKept m) (e : WholeEdit) (t : WholeState) (shift
   the_plan = plan_of op_view base steps
 
   after : fault_after e t ≡ fault_of t.names
-  after = faults.fault_is_after (seen m) t e kept.lawful kept.faultless plan.set_up.attempt
+  after = faults.fault_is_after (seen m) t e kept.lawful kept.faultless (said_puts_back (seen m) e plan.set_up.said) plan.set_up.attempt
 
   none_found : AreFaultless the_plan 0 (length steps) → fault_after e t ≡ None
   none_found are =

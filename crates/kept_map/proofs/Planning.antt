@@ -35,7 +35,7 @@ use Rattle.op_jobs.specs.declared.beside.Beside.{Beside}
 use Rattle.edit_plans.specs.PlansFor.{IsChangeOf, IsPlanFor}
 use Rattle.edit_plans.specs.Planned.{is_source_node, whole_names, IsPlannedStep}
 use Rattle.edit_plans.specs.PlannedLaws.{IsPlannedFrom, IsCounted, AreFormed}
-use Rattle.edit_plans.specs.Touching.{ChangesOnly}
+use Rattle.map_edits.specs.Touching.{ChangesOnly}
 use Rattle.edit_plans.specs.Orderly.{IsOrderly}
 use Rattle.edit_plans.proofs.TouchedAlone.{others_are_kept, order_is_kept}
 use Rattle.edit_plans.proofs.RightBefore.{kept_is_right}

@@ -27,7 +27,7 @@ use Rattle.map_waves.specs.Phases.{AreFaultless, IsFirstFault, EndsDepth}
 use Rattle.map_waves.specs.declared.plans.Step.{Step}
 use Rattle.edit_plans.specs.PlansFor.{IsPlanFor}
 use Rattle.edit_plans.specs.Telling.{fault_told}
-use Rattle.edit_plans.specs.Touching.{ChangesOnly}
+use Rattle.map_edits.specs.Touching.{ChangesOnly}
 use Rattle.edit_plans.specs.Orderly.{IsOrderly}
 use Rattle.edit_plans.specs.SourceCounts.{counts_of_sources}
 use Rattle.edit_plans.specs.ReadLaws.{AreReached}

@@ -31,7 +31,7 @@ change_in m shift i = source_by m.extent shift i (slice_get m.sources.layers.ite
 
 -- the state that an edit would make, and what becomes of the sources, which have these names
 pub record IsSetUp (m : KeptMap) (e : WholeEdit) (t : WholeState) (shift : Shift) (sources : List Name) : Type 0 where
-  pub said : IsSaid e
+  pub said : IsSaid (seen m) e
   pub attempt : attempted (seen m) e ≡ Ok t
   pub shift_is : IsShift m.extent shift
   pub operands : (i : ℕ) → IsOperand m.extent (change_in m shift i)

@@ -1,9 +1,9 @@
 //! Sources are put in and taken out, without memory.
 
-ghost use Rattle.std.specs.Prelude.{◌≡◌, ◌<◌, ◌++◌, ◌∷◌, [], length, map, position, bytes_eq, remove, vec_capacity, None, IfSome, IfNone, OnOk};
+ghost use Rattle.std.specs.Prelude.{◌≡◌, ◌<◌, ◌++◌, ◌∷◌, [], length, map, option_map, position, bytes_eq, remove, slice_get, vec_capacity, Some, None, IfSome, IfNone, OnOk};
 ghost use Rattle.std.specs.List.{IsDistinct};
 ghost use Rattle.indexmap.specs.IndexSet.{spare};
-ghost use Rattle.kept_map.specs.Maps.{seen};
+ghost use Rattle.kept_map.specs.Maps.{seen, source_in};
 ghost use Rattle.kept_map.specs.Keeps.{IsKept};
 ghost use Rattle.kept_map.specs.Rooms.{HasSourceRoom, HasNextRoom};
 ghost use Rattle.kept_map.specs.Lowering.{lowered, IsLowered, AreLowered, IsTakenOut};
@@ -53,23 +53,23 @@ impl Sources {
         add_layer(&mut self.layers, layer);
     }
 
-    /// Takes a source out and answers its place; nothing where the name is no source. The sources after it come one place forward.
-    fn take_out(&mut self, name: &Name) -> Option<usize>
+    /// Takes a source out and answers its place, its name and its layer; nothing where the name is no source. The sources after it
+    /// come one place forward.
+    fn take_out(&mut self, name: &Name) -> Option<(usize, Name, Layer)>
         requires apart { IsDistinct bytes_eq self.old.names.keys }
         requires count { length self.old.layers.items ≡ length self.old.names.keys }
-        ensures place { result ≡ position (bytes_eq name.now) self.old.names.keys }
-        ensures names { IfSome result (λ place. self.new.names.keys ≡ remove self.old.names.keys place) }
-        ensures layers { IfSome result (λ place. self.new.layers.items ≡ remove self.old.layers.items place) }
+        ensures place { option_map (λ out. out.0) result ≡ position (bytes_eq name.now) self.old.names.keys }
+        ensures out { IfSome result (λ out. (out.1 ≡ name.now) × (slice_get self.old.layers.items out.0 ≡ Some out.2)) }
+        ensures names { IfSome result (λ out. self.new.names.keys ≡ remove self.old.names.keys out.0) }
+        ensures layers { IfSome result (λ out. self.new.layers.items ≡ remove self.old.layers.items out.0) }
         ensures names_stay { IfNone result (self.new.names.keys ≡ self.old.names.keys) }
         ensures layers_stay { IfNone result (self.new.layers.items ≡ self.old.layers.items) }
         ensures apart { IsDistinct bytes_eq self.new.names.keys }
     {
-        let place = self.names.get_index_of(name);
-        if let Some(place) = place {
-            self.names.shift_remove_index(place);
-            self.layers.remove(place);
-        }
-        place
+        let place = self.names.get_index_of(name)?;
+        let own = self.names.shift_remove_index(place)?;
+        let layer = self.layers.remove(place);
+        Some((place, own, layer))
     }
 }
 
@@ -134,14 +134,21 @@ fn lower_sources(steps: &mut [Step<Op>], place: usize)
     }
 }
 
-/// Takes a source out, where the name is one, and lets the operands of all steps go with those that are left.
-pub fn take_source(sources: &mut Sources, steps: &mut [Step<Op>], name: &Name)
+/// Takes a source out, where the name is one, and lets the operands of all steps go with those that are left. Answers the
+/// source's name and its layer.
+pub fn take_source(
+    sources: &mut Sources,
+    steps: &mut [Step<Op>],
+    name: &Name,
+) -> Option<(Name, Layer)>
     requires apart { IsDistinct bytes_eq sources.old.names.keys }
     requires count { length sources.old.layers.items ≡ length sources.old.names.keys }
     ensures taken { IsTakenOut (position (bytes_eq name.now) sources.old.names.keys) sources.old sources.new steps.old steps.new }
     ensures apart { IsDistinct bytes_eq sources.new.names.keys }
+    ensures out { option_map (λ out. out.1) result ≡ source_in sources.old name.now }
+    ensures own { IfSome result (λ out. out.0 ≡ name.now) }
 {
-    if let Some(place) = sources.take_out(name) {
-        lower_sources(steps, place);
-    }
+    let (place, own, layer) = sources.take_out(name)?;
+    lower_sources(steps, place);
+    Some((own, layer))
 }

@@ -4,6 +4,7 @@ ghost use Rattle.map_nums.specs.Grids.{cells_in, cell_at, constant};
 ghost use Rattle.layer_tiles.specs.Tiles.{tiles_in, tile_block};
 ghost use Rattle.layer_tiles.specs.Patches.{HoldsAll, patched};
 ghost use Rattle.layer_tiles.specs.Layers.{IsLayer, IsCommitted, layer_of};
+ghost use Rattle.layer_tiles.specs.Exchanges.{tiles_at};
 ghost use Rattle.layer_tiles.specs.Windows.{window_of, span_of, tiles_lent, LendsInReach};
 ghost use Rattle.layer_tiles.specs.Tallies.{looked, picked};
 ghost use Rattle.layer_tiles.specs.Runs.{run_length, IsRun};
@@ -17,7 +18,7 @@ use crate::tiles::Tile;
 use crate::views::TileView;
 use crate::wholes::{whole_cell, whole_run, whole_view};
 use crate::windows::{Window, span};
-use crate::writes::{put_tiles, stamp_tiles};
+use crate::writes::stamp_tiles;
 use map_nums::NoMemory;
 use std::alloc::Global;
 use std::marker::Model;
@@ -154,8 +155,19 @@ impl Layer {
         requires { patch.size ≡ self.old.size }
         ensures { IsCommitted self.old patch stamp self.new }
     {
+        let _own = self.exchange(patch, stamp);
+    }
+
+    /// Puts each tile of a patch in place of the layer's own, and hands the layer's own tiles back. A tile whose cells differ
+    /// gets the stamp.
+    pub fn exchange(&mut self, mut patch: Patch, stamp: u64) -> Patch
+        requires { patch.size ≡ self.old.size }
+        ensures committed { IsCommitted self.old patch stamp self.new }
+        ensures taken { result ≡ record { size = patch.size; tiles = tiles_at self.old.size self.old.cells patch.tiles } }
+    {
         stamp_tiles(self.extent, &patch, &self.tiles, &mut self.stamps, stamp);
-        put_tiles(self.extent, patch, &mut self.tiles);
+        patch.swap_with(&mut self.tiles);
+        patch
     }
 
     /// Gives every tile the stamp.

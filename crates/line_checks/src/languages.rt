@@ -11,7 +11,7 @@ fn is_refused(rt: &(impl AllocGlobal + Abort), table: Table, line: &[u8], want: 
 
 #[test]
 fn refused_by_the_language_and_the_place(rt: HostRuntime) {
-    let lines: [(Table, &[u8], LineRefusal); 15] = [
+    let lines: [(Table, &[u8], LineRefusal); 16] = [
         (
             Table::Program,
             b"C = LocalSum of A and B ignoring nulls",
@@ -24,6 +24,7 @@ fn refused_by_the_language_and_the_place(rt: HostRuntime) {
         ),
         (Table::Program, b"model 2", LineRefusal::Syntax(1)),
         (Table::Program, b"model 3", LineRefusal::Syntax(1)),
+        (Table::Early, b"undo 1", LineRefusal::Syntax(6)),
         (Table::Early, b"model", LineRefusal::Syntax(6)),
         (Table::Early, b"model two", LineRefusal::Syntax(7)),
         (Table::Early, b"model 0", LineRefusal::Number(7)),
@@ -66,6 +67,11 @@ fn has_form(rt: &(impl AllocGlobal + Abort), line: &[u8], want: &str) {
         Ok(found) => assert_eq!(rt; found.form, want),
         Err(_) => panic!(rt; "not read"),
     }
+}
+
+#[test]
+fn undo_is_there_early(rt: HostRuntime) {
+    has_form(&rt, b" undo ", "undo");
 }
 
 #[test]

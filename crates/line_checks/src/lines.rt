@@ -20,6 +20,11 @@ fn refused_words(rt: HostRuntime) {
     refused(&rt, b"symbol A 1 ab", LineRefusal::Syntax(13));
     refused(&rt, b"label Z 1", LineRefusal::Syntax(10));
     refused(&rt, b"legend", LineRefusal::Syntax(7));
+    refused(&rt, b"undo x", LineRefusal::Syntax(6));
+    refused(&rt, b" undo undo", LineRefusal::Syntax(7));
+    refused(&rt, b"undo = LocalSum of A and 1", LineRefusal::Syntax(6));
+    refused(&rt, b"Undo", LineRefusal::Syntax(5));
+    refused(&rt, b"new undo 1", LineRefusal::Syntax(5));
 }
 
 #[test]
@@ -126,6 +131,8 @@ fn has_form(rt: &(impl AllocGlobal + Abort), line: &[u8], want: &str) {
 #[test]
 fn each_form_is_read(rt: HostRuntime) {
     has_form(&rt, b"\t # note \x80", "blank");
+    has_form(&rt, b"undo", "undo");
+    has_form(&rt, b"\t undo ", "undo");
     has_form(&rt, b" quit ", "quit");
     has_form(&rt, b"list", "list");
     has_form(&rt, b"value A.b 1 2", "value at 1 2");

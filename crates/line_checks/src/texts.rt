@@ -33,7 +33,7 @@ const OPERATIONS: [Operation; 11] = [
     Operation::Drainage,
 ];
 
-const COMMANDS: [Command; 15] = [
+const COMMANDS: [Command; 16] = [
     Command::Model,
     Command::Procedure,
     Command::Paint,
@@ -41,6 +41,7 @@ const COMMANDS: [Command; 15] = [
     Command::Drop,
     Command::Label,
     Command::Symbol,
+    Command::Undo,
     Command::Value,
     Command::Grid,
     Command::Show,
@@ -95,6 +96,7 @@ fn form_of(line: &Line) -> &'static str {
         Line::Blank => "blank",
         Line::Model(Language::One) => "language 1",
         Line::Model(Language::Two) => "language 2",
+        Line::Undo => "undo",
         Line::Quit => "quit",
         Line::Ask(request) => form_of_request(request),
         Line::Edit(edit) => form_of_edit(edit),

@@ -15,7 +15,7 @@ use Rattle.map_edits.specs.Allowances.{edit_reads}
 use Rattle.statement_parser.specs.declared.op.Op.{Op as Given}
 use Rattle.map_waves.specs.declared.plans.Shift.{Shift}
 use Rattle.map_waves.specs.declared.plans.Step.{Step}
-use Rattle.edit_plans.specs.Touching.{ChangesOnly}
+use Rattle.map_edits.specs.Touching.{ChangesOnly}
 use Rattle.edit_plans.specs.Orderly.{IsOrderly}
 use Rattle.edit_plans.specs.SourceCounts.{joined, counts_of_sources, counts_of_touched, counts_to_place}
 use Rattle.edit_plans.proofs.CountsSummed.{counts_are_summed}
@@ -31,7 +31,7 @@ use Rattle.kept_map.proofs.Allowed.{sources_allowed}
 use Rattle.live_engine.specs.Accepts.{ReadsWithin}
 
 -- no more than for the tiles of the edit's own source
-pub reads_tried : (s t : WholeState) (e : WholeEdit) → IsLawful s → IsSaid e → attempted s e ≡ Ok t → (a : ℕ) (x y : TallyState) → a ≤ 64 * (counts_of_touched (touch_of e) s.names t.names).evaluated → RisesBy a 0 x y → ReadsWithin s e x y
+pub reads_tried : (s t : WholeState) (e : WholeEdit) → IsLawful s → IsSaid s e → attempted s e ≡ Ok t → (a : ℕ) (x y : TallyState) → a ≤ 64 * (counts_of_touched (touch_of e) s.names t.names).evaluated → RisesBy a 0 x y → ReadsWithin s e x y
 reads_tried s t e lawful said tried a x y few first =
     let changes = others_are_kept s t e lawful said tried in
     let orderly = order_is_kept s t e lawful said tried in

@@ -1,11 +1,10 @@
 -- A source that is added: when it may be, its draft, and how loads and new layers are refused.
 use Rattle.std.proofs.Common.{◌≡◌, ℕ, ◌+◌, ◌<◌, ◌≤◌, ◌^◌, Bool, true, false, cond, List, [], ◌∷◌, ◌++◌, length, count_by, position, ◌==◌, ℤ, Option, Some, None, is_some, Ok, Err, bytes_eq, IsTrue, refl, sym, ap, ◌∙◌, arith}
-use Rattle.std.proofs.lemmas.Bool.{true≢false, lt-ltb, le-ltb, and_from, eq-eqb}
+use Rattle.std.proofs.lemmas.Bool.{true≢false, lt-ltb, le-ltb, and_from, and_parts, eq-eqb, eqb-true}
 use Rattle.map_nums.specs.Grids.{Size, Grid, constant}
 use Rattle.map_words.specs.Names.{is_plain}
 use Rattle.map_defs.specs.Ops.{Name}
-use Rattle.layer_tiles.specs.Layers.{LayerState, IsLayer, layer_of}
-use Rattle.map_nums.specs.Counts.{raised}
+use Rattle.layer_tiles.specs.Layers.{LayerState, IsLayer}
 use Rattle.procedure_expand.proofs.Plain.{plain_undotted}
 use Rattle.statement_graph.specs.Groups.{Group, nodes_in, has_group}
 use Rattle.statement_graph.specs.Puts.{source_node}
@@ -67,7 +66,7 @@ module _ (m : KeptMap) (keeps : IsKept m) (n : Name) where
 
 -- ---- the draft
 
-module _ (m : KeptMap) (keeps : IsKept m) (n key : Name) (plain : IsTrue (is_plain n)) (absent : find_def (entries_in m) n ≡ None) (layer : LayerState) (stamped : layer ≡ layer_of m.extent layer.cells (raised m.number 1)) (whole : IsLayer layer)
+module _ (m : KeptMap) (keeps : IsKept m) (n key : Name) (plain : IsTrue (is_plain n)) (absent : find_def (entries_in m) n ≡ None) (layer : LayerState) (sized : layer.size ≡ m.extent) (whole : IsLayer layer)
     (same : key ≡ n) (few : count_by is_source (entries_in m) < most_sources) (graph : List Group) (graph_is : graph ≡ m.graph ++ record { name = n; nodes = source_node n ∷ [] } ∷ []) (edit : Edit) (adding : IsAdding (seen m) edit n (grid_of layer)) where
   abbrev new : List Entry
   new = put_entry (entries_in m) n (source (grid_of layer))
@@ -75,13 +74,13 @@ module _ (m : KeptMap) (keeps : IsKept m) (n key : Name) (plain : IsTrue (is_pla
   entries_are : entries_with m.procedures (names_in m) edit ≡ Ok new
   entries_are = adding.after ∙ ap (λ b. cond b (Ok new) (Err (beyond sources))) (lt-ltb (count_by is_source (entries_in m)) most_sources few)
 
-  added_attempt : attempted (seen m) (of_names edit) ≡ Ok (state_after (seen m) n (Source key layer))
+  added_attempt : attempted (seen m) (of_names edit) ≡ Ok (state_after (seen m) n (Source key layer None) None None)
   added_attempt =
       ap (with_names (seen m) edit) entries_are
       ∙ ap (λ ms. Ok (record (seen m) { names = with_entries (names_in m) new; labels = ms; symbols = marks_after edit m.symbols })) (adding.marks m.labels)
       ∙ ap (λ ms. Ok (record (seen m) { names = with_entries (names_in m) new; symbols = ms })) (adding.marks m.symbols)
 
-  pub added_draft : IsDraftOf m (of_names edit) n (Source key layer) graph
+  pub added_draft : IsDraftOf m (of_names edit) n (Source key layer None) graph None None
   added_draft =
       let good = (entries_good m.procedures (names_in m) edit new keeps.lawful.made (good_of (seen m) keeps.lawful) adding.plain entries_are).good in
       record {
@@ -90,7 +89,7 @@ module _ (m : KeptMap) (keeps : IsKept m) (n key : Name) (plain : IsTrue (is_pla
         touch = adding.touch;
         attempt = added_attempt;
         lawful = record { made = keeps.lawful.made; groups = good.groups; apart = good.apart; none_looped = good.none_looped };
-        fits = record { same = same; absent = absent; stamped = stamped; whole = whole };
+        fits = record { same = same; absent = absent; sized = sized; whole = whole; seat = tt };
         graph_is = graph_is ∙ ap (λ g. g ++ record { name = n; nodes = source_node n ∷ [] } ∷ []) keeps.graph_is ∙ groups_add (entries_in m) n (grid_of layer) absent;
         sources_few = let more = source_more (entries_in m) n (grid_of layer) in omega (arith, more, few);
         flats_few = let stay = flats_stay (entries_in m) n (grid_of layer) in let was = keeps.flats_few in omega (arith, stay, was);
@@ -145,6 +144,11 @@ same_itself s = and_from (s.rows == s.rows) (s.columns == s.columns) (eq-eqb s.r
 
 pub size_of : (one other : Size) → one ≡ other → same_size one other ≡ true
 size_of one other same = ap (λ s. same_size s other) same ∙ same_itself other
+
+pub same_sized : (one other : Size) → same_size one other ≡ true → one ≡ other
+same_sized one other same =
+    let both = and_parts (one.rows == other.rows) (one.columns == other.columns) same in
+    ap (λ (k : ℕ). record one { rows = k }) (eqb-true one.rows other.rows both.0) ∙ ap (λ (k : ℕ). record other { columns = k }) (eqb-true one.columns other.columns both.1)
 
 -- the state that is seen is refused with its own size
 pub size_refused : (s : WholeState) (e : WholeEdit) (rows columns : ℕ) → accept_counted s e ≡ Err (wrong_size s.names.size) → rows ≡ s.names.size.rows → columns ≡ s.names.size.columns → Refuses s s e (a_refusal.Size rows columns)

@@ -1,5 +1,5 @@
 -- A name that is dropped: what is left is few, and the draft.
-use Rattle.std.proofs.Common.{◌≡◌, ◌≤◌, Bool, true, false, cond, not, List, [], ◌∷◌, count_by, is_some, Ok, Err, bytes_eq, IsTrue, refl, ap, ◌∙◌, arith}
+use Rattle.std.proofs.Common.{◌≡◌, ◌≤◌, Bool, true, false, cond, not, List, [], ◌∷◌, count_by, Option, Some, None, is_some, unwrap_or, IfSome, IfNone, Ok, Err, bytes_eq, IsTrue, refl, sym, ap, ◌∙◌, arith}
 use Rattle.map_words.specs.Names.{is_plain}
 use Rattle.map_defs.specs.Ops.{Name}
 use Rattle.procedure_expand.proofs.Plain.{plain_undotted}
@@ -10,6 +10,8 @@ use Rattle.map_edits.specs.EditForms.{drop_name}
 use Rattle.map_edits.specs.Refusals.{unknown}
 use Rattle.map_edits.specs.Limits.{is_source, is_flat}
 use Rattle.map_edits.specs.EntriesAfter.{entries_with}
+use Rattle.map_edits.specs.Edits.{with_entries}
+use Rattle.map_edits.specs.Marks.{Mark, drop_marks}
 use Rattle.map_edits.specs.Attempts.{with_names, attempted}
 use Rattle.map_edits.specs.WholeStates.{WholeState}
 use Rattle.map_edits.proofs.LawfulEdits.{entries_good, good_of}
@@ -43,11 +45,17 @@ fewer_flats (e ∷ es) n = go (bytes_eq e.name n) (fewer_flats es n)
 pub drop_unknown : (s : WholeState) (n : Name) → is_some (find_def s.names.entries n) ≡ false → attempted s (drops n) ≡ Err (unknown n)
 drop_unknown s n free = ap (with_names s (drop_name n)) (ap (λ b. cond b (Ok (drop_entry s.names.entries n)) (Err (unknown n))) free)
 
-module _ (m : KeptMap) (keeps : IsKept m) (n : Name) (plain : IsTrue (is_plain n)) (there : is_some (find_def (entries_in m) n) ≡ true) (graph : List Group) (graph_is : graph ≡ drop_group m.graph n) where
+-- the marks without those of the name, or as they were where it has none
+pub without_it : (own dropped : List Mark) (left : Option (List Mark)) → IfSome left (λ marks. marks ≡ dropped) → IfNone left (dropped ≡ own) → dropped ≡ unwrap_or left own
+without_it own dropped None some none = none
+without_it own dropped (Some marks) some none = sym some
+
+module _ (m : KeptMap) (keeps : IsKept m) (n : Name) (plain : IsTrue (is_plain n)) (there : is_some (find_def (entries_in m) n) ≡ true) (graph : List Group) (graph_is : graph ≡ drop_group m.graph n)
+    (labels symbols : Option (List Mark)) (labels_left : drop_marks m.labels n ≡ unwrap_or labels m.labels) (symbols_left : drop_marks m.symbols n ≡ unwrap_or symbols m.symbols) where
   entries_are : entries_with m.procedures (names_in m) (drop_name n) ≡ Ok (drop_entry (entries_in m) n)
   entries_are = ap (λ b. cond b (Ok (drop_entry (entries_in m) n)) (Err (unknown n))) there
 
-  pub dropped_draft : IsDraftOf m (drops n) n Out graph
+  pub dropped_draft : IsDraftOf m (drops n) n Out graph labels symbols
   dropped_draft =
       let undotted = plain_undotted n plain in
       let good = (entries_good m.procedures (names_in m) (drop_name n) (drop_entry (entries_in m) n) keeps.lawful.made (good_of (seen m) keeps.lawful) undotted entries_are).good in
@@ -55,7 +63,10 @@ module _ (m : KeptMap) (keeps : IsKept m) (n : Name) (plain : IsTrue (is_plain n
         plain = plain;
         said = undotted;
         touch = refl;
-        attempt = ap (with_names (seen m) (drop_name n)) entries_are;
+        attempt =
+            ap (with_names (seen m) (drop_name n)) entries_are
+            ∙ ap (λ (ms : List Mark). Ok (record (seen m) { names = with_entries (names_in m) (drop_entry (entries_in m) n); labels = ms; symbols = drop_marks m.symbols n })) labels_left
+            ∙ ap (λ (ms : List Mark). Ok (record (seen m) { names = with_entries (names_in m) (drop_entry (entries_in m) n); labels = unwrap_or labels m.labels; symbols = ms })) symbols_left;
         lawful = record { made = keeps.lawful.made; groups = good.groups; apart = good.apart; none_looped = good.none_looped };
         fits = tt;
         graph_is = graph_is ∙ ap (λ g. drop_group g n) keeps.graph_is ∙ groups_drop (entries_in m) n;

@@ -15,7 +15,12 @@ pub mod Settled
 pub mod Bodies
 pub mod Noted
 pub mod Refusing
+pub mod Reached
+pub mod Backs
+pub mod Putting
 pub mod AddedStates
+pub mod Seated
+pub mod SeatedSources
 pub mod Denied
 pub mod FewCounts
 pub mod DraftStates
@@ -23,3 +28,4 @@ pub mod DraftMaps
 pub mod DroppedStates
 pub mod PaintedMaps
 pub mod Unpainted
+pub mod TileBacks

@@ -1,13 +1,16 @@
--- An edit that notes something beside the names: the state that it makes, and the map after it, whose layers are all as they were.
-use Rattle.std.proofs.Common.{◌≡◌, ℕ, ◌+◌, ◌≤◌, Bool, true, false, cond, nat_lt, List, [], ◌∷◌, filter, map, length, sum_by, position, Option, Some, None, is_some, option_map, unwrap_or, bytes_eq, Ok, Err, refl, sym, ap, subst, ◌∙◌, arith}
+-- An edit that changes what is noted beside the names: the state that it makes, and the map after it, whose layers are all as they were.
+use Rattle.std.proofs.Common.{◌≡◌, ℕ, ◌+◌, ◌-◌, ◌≤◌, Bool, true, false, cond, nat_lt, List, [], ◌∷◌, ◌++◌, filter, map, take, length, sum_by, position, Option, Some, None, is_some, option_map, unwrap_or, bytes_eq, IsTrue, Ok, Err, refl, sym, ap, subst, ◌∙◌, arith}
 use Rattle.std.specs.List.{All}
 use Rattle.std.proofs.lemmas.Bool.{true≢false, false≢true}
 use Rattle.std.proofs.lemmas.Bool.Decides.{nat_tests}
-use Rattle.std.proofs.lemmas.List.Elements.{All-push}
+use Rattle.std.proofs.Math.Seq.{take-append_seam}
+use Rattle.std.proofs.lemmas.List.{length-append}
+use Rattle.std.proofs.lemmas.List.Elements.{All-push, All-take}
 use Rattle.std.proofs.lemmas.List.Sums.{sum_by-cons}
 use Rattle.map_nums.specs.Counts.{raised}
 use Rattle.map_nums.specs.Grids.{Grid, Cells}
 use Rattle.map_defs.specs.Ops.{Name, Op, terms_of}
+use Rattle.map_defs.specs.Statements.{Procedure}
 use Rattle.map_defs.specs.Calls.{wrong_call}
 use Rattle.map_defs.proofs.Unchanged.{changed_none}
 use Rattle.map_defs.specs.Differences.{changed_tiles}
@@ -20,18 +23,22 @@ use Rattle.op_jobs.specs.Beside.{suits}
 use Rattle.map_edits.specs.Refusals.{Which, beyond, procedures, labels, symbols, exists_already, unknown}
 use Rattle.map_edits.specs.Marks.{put_mark}
 use Rattle.map_edits.specs.LayerDefs.{Making, given_grid, by_op, LayerDef, layers}
-use Rattle.map_edits.specs.EngineStates.{term_cells, value_of}
+use Rattle.map_edits.specs.EngineStates.{EngineState, term_cells, value_of}
 use Rattle.map_edits.specs.LayerChanges.{changed_of, damage_of, work_of, operands_in, now_of}
 use Rattle.map_edits.specs.CountLaws.{CountsNothing}
+use Rattle.map_edits.specs.Edits.{with_entries}
 use Rattle.map_edits.specs.WholeStates.{WholeState, Stamps, cells_of}
-use Rattle.map_edits.specs.Attempts.{unless_more, with_procedure, with_labels, with_symbols, attempted}
+use Rattle.map_edits.specs.WholeEdits.{WholeEdit, put_back}
+use Rattle.map_edits.specs.Pasts.{Parts, parts_of}
+use Rattle.map_edits.specs.Attempts.{unless_more, counted, with_procedure, with_labels, with_symbols, attempted}
 use Rattle.map_edits.specs.Touches.{touch_of, nothing}
+use Rattle.map_edits.specs.Touching.{ChangesOnly}
 use Rattle.map_edits.specs.GroupLaws.{IsSaid}
 use Rattle.map_edits.specs.Counted.{Accepted, of_attempt, unless_fault, fault_after, accept_counted}
 use Rattle.map_edits.specs.EditCounts.{counts_of}
 use Rattle.map_edits.specs.StampsAfter.{stamps_at, stamped}
 use Rattle.map_edits.proofs.LawfulEdits.{lawful_stays}
-use Rattle.map_edits.proofs.LawfulFaults.{no_fault_stays}
+use Rattle.map_edits.proofs.LawfulFaults.{said_puts_back, no_fault_stays}
 use Rattle.map_edits.proofs.Unchanged.{counts_nothing}
 use Rattle.edit_plans.specs.Orderly.{IsOrderly}
 use Rattle.edit_plans.specs.SourceCounts.{no_counts}
@@ -41,14 +48,21 @@ use Rattle.edit_plans.proofs.Positions.{position_at}
 use Rattle.edit_plans.proofs.Restamped.{old_is_stamped}
 use Rattle.kept_map.specs.Maps.{at_place, layer_in, entries_in, names_in, stamps_seen, seen}
 use Rattle.kept_map.specs.Keeps.{IsKept, IsKeptStep, AreKeptSteps}
+use Rattle.kept_map.specs.Repairs.{counts_view}
 use Rattle.kept_map.specs.declared.maps.KeptMap.{KeptMap}
 use Rattle.kept_map.proofs.Asked.{IsTold, source_told, statement_told, nothing_told}
 use Rattle.kept_map.proofs.LayersByName.{layer_kept, layer_source}
 use Rattle.kept_map.proofs.SourceLayers.{layer_at, source_at, source_none, source_whole}
-use Rattle.live_engine.specs.Notes.{edit_of_note, procedures_with, labels_with, symbols_with, with_note, MayNote}
+use Rattle.live_engine.specs.Accepts.{Accepts}
+use Rattle.live_engine.specs.Inverses.{back, touched, past_of, is_note, Suits, AreReached, Fits, TakesBack}
+use Rattle.live_engine.specs.Notes.{with_beside, edit_of_note, procedures_with, labels_with, symbols_with, with_note, MayNote, IsNoteBack}
+use Rattle.live_engine.specs.declared.edits.Accepted.{Accepted as Told}
+use Rattle.live_engine.specs.declared.inverses.Inverse.{Inverse}
+use Rattle.live_engine.specs.declared.inverses.Inverse.TheVariants as inverses
 use Rattle.live_engine.specs.declared.noting.Note.{Note}
 use Rattle.live_engine.specs.declared.noting.Note.TheVariants as notes
 use Rattle.live_engine.proofs.Bodies.{body_made}
+use Rattle.live_engine.proofs.Reached.{kept_reached, reached_said}
 
 not_less : (most count : ℕ) → count ≤ most → nat_lt most count ≡ false
 not_less most count few = grind (arith, nat_tests)
@@ -61,7 +75,7 @@ few_enough most count which t few = go (nat_lt most count) refl
     go false e = refl
 
 -- the state that it makes
-pub note_attempt : (s : WholeState) (note : Note) → MayNote s note → attempted s (edit_of_note note) ≡ Ok (with_note s note)
+note_attempt : (s : WholeState) (note : Note) → MayNote s note → attempted s (edit_of_note note) ≡ Ok (with_note s note)
 note_attempt s (notes.Procedure p) may =
     ap (λ o. cond (is_some o) (Err (exists_already p.name)) (with_procedure s (procedure_view p) (wrong_call s.procedures (procedure_view p).body))) may.new
     ∙ ap (with_procedure s (procedure_view p)) may.right
@@ -73,7 +87,7 @@ note_attempt s (notes.Symbol n z sign) may =
     ap (λ b. cond b (with_symbols s (put_mark s.symbols n z (sign ∷ []))) (Err (unknown n))) may.0
     ∙ few_enough 4096 (length (put_mark s.symbols n z (sign ∷ []))) symbols (with_note s (notes.Symbol n z sign)) may.1
 
-note_said : (s : WholeState) (note : Note) → MayNote s note → IsSaid (edit_of_note note)
+note_said : (s : WholeState) (note : Note) → MayNote s note → IsSaid s (edit_of_note note)
 note_said s (notes.Procedure p) may = body_made (procedure_view p) may.formed
 note_said s (notes.Label n z text) may = tt
 note_said s (notes.Symbol n z sign) may = tt
@@ -114,14 +128,26 @@ module _ (q : LayerDef → Bool) (P : LayerDef → Type 0) where
       go true h rest = let first = sum_by-cons f l (filter q ls) in let one = none l each.0 h in omega (arith, first, one, rest)
       go false h rest = rest
 
--- ---- the map with a note
+-- ---- the map after it
 
-module _ (m : KeptMap) (note : Note) (kept : IsKept m) (may : MayNote (seen m) note) where
+-- other procedures, labels and symbols, and one more edit is counted
+abbrev pub beside : WholeState → Parts → WholeState
+beside s p = record (counted s) { procedures = p.procedures; labels = p.labels; symbols = p.symbols }
+
+-- an edit that makes this state, and touches no layer
+pub record IsBeside (m : KeptMap) (e : WholeEdit) (p : Parts) : Type 0 where
+  pub attempt : attempted (seen m) e ≡ Ok (beside (seen m) p)
+  pub touches : touch_of e ≡ nothing
+  pub faultless : fault_after e (beside (seen m) p) ≡ None
+  pub said : IsSaid (seen m) e
+  pub formed : All IsProcedure p.procedures
+
+module _ (m : KeptMap) (e : WholeEdit) (p : Parts) (kept : IsKept m) (is : IsBeside m e p) where
   abbrev after : WholeState
-  after = with_note (seen m) note
+  after = beside (seen m) p
 
   abbrev pub noted : KeptMap
-  noted = record m { procedures = procedures_with m.procedures note; labels = labels_with m.labels note; symbols = symbols_with m.symbols note; number = raised m.number 1 }
+  noted = record (with_beside m p) { number = raised m.number 1 }
 
   -- no value depends on the number of edits
   same_values : value_of after.names ≡ value_of (names_in m)
@@ -226,15 +252,12 @@ module _ (m : KeptMap) (note : Note) (kept : IsKept m) (may : MayNote (seen m) n
 
   -- ---- the map
 
-  pub noted_is : (put : KeptMap) (number : ℕ) → put ≡ record m { procedures = procedures_with m.procedures note; labels = labels_with m.labels note; symbols = symbols_with m.symbols note } → number ≡ raised m.number 1 → record put { number = number } ≡ noted
-  noted_is put number is rises = ap (λ (x : KeptMap). record x { number = number }) is ∙ ap (λ k. record noted { number = k }) rises
-
-  pub note_accepted : accept_counted (seen m) (edit_of_note note) ≡ Ok (record { state = seen noted; counts = no_counts })
+  note_accepted : accept_counted (seen m) e ≡ Ok (record { state = seen noted; counts = no_counts })
   unfolding accept_counted
   note_accepted =
-      ap (of_attempt (seen m) (edit_of_note note)) (note_attempt (seen m) note may)
-      ∙ ap (unless_fault (touch_of (edit_of_note note)) (seen m) after) (note_faultless note after)
-      ∙ ap (λ u. Ok (record { state = stamped (seen m) after; counts = counts_of u (names_in m) after.names })) (note_touches note)
+      ap (of_attempt (seen m) e) is.attempt
+      ∙ ap (unless_fault (touch_of e) (seen m) after) is.faultless
+      ∙ ap (λ u. Ok (record { state = stamped (seen m) after; counts = counts_of u (names_in m) after.names })) is.touches
       ∙ ap (λ c. Ok (record { state = stamped (seen m) after; counts = c })) counts_are
       ∙ ap (λ s. Ok (record { state = s; counts = no_counts })) (sym seen_noted)
 
@@ -243,30 +266,113 @@ module _ (m : KeptMap) (note : Note) (kept : IsKept m) (may : MayNote (seen m) n
     planned_are = kept.statements.planned_are;
     count = kept.statements.count;
     each = λ k n x own at here now.
-        let is = kept.statements.each k n x own at here now in
+        let step = kept.statements.each k n x own at here now in
         record {
-          making = is.making;
-          ranges = is.ranges;
-          written = is.written;
-          value = same_cells n ∙ is.value;
-          size = is.size;
-          whole = is.whole;
-          beside = subst (λ (os : List Cells). suits m.extent (op_view x.op) os own.beside) (same_operands (op_view x.op)) is.beside;
+          making = step.making;
+          ranges = step.ranges;
+          written = step.written;
+          value = same_cells n ∙ step.value;
+          size = step.size;
+          whole = step.whole;
+          beside = subst (λ (os : List Cells). suits m.extent (op_view x.op) os own.beside) (same_operands (op_view x.op)) step.beside;
         };
   }
 
-  pub noted_kept : IsKept noted
+  noted_kept : IsKept noted
   noted_kept =
       let a : Accepted = record { state = seen noted; counts = no_counts } in
       record {
         size = kept.size;
         named = kept.named;
-        formed = noted_formed (seen m) note may kept.formed;
-        lawful = lawful_stays (seen m) (edit_of_note note) a kept.lawful (note_said (seen m) note may) note_accepted;
+        formed = is.formed;
+        lawful = lawful_stays (seen m) e a kept.lawful is.said note_accepted;
         sources_few = kept.sources_few;
         flats_few = kept.flats_few;
         graph_is = kept.graph_is;
-        faultless = no_fault_stays (seen m) (edit_of_note note) a kept.lawful kept.faultless note_accepted;
+        faultless = no_fault_stays (seen m) e a kept.lawful kept.faultless (said_puts_back (seen m) e is.said) note_accepted;
         sources = record { stand = kept.sources.stand; apart = kept.sources.apart; count = kept.sources.count; whole = kept.sources.whole };
         statements = steps_stay;
       }
+
+  -- once it is noted and counted
+  module _ (put new : KeptMap) (put_is : put ≡ with_beside m p) (new_is : new ≡ record put { number = raised put.number 1 }) where
+    pub is_noted : new ≡ noted
+    is_noted = new_is ∙ ap (λ (x : KeptMap). record x { number = raised x.number 1 }) put_is
+
+    pub count_kept : IsKept new
+    count_kept = subst IsKept (sym is_noted) noted_kept
+
+    pub count_accepted : (a : Told) → a.number ≡ new.number → counts_view a.counts ≡ no_counts → Accepts (seen m) (seen new) e (Ok a)
+    count_accepted a number counts = (note_accepted ∙ ap (λ (x : KeptMap). Ok (record { state = seen x; counts = no_counts })) (sym is_noted) ∙ ap (λ c. Ok (record { state = seen new; counts = c })) (sym counts), number)
+
+-- ---- a note
+
+abbrev pub parts_with : WholeState → Note → Parts
+parts_with s note = record { entries = s.names.entries; procedures = procedures_with s.procedures note; labels = labels_with s.labels note; symbols = symbols_with s.symbols note }
+
+pub note_beside : (m : KeptMap) (note : Note) → IsKept m → MayNote (seen m) note → IsBeside m (edit_of_note note) (parts_with (seen m) note)
+note_beside m note kept may = record {
+  attempt = note_attempt (seen m) note may;
+  touches = note_touches note;
+  faultless = note_faultless note (with_note (seen m) note);
+  said = note_said (seen m) note may;
+  formed = noted_formed (seen m) note may kept.formed;
+}
+
+-- what it took the place of leads back
+record LeadsBack (m : KeptMap) (note : Note) (i : Inverse) : Type 0 where
+  suits : Suits m.extent (parts_with (seen m) note) i
+  parts : back i (parts_with (seen m) note) ≡ parts_of (seen m)
+  touch_is : touched i ≡ touch_of (edit_of_note note)
+
+without_last : (ps : List Procedure) (p : Procedure) → take (length (ps ++ p ∷ []) - 1) (ps ++ p ∷ []) ≡ ps
+without_last ps p = ap (λ n. take n (ps ++ p ∷ [])) count ∙ take-append_seam ps (p ∷ [])
+  where
+    count : length (ps ++ p ∷ []) - 1 ≡ length ps
+    count = omega (arith, length-append ps (p ∷ []))
+
+leads_back : (m : KeptMap) (note : Note) (i : Inverse) → IsNoteBack m note i → LeadsBack m note i
+leads_back m (notes.Procedure p) inverses.Procedure is = record {
+  suits = omega (arith, length-append m.procedures (procedure_view p ∷ []));
+  parts = ap (λ ps. record (parts_of (seen m)) { procedures = ps }) (without_last m.procedures (procedure_view p));
+  touch_is = refl;
+}
+leads_back m (notes.Label n z text) (inverses.Label taken) is = record { suits = omega arith; parts = ap (λ marks. record (parts_of (seen m)) { labels = marks }) is; touch_is = refl }
+leads_back m (notes.Symbol n z sign) (inverses.Symbol taken) is = record { suits = omega arith; parts = ap (λ marks. record (parts_of (seen m)) { symbols = marks }) is; touch_is = refl }
+leads_back m note i is = absurd is
+
+pub note_back : (m : KeptMap) (note : Note) (i : Inverse) (number : ℕ) → IsKept m → IsNoteBack m note i
+    → TakesBack (seen m) (seen (record (with_beside m (parts_with (seen m) note)) { number = number })) (touch_of (edit_of_note note)) i
+note_back m note i number kept is =
+    let r = leads_back m note i is in
+    record { size = refl; fits = record { suits = r.suits; reached = subst (AreReached m.extent) (sym r.parts) (kept_reached m kept) }; parts = r.parts; touch_is = r.touch_is }
+
+-- ---- a note is taken back
+
+untouched : (s : EngineState) → ChangesOnly nothing s (with_entries s s.entries)
+untouched s = record { size = refl; statements = λ n op away made. made; sources = λ n grid away made. made }
+
+pub back_beside : (m : KeptMap) (i : Inverse) → IsKept m → IsTrue (is_note i) → Fits m.extent (parts_of (seen m)) i → IsBeside m (put_back (past_of i (parts_of (seen m)))) (back i (parts_of (seen m)))
+back_beside m inverses.Procedure kept note fits = record {
+  attempt = refl;
+  touches = refl;
+  faultless = refl;
+  said = reached_said (seen m) (past_of inverses.Procedure (parts_of (seen m))) fits.reached (untouched (names_in m));
+  formed = All-take IsProcedure (length m.procedures - 1) m.procedures kept.formed;
+}
+back_beside m (inverses.Label taken) kept note fits = record {
+  attempt = refl;
+  touches = refl;
+  faultless = refl;
+  said = reached_said (seen m) (past_of (inverses.Label taken) (parts_of (seen m))) fits.reached (untouched (names_in m));
+  formed = kept.formed;
+}
+back_beside m (inverses.Symbol taken) kept note fits = record {
+  attempt = refl;
+  touches = refl;
+  faultless = refl;
+  said = reached_said (seen m) (past_of (inverses.Symbol taken) (parts_of (seen m))) fits.reached (untouched (names_in m));
+  formed = kept.formed;
+}
+back_beside m (inverses.Name d) kept note fits = absurd (false≢true note)
+back_beside m (inverses.Tiles t) kept note fits = absurd (false≢true note)

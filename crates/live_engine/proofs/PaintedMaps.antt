@@ -20,7 +20,7 @@ use Rattle.map_edits.specs.EditForms.{Rectangle}
 use Rattle.map_edits.specs.LayerDefs.{given_grid, by_op, layers, find_making}
 use Rattle.map_edits.specs.LayerChanges.{changed_of}
 use Rattle.map_edits.specs.Limits.{is_source, is_flat, most_sources, most_flats}
-use Rattle.map_edits.specs.StampsAfter.{stamps_at}
+use Rattle.map_edits.specs.StampsAfter.{stamps_at, stamped}
 use Rattle.map_edits.specs.GroupLaws.{IsLawful}
 use Rattle.map_edits.specs.Touches.{touch_of, within, is_whole, source_damage}
 use Rattle.map_edits.specs.WholeEdits.{WholeEdit}
@@ -46,6 +46,7 @@ use Rattle.kept_map.specs.Edits.{change_in, IsSetUp, IsSamePlan}
 use Rattle.kept_map.specs.Repairs.{IsPreparedFor, own_damage}
 use Rattle.kept_map.specs.declared.maps.KeptMap.{KeptMap}
 use Rattle.kept_map.specs.declared.repairing.Prepared.{Prepared}
+use Rattle.kept_map.proofs.Committed.{committed_prepared}
 use Rattle.kept_map.proofs.Given.{undotted, source_making, source_value}
 use Rattle.kept_map.proofs.Groupings.{nodes_in_groups, groups_repaint}
 use Rattle.kept_map.proofs.LayersByName.{layer_source, stamps_found}
@@ -53,11 +54,11 @@ use Rattle.kept_map.proofs.Naming.{placed_item, source_def}
 use Rattle.map_waves.proofs.Making.{all_get}
 use Rattle.kept_map.proofs.SettingUp.{place_is, same_operand, constant_operand, placed_layer, placed_def, value_before, left_change, stamps_stay}
 use Rattle.kept_map.proofs.SourceLayers.{source_at, source_painted, source_unpainted, entries_painted}
-use Rattle.live_engine.specs.Painting.{met_tiles}
+use Rattle.live_engine.specs.Painting.{rectangle_of, met_tiles}
 use Rattle.live_engine.specs.Repainting.{IsRepainted, IsRepaintOf, repainted_state}
 use Rattle.live_engine.specs.declared.repainting.Repaint.{Repaint}
 use Rattle.live_engine.specs.Settles.{HaveSettled, IsSettled}
-use Rattle.live_engine.proofs.Settled.{sources_agree, flats_agree, LeavesPlan}
+use Rattle.live_engine.proofs.Settled.{sources_agree, flats_agree, LeavesPlan, settled_commit}
 
 pub layer_size : (m : KeptMap) → IsKept m → (i : ℕ) (l : LayerState) → slice_get m.sources.layers.items i ≡ Some l → l.size ≡ m.extent
 layer_size m keeps i l e = (all_get (λ (k : LayerState). (k.size ≡ m.extent) × IsLayer k) m.sources.layers.items keeps.sources.whole i l e).0
@@ -69,15 +70,22 @@ repaint_damage m n r grid lawful =
     ap (λ o. (counts_of_source (within n r) (names_in m) (repainted_state (seen m) n grid).names n o).evaluated) (source_making entries n lawful.groups lawful.apart grid (find_put (entries_in m) n (source grid)))
     ∙ ap (λ b. length (cond b (met_tiles m.extent r) [])) (bytes_eq-self n)
 
-module _ (m : KeptMap) (kept : IsKept m) (e : WholeEdit) (n : Name) (grid : Grid) (d : Repaint) (is : IsRepaintOf m e n grid d) where
+-- its name stands at one place
+abbrev pub placed_at : (m : KeptMap) (e : WholeEdit) (grid : Grid) (d : Repaint) → IsRepaintOf m e grid d → (place : ℕ) → position (bytes_eq d.name) m.sources.names.keys ≡ Some place → IsRepaintOf m e grid d
+placed_at m e grid d is place at = record is { place = place; placed = at; there = subst (λ k. slice_get m.sources.layers.items k ≡ Some is.layer) (same_Some is.place place (sym is.placed ∙ at)) is.there }
+
+module _ (m : KeptMap) (kept : IsKept m) (e : WholeEdit) (grid : Grid) (d : Repaint) (is : IsRepaintOf m e grid d) where
+  abbrev n : Name
+  n = d.name
+
   abbrev place : ℕ
-  place = d.place
+  place = is.place
 
   abbrev l : LayerState
   l = is.layer
 
   abbrev r : Rectangle
-  r = is.rectangle
+  r = rectangle_of d.rectangle
 
   abbrev entries : List Entry
   entries = put_entry (entries_in m) n (source grid)
@@ -89,7 +97,7 @@ module _ (m : KeptMap) (kept : IsKept m) (e : WholeEdit) (n : Name) (grid : Grid
   size_is = layer_size m kept place l is.there
 
   found : source_in m.sources n ≡ Some l
-  found = source_at m.sources n place is.place ∙ is.there
+  found = source_at m.sources n place is.placed ∙ is.there
 
   def : find_def (entries_in m) n ≡ Some (source (grid_of l))
   def = source_def m n kept l found
@@ -142,7 +150,7 @@ module _ (m : KeptMap) (kept : IsKept m) (e : WholeEdit) (n : Name) (grid : Grid
   painted_items =
       entries_painted m.extent (source_in m.sources) painted_layers n
       (λ q differs. ap (λ b. if b then Some (record { size = m.extent; cells = grid.cells; stamps = [] }) else source_in m.sources q) (bytes_eq-turned n q differs))
-      m.names.entries kept.lawful.apart (placed_item m n kept (ap is_some is.place))
+      m.names.entries kept.lawful.apart (placed_item m n kept (ap is_some is.placed))
       ∙ ap (λ b. put_entry (entries_in m) n (source (source_grid m.extent (if b then Some (record { size = m.extent; cells = grid.cells; stamps = [] }) else source_in m.sources n)))) (bytes_eq-self n)
       ∙ own_grid
 
@@ -199,7 +207,7 @@ module _ (m : KeptMap) (kept : IsKept m) (e : WholeEdit) (n : Name) (grid : Grid
         subst (IsChangeOf (names_in m) after.names q) (sym (ap (source_by m.extent shift i) k.1)) (go k.0 k.1 (place == i) refl)
       where
         own : (place == i) ≡ true → n ≡ q
-        own same = same_Some n q (sym (position_at n m.sources.names.keys place is.place) ∙ ap (slice_get m.sources.names.keys) (eqb-true place i same) ∙ named)
+        own same = same_Some n q (sym (position_at n m.sources.names.keys place is.placed) ∙ ap (slice_get m.sources.names.keys) (eqb-true place i same) ∙ named)
 
         apart : (place == i) ≡ false → bytes_eq n q ≡ false
         apart other = by (bytes_eq n q) refl
@@ -208,7 +216,7 @@ module _ (m : KeptMap) (kept : IsKept m) (e : WholeEdit) (n : Name) (grid : Grid
             by false e = refl
             by true e =
                 let found_at : position (bytes_eq q) m.sources.names.keys ≡ Some i = place_is m.sources.names.keys kept.sources.apart i q named in
-                let one : place ≡ i = same_Some place i (sym is.place ∙ ap (λ a. position (bytes_eq a) m.sources.names.keys) (same_name n q e) ∙ found_at) in
+                let one : place ≡ i = same_Some place i (sym is.placed ∙ ap (λ a. position (bytes_eq a) m.sources.names.keys) (same_name n q e) ∙ found_at) in
                 absurd (true≢false (sym (eq-eqb place i one) ∙ other))
 
         go : (k : LayerState) → slice_get m.sources.layers.items i ≡ Some k → (b : Bool) → (place == i) ≡ b → IsChangeOf (names_in m) after.names q (cond b (patched_change k p.now) (same_change k))
@@ -274,23 +282,23 @@ module _ (m : KeptMap) (kept : IsKept m) (e : WholeEdit) (n : Name) (grid : Grid
       layers_are = repainted.layers ∙ ap (λ s. set s.layers.items place new) mid_sources
 
       own_source : source_in m'.sources n ≡ Some new
-      own_source = source_painted m.sources m'.sources n place l new names_stay layers_are is.place is.there
+      own_source = source_painted m.sources m'.sources n place l new names_stay layers_are is.placed is.there
 
       other_source : (q : Name) → bytes_eq q n ≡ false → source_in m'.sources q ≡ source_in m.sources q
-      other_source q differs = source_unpainted m.sources m'.sources n place l new names_stay layers_are is.place is.there q differs
+      other_source q differs = source_unpainted m.sources m'.sources n place l new names_stay layers_are is.placed is.there q differs
 
       entries_are : entries_in m' ≡ entries
       entries_are =
           ap (λ (q : KeptMap). entries_by q.extent (source_in m'.sources) q.names.entries) (repainted.others)
           ∙ ap (λ (q : KeptMap). entries_by q.extent (source_in m'.sources) q.names.entries) settled.others
-          ∙ entries_painted m.extent (source_in m.sources) (source_in m'.sources) n (λ q differs. other_source q (bytes_eq-turned n q differs)) m.names.entries kept.lawful.apart (placed_item m n kept (ap is_some is.place))
+          ∙ entries_painted m.extent (source_in m.sources) (source_in m'.sources) n (λ q differs. other_source q (bytes_eq-turned n q differs)) m.names.entries kept.lawful.apart (placed_item m n kept (ap is_some is.placed))
           ∙ ap (λ o. put_entry (entries_in m) n (source (source_grid m.extent o))) own_source
           ∙ ap (λ z. put_entry (entries_in m) n (source (record { size = z; cells = new.cells }))) new_size
           ∙ ap (λ cs. put_entry (entries_in m) n (source (record { size = m.extent; cells = cs }))) new_cells
           ∙ own_grid
 
-      stamped : (q : Name) (k : LayerState) → source_in m'.sources q ≡ Some k → k.stamps ≡ stamps_at (seen m) after q
-      stamped q k its = go (bytes_eq q n) refl
+      stamps_are : (q : Name) (k : LayerState) → source_in m'.sources q ≡ Some k → k.stamps ≡ stamps_at (seen m) after q
+      stamps_are q k its = go (bytes_eq q n) refl
         where
           go : (b : Bool) → bytes_eq q n ≡ b → k.stamps ≡ stamps_at (seen m) after q
           go false differs = let before = sym (other_source q differs) ∙ its in stamps_stay m kept after refl q k before (other_value q k differs before)
@@ -303,7 +311,7 @@ module _ (m : KeptMap) (kept : IsKept m) (e : WholeEdit) (n : Name) (grid : Grid
               (subst (λ (cs : Cells). IsStamped m.extent l.cells cs (raised m.number 1) l.stamps new.stamps) new_cells (subst (λ (z : Size). IsStamped z l.cells new.cells (raised m.number 1) l.stamps new.stamps) size_is committed.stamps))
               ∙ ap (stamps_at (seen m) after) (sym own)
 
-      pub paint_leaves : LeavesPlan m e after shift prepared kept paint_set_up ready m'
+      paint_leaves : LeavesPlan m e after shift prepared kept paint_set_up ready m'
       paint_leaves = record {
         extent = ap (λ (q : KeptMap). q.extent) repainted.others ∙ ap (λ (q : KeptMap). q.extent) settled.others;
         names = ap (λ (q : KeptMap). q.names.entries) repainted.others ∙ ap (λ (q : KeptMap). q.names.entries) settled.others;
@@ -319,5 +327,8 @@ module _ (m : KeptMap) (kept : IsKept m) (e : WholeEdit) (n : Name) (grid : Grid
         labels = ap (λ (q : KeptMap). q.labels) repainted.others ∙ ap (λ (q : KeptMap). q.labels) settled.others;
         symbols = ap (λ (q : KeptMap). q.symbols) repainted.others ∙ ap (λ (q : KeptMap). q.symbols) settled.others;
         formed = subst (λ (q : KeptMap). All IsProcedure q.procedures) (sym repainted.others) (subst (λ (q : KeptMap). All IsProcedure q.procedures) (sym settled.others) kept.formed);
-        stamped = stamped;
+        stamped = stamps_are;
       }
+
+      pub painted_done : IsKept m' × (seen m' ≡ stamped (seen m) after)
+      painted_done = committed_prepared m m' e after shift m.sources.names.keys m.planned.names.keys m.planned.steps.items prepared kept paint_set_up ready (settled_commit m e after shift prepared kept paint_set_up ready m' paint_leaves)

@@ -1,4 +1,4 @@
--- An edit whose statements are not repaired is refused.
+-- An edit whose statements are not repaired is refused, and one that is refused leaves the state.
 use Rattle.std.proofs.Common.{◌≡◌, Some, Ok, Err, refl, ap, ◌∙◌}
 use Rattle.map_edits.specs.Faults.{Fault, too_many_viewers, overflow}
 use Rattle.map_edits.specs.Refusals.{Refusal, fault}
@@ -12,6 +12,8 @@ use Rattle.kept_map.specs.declared.halts.Halt.{Halt}
 use Rattle.kept_map.specs.declared.halts.Halt.TheVariants as halts
 use Rattle.live_engine.specs.Accepts.{Refuses}
 use Rattle.live_engine.specs.Halted.{refusal_of}
+use Rattle.live_engine.specs.declared.edits.Refusal as refused
+use Rattle.live_engine.specs.declared.edits.Refusal.TheVariants as a_refusal
 
 -- an edit that can't even be tried
 pub accept_refused : (s : WholeState) (e : WholeEdit) (r : Refusal) → attempted s e ≡ Err r → accept_counted s e ≡ Err r
@@ -27,3 +29,17 @@ module _ (s t : WholeState) (e : WholeEdit) (tried : attempted s e ≡ Ok t) whe
   halted (halts.Viewers n count) is = (accept_faulty (too_many_viewers n count) is, refl)
   halted (halts.Overflow n row column) is = (accept_faulty (overflow n row column) is, refl)
   halted halts.NoMemory is = refl
+
+-- whatever the edit, what is put back among them
+pub refused_stays : (s t : WholeState) (e : WholeEdit) (r : refused.Refusal) → Refuses s t e r → t ≡ s
+refused_stays s t e (a_refusal.Unknown n) is = is.1
+refused_stays s t e (a_refusal.Derived n) is = is.1
+refused_stays s t e (a_refusal.Exists n) is = is.1
+refused_stays s t e (a_refusal.Size rows columns) is = is.1
+refused_stays s t e (a_refusal.Limit which) is = is.1
+refused_stays s t e (a_refusal.Cycle n) is = is.1
+refused_stays s t e (a_refusal.Viewers n count) is = is.1
+refused_stays s t e (a_refusal.Overflow n row column) is = is.1
+refused_stays s t e (a_refusal.NoProcedure n) is = is.1
+refused_stays s t e (a_refusal.Terms given wanted) is = is.1
+refused_stays s t e a_refusal.NoMemory is = is

@@ -93,7 +93,7 @@ statement_own n fs named =
 -- ---- a statement of a map
 
 module _ (m : KeptMap) (keeps : IsKept m) (n : Name) (written : Written) where
-  defines_said : IsTrue (is_plain n) → IsWritten (written_view written) → IsSaid (defines n written)
+  defines_said : IsTrue (is_plain n) → IsWritten (written_view written) → IsSaid (seen m) (defines n written)
   defines_said plain formed = (plain_undotted n plain, written_undotted (written_view written) formed)
 
   refused_names : (r : Refusal) → entries_with m.procedures (names_in m) (define n (written_view written)) ≡ Err r → accept_counted (seen m) (defines n written) ≡ Err r
@@ -199,7 +199,7 @@ module _ (m : KeptMap) (keeps : IsKept m) (n : Name) (written : Written) where
 
   pub defined_draft : (no_source : IsOther) (flats : Vec Flat Global) (expands : expansion_of m.procedures n (written_view written) ≡ Ok (flats_view flats.items)) (few : IsBeyond (entries_with_it m n written flats.items) None)
       → IsFalse (is_looped (nodes_in (groups_with_it m n flats.items)) n) → (graph : List Group) → graph ≡ groups_with_it m n flats.items → IsTrue (is_plain n) → IsWritten (written_view written) → All (λ (f : Flat). HasRanges (op_view f.op)) flats.items
-      → IsDraftOf m (defines n written) n (Statement written flats) graph
+      → IsDraftOf m (defines n written) n (Statement written flats None) graph None None
   defined_draft no_source flats expands few alone graph graph_is plain formed ranges =
       let fs = flats.items in
       let said = defines_said plain formed in
@@ -210,7 +210,7 @@ module _ (m : KeptMap) (keeps : IsKept m) (n : Name) (written : Written) where
         touch = refl;
         attempt = defined_attempt no_source fs expands few alone;
         lawful = record { made = keeps.lawful.made; groups = good.groups; apart = good.apart; none_looped = good.none_looped };
-        fits = record { formed = formed; ranges = ranges; other = no_source };
+        fits = record { formed = formed; ranges = ranges; other = no_source; seat = tt };
         graph_is = graph_is ∙ ap (λ (g : List Group). put_group g n (statement_nodes (flats_view fs))) keeps.graph_is ∙ groups_put (entries_in m) n (written_view written) (flats_view fs);
         sources_few = sources_with_few no_source fs expands few;
         flats_few = few.0;

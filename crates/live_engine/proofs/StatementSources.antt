@@ -1,5 +1,5 @@
 -- The sources of a map, which a statement leaves as they are.
-use Rattle.std.proofs.Common.{◌≡◌, Bool, true, false, List, position, Option, Some, None, is_some, option_map, bytes_eq, Vec, refl, sym, ap, ◌∙◌}
+use Rattle.std.proofs.Common.{◌≡◌, ℕ, Bool, true, false, List, position, Option, Some, None, is_some, option_map, bytes_eq, Vec, refl, sym, ap, ◌∙◌}
 use Rattle.std.specs.declared.alloc.Global.{Global}
 use Rattle.std.proofs.lemmas.Option.{none-some}
 use Rattle.map_nums.specs.Grids.{Grid}
@@ -12,8 +12,9 @@ use Rattle.procedure_expand.specs.declared.flat.Flat.{Flat}
 use Rattle.procedure_expand.specs.Flats.{flats_view}
 use Rattle.procedure_expand.proofs.Plain.{plain_undotted}
 use Rattle.statement_graph.specs.Groups.{Group}
-use Rattle.map_edits.specs.Entries.{source, statement, Entry, find_def}
+use Rattle.map_edits.specs.Entries.{source, Entry, find_def}
 use Rattle.map_edits.specs.LayerDefs.{given_grid, layers, find_making, nodes_of}
+use Rattle.map_edits.specs.Marks.{Mark}
 use Rattle.map_edits.specs.StampsAfter.{stamps_at}
 use Rattle.map_edits.specs.WholeEdits.{WholeEdit}
 use Rattle.map_edits.specs.WholeStates.{WholeState}
@@ -21,7 +22,6 @@ use Rattle.map_edits.proofs.Among.{same_name}
 use Rattle.map_edits.proofs.Heads.{head_of, head_undotted}
 use Rattle.map_edits.proofs.Looks.{made_node, find_node-making}
 use Rattle.map_edits.proofs.LawfulEdits.{IsGoodChange}
-use Rattle.map_edits.proofs.Puts.{find_put}
 use Rattle.edit_plans.specs.Planned.{is_source_node}
 use Rattle.kept_map.specs.Maps.{grid_of, source_in, entries_in, seen}
 use Rattle.kept_map.specs.Keeps.{IsKept, AreKeptSources}
@@ -32,17 +32,18 @@ use Rattle.kept_map.proofs.Naming.{source_def}
 use Rattle.kept_map.proofs.SettingUp.{stamps_stay}
 use Rattle.live_engine.specs.Drafts.{entries_after, state_after, IsDraftOf}
 use Rattle.live_engine.specs.declared.drafts.Change.TheVariants.{Statement}
-use Rattle.live_engine.proofs.DraftStates.{draft_change}
+use Rattle.live_engine.proofs.DraftStates.{there, draft_change}
 
-module _ (m : KeptMap) (keeps : IsKept m) (e : WholeEdit) (n : Name) (graph : List Group) (written : Written) (flats : Vec Flat Global) (d : IsDraftOf m e n (Statement written flats) graph) where
+module _ (m : KeptMap) (keeps : IsKept m) (e : WholeEdit) (n : Name) (graph : List Group) (labels symbols : Option (List Mark)) (written : Written) (flats : Vec Flat Global) (place : Option ℕ)
+    (d : IsDraftOf m e n (Statement written flats place) graph labels symbols) where
   abbrev after : WholeState
-  after = state_after (seen m) n (Statement written flats)
+  after = state_after (seen m) n (Statement written flats place) labels symbols
 
   abbrev new : List Entry
-  new = entries_after (entries_in m) n (Statement written flats)
+  new = entries_after (entries_in m) n (Statement written flats place)
 
   change : IsGoodChange (entries_in m) n new
-  change = draft_change m keeps e n graph (Statement written flats) d
+  change = draft_change m keeps e n graph labels symbols (Statement written flats place) d
 
   -- a source is made as before
   source_stays : (q : Name) (grid : Grid) → find_def (entries_in m) q ≡ Some (source grid) → find_making (layers new) q ≡ Some (given_grid grid)
@@ -66,9 +67,9 @@ module _ (m : KeptMap) (keeps : IsKept m) (e : WholeEdit) (n : Name) (graph : Li
           absurd (none-some (made_node q (given_grid r.0)) (sym gone ∙ still))
 
       go : (o : Option Node) → find_node (nodes_of new) q ≡ o → is_some (position (bytes_eq q) m.sources.names.keys) ≡ is_source_node o
-      go (Some node) e =
-          stand_defined m keeps new n (plain_undotted n d.plain) change (written_view written) (flats_view flats.items) (find_put (entries_in m) n (statement (written_view written) (flats_view flats.items))) d.fits.other q node e
-      go None e = none (is_some (position (bytes_eq q) m.sources.names.keys)) refl e
+      go (Some node) is =
+          stand_defined m keeps new n (plain_undotted n d.plain) change (written_view written) (flats_view flats.items) (there m keeps e n graph labels symbols (Statement written flats place) d) d.fits.other q node is
+      go None is = none (is_some (position (bytes_eq q) m.sources.names.keys)) refl is
 
   pub kept_sources : AreKeptSources after.names m.sources
   kept_sources = record { stand = stand_all; apart = keeps.sources.apart; count = keeps.sources.count; whole = keeps.sources.whole }

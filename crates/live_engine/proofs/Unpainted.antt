@@ -1,5 +1,5 @@
 -- When a source is painted, and why not.
-use Rattle.std.proofs.Common.{◌≡◌, true, false, cond, List, length, position, slice_get, Option, Some, None, is_some, Ok, Err, bytes_eq, refl, sym, ap, ◌∙◌, ℤ}
+use Rattle.std.proofs.Common.{◌≡◌, ℕ, true, false, cond, List, length, position, slice_get, Option, Some, None, is_some, Ok, Err, bytes_eq, refl, sym, ap, ◌∙◌, ℤ}
 use Rattle.std.proofs.lemmas.Bool.{true≢false, false≢true}
 use Rattle.map_nums.specs.Grids.{Grid}
 use Rattle.map_defs.specs.Ops.{Name}
@@ -23,7 +23,8 @@ use Rattle.kept_map.specs.Keeps.{IsKept}
 use Rattle.kept_map.specs.declared.maps.KeptMap.{KeptMap}
 use Rattle.kept_map.proofs.Given.{source_node}
 use Rattle.kept_map.proofs.Naming.{source_def}
-use Rattle.live_engine.specs.Painting.{met_tiles}
+use Rattle.kept_map.proofs.SourceLayers.{source_at}
+use Rattle.live_engine.specs.Painting.{rectangle_of, met_tiles}
 use Rattle.live_engine.specs.Repainting.{IsRepaintOf, repainted_state}
 use Rattle.live_engine.specs.declared.repainting.Repaint.{Repaint}
 use Rattle.live_engine.proofs.PaintedMaps.{layer_size}
@@ -71,23 +72,28 @@ module _ (m : KeptMap) (kept : IsKept m) (n : Name) (r : Rectangle) (cell : Opti
         let good = (entries_good m.procedures (names_in m) (paint n r cell) entries kept.lawful.made (good_of (seen m) kept.lawful) plain entries_are).good in
         record { made = kept.lawful.made; groups = good.groups; apart = good.apart; none_looped = good.none_looped }
 
-    pub paint_draft : (d : Repaint) → position (bytes_eq n) m.sources.names.keys ≡ Some d.place → slice_get m.sources.layers.items d.place ≡ Some l → d.patch.size ≡ l.size
-        → patched l.size l.cells d.patch.tiles ≡ (painted l.size r cell (grid_of l)).cells → IsOperand l.size (patched_change l d.patch) → d.met ≡ length (met_tiles l.size r) → IsRepaintOf m (of_names (paint n r cell)) n grid d
-    paint_draft d at there size cells operand met =
-        let sized = layer_size m kept d.place l there in
-        record {
-          plain = plain;
-          said = plain;
-          rectangle = r;
-          touch = refl;
-          attempt = paint_attempt;
-          lawful = paint_lawful;
-          layer = l;
-          place = at;
-          there = there;
-          grid_size = refl;
-          size = size;
-          cells = cells ∙ ap (λ z. (painted z r cell (grid_of l)).cells) sized;
-          operand = operand;
-          met = met ∙ ap (λ z. length (met_tiles z r)) sized;
-        }
+module _ (m : KeptMap) (kept : IsKept m) (cell : Option ℤ) (d : Repaint) (place : ℕ) (l : LayerState) (plain : IsUndotted d.name) (at : position (bytes_eq d.name) m.sources.names.keys ≡ Some place) (there : slice_get m.sources.layers.items place ≡ Some l)
+    (on : is_within m.extent (rectangle_of d.rectangle) ≡ true) where
+  abbrev r : Rectangle
+  r = rectangle_of d.rectangle
+
+  pub paint_draft : d.patch.size ≡ l.size → patched l.size l.cells d.patch.tiles ≡ (painted l.size r cell (grid_of l)).cells → IsOperand l.size (patched_change l d.patch) → d.met ≡ length (met_tiles l.size r) → IsRepaintOf m (of_names (paint d.name r cell)) (painted m.extent r cell (grid_of l)) d
+  paint_draft size cells operand met =
+      let sized = layer_size m kept place l there in
+      let found = source_at m.sources d.name place at ∙ there in
+      record {
+        plain = plain;
+        said = plain;
+        touch = refl;
+        attempt = paint_attempt m kept d.name r cell l plain found on;
+        lawful = paint_lawful m kept d.name r cell l plain found on;
+        place = place;
+        layer = l;
+        placed = at;
+        there = there;
+        grid_size = refl;
+        size = size;
+        cells = cells ∙ ap (λ z. (painted z r cell (grid_of l)).cells) sized;
+        operand = operand;
+        met = met ∙ ap (λ z. length (met_tiles z r)) sized;
+      }

@@ -1,6 +1,7 @@
 pub mod Accepts
 pub mod Expanding
 pub mod Drafts
+pub mod Inverses
 pub mod Defining
 pub mod Counting
 pub mod Standing

@@ -4,6 +4,7 @@ use Rattle.map_nums.specs.Grids.{Grid}
 use Rattle.map_defs.specs.Ops.{Name}
 use Rattle.map_defs.specs.MadeProcedures.{IsUndotted}
 use Rattle.layer_tiles.specs.Changes.{patched_change}
+use Rattle.layer_tiles.specs.Exchanges.{tiles_at}
 use Rattle.layer_tiles.specs.Layers.{LayerState, IsLayer, IsCommitted}
 use Rattle.layer_tiles.specs.Patches.{PatchState, patched}
 use Rattle.map_edits.specs.Entries.{source, put_entry}
@@ -18,7 +19,7 @@ use Rattle.map_waves.specs.Operands.{IsOperand}
 use Rattle.kept_map.specs.Maps.{seen}
 use Rattle.kept_map.specs.declared.maps.KeptMap.{KeptMap}
 use Rattle.live_engine.specs.Accepts.{Refuses}
-use Rattle.live_engine.specs.Painting.{met_tiles}
+use Rattle.live_engine.specs.Painting.{rectangle_of, met_tiles}
 use Rattle.live_engine.specs.declared.edits.Refusal.{Refusal}
 use Rattle.live_engine.specs.declared.repainting.Repaint.{Repaint}
 
@@ -26,26 +27,26 @@ use Rattle.live_engine.specs.declared.repainting.Repaint.{Repaint}
 abbrev pub repainted_state : WholeState → Name → Grid → WholeState
 repainted_state s n grid = record s { names = with_entries s.names (put_entry s.names.entries n (source grid)) }
 
--- an edit that can be tried: in its rectangle of source n it changes the tiles of the patch, with which the source has this grid
-pub record IsRepaintOf (m : KeptMap) (e : WholeEdit) (n : Name) (grid : Grid) (d : Repaint) : Type 0 where
-  pub plain : IsUndotted n
-  pub said : IsSaid e
-  pub rectangle : Rectangle
-  pub touch : touch_of e ≡ within n rectangle
-  pub attempt : attempted (seen m) e ≡ Ok (repainted_state (seen m) n grid)
-  pub lawful : IsLawful (repainted_state (seen m) n grid)
+-- an edit that can be tried: in its rectangle of a source it changes the tiles of the patch, with which the source has this grid
+pub record IsRepaintOf (m : KeptMap) (e : WholeEdit) (grid : Grid) (d : Repaint) : Type 0 where
+  pub plain : IsUndotted d.name
+  pub said : IsSaid (seen m) e
+  pub touch : touch_of e ≡ within d.name (rectangle_of d.rectangle)
+  pub attempt : attempted (seen m) e ≡ Ok (repainted_state (seen m) d.name grid)
+  pub lawful : IsLawful (repainted_state (seen m) d.name grid)
+  pub place : ℕ
   pub layer : LayerState
-  pub place : position (bytes_eq n) m.sources.names.keys ≡ Some d.place
-  pub there : slice_get m.sources.layers.items d.place ≡ Some layer
+  pub placed : position (bytes_eq d.name) m.sources.names.keys ≡ Some place
+  pub there : slice_get m.sources.layers.items place ≡ Some layer
   pub grid_size : grid.size ≡ m.extent
   pub size : d.patch.size ≡ layer.size
   pub cells : patched layer.size layer.cells d.patch.tiles ≡ grid.cells
   pub operand : IsOperand layer.size (patched_change layer d.patch)
-  pub met : d.met ≡ length (met_tiles m.extent rectangle)
+  pub met : d.met ≡ length (met_tiles m.extent (rectangle_of d.rectangle))
 
 -- or why it can't
 abbrev pub IsRepaintDrafted : KeptMap → Name → Rectangle → Option ℤ → Result Repaint Refusal → Type 0
-IsRepaintDrafted m n r cell (Ok d) = (grid : Grid) × IsRepaintOf m (of_names (paint n r cell)) n grid d
+IsRepaintDrafted m n r cell (Ok d) = (grid : Grid) × IsRepaintOf m (of_names (paint n r cell)) grid d
 IsRepaintDrafted m n r cell (Err refusal) = Refuses (seen m) (seen m) (of_names (paint n r cell)) refusal
 
 -- there is a layer at the place, of the patch's size
@@ -62,3 +63,7 @@ pub record IsRepainted (old new : KeptMap) (place : ℕ) (patch : PatchState) : 
   pub others : new ≡ record old { sources = record { names = old.sources.names; layers = new.sources.layers } }
   pub layers : new.sources.layers.items ≡ slice_set old.sources.layers.items place layer
   pub committed : (was : LayerState) → slice_get old.sources.layers.items place ≡ Some was → IsCommitted was patch old.number layer
+
+-- the tiles that the layer at the place had at the numbers of the patch
+abbrev pub HadTiles : KeptMap → ℕ → PatchState → PatchState → Type 0
+HadTiles m place patch taken = (was : LayerState) → slice_get m.sources.layers.items place ≡ Some was → taken ≡ record { size = patch.size; tiles = tiles_at was.size was.cells patch.tiles }

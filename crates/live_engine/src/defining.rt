@@ -8,13 +8,15 @@ ghost use Rattle.statement_parser.specs.Formed.{IsWritten};
 ghost use Rattle.statement_parser.specs.Views.{written_view};
 ghost use Rattle.kept_map.specs.Maps.{seen};
 ghost use Rattle.kept_map.specs.Keeps.{IsKept};
-ghost use Rattle.live_engine.specs.Accepts.{Accepts, ReadsWithin};
+ghost use Rattle.live_engine.specs.Accepts.{ReadsWithin};
+ghost use Rattle.live_engine.specs.Inverses.{AcceptsBack};
 ghost use Rattle.live_engine.specs.Defining.{defines, not_put as refused_put};
 ghost use Rattle.live_engine.specs.Drafts.{IsDrafted, HasRoomFor};
 
 use crate::drafts::{Change, Draft, carry_out};
 use crate::edits::{Accepted, Refusal};
 use crate::expanding::expanded;
+use crate::inverses::Inverse;
 use crate::limits::{Kind, kind_of};
 use crate::statement_graphs::with_statement;
 use crate::statement_limits::beyond;
@@ -34,12 +36,12 @@ pub(crate) fn define<M: Tally + Send, G: Gate + Sync, R: Threads + Sync>(
     name: Name,
     written: Written,
     tally: &mut M,
-) -> Result<Accepted, Refusal>
+) -> Result<(Accepted, Inverse), Refusal>
     requires kept { IsKept map.old }
     requires plain { IsTrue (is_plain name) }
     requires formed { IsWritten (written_view written) }
     requires whole { 1 < crew.now.workers → IsUndivided (M.counts tally.old) }
-    ensures accepts { Accepts (seen map.old) (seen map.new) (defines name written) result }
+    ensures accepts { AcceptsBack (seen map.old) (seen map.new) (defines name written) result }
     ensures kept { IsKept map.new }
     ensures reads { ReadsWithin (seen map.old) (defines name written) (M.counts tally.old) (M.counts tally.new) }
 {
@@ -79,11 +81,17 @@ fn drafted(map: &KeptMap, alloc: Global, name: Name, written: Written) -> Result
     }
     match with_statement(&map.graph, alloc, &name, flats.as_slice()) {
         Ok(graph) => {
-            let change = Change::Statement { written, flats };
+            let change = Change::Statement {
+                written,
+                flats,
+                place: None,
+            };
             Ok(Draft {
                 name,
                 change,
                 graph,
+                labels: None,
+                symbols: None,
             })
         }
         Err(refusal) => Err(not_put(name, refusal)),

@@ -8,21 +8,26 @@ ghost use Rattle.statement_parser.specs.Procedures.{procedure_view};
 ghost use Rattle.map_edits.specs.Faults.{fault_of};
 ghost use Rattle.map_edits.specs.GroupLaws.{IsLawful};
 ghost use Rattle.map_edits.specs.LineEdits.{line_edit};
+ghost use Rattle.map_edits.specs.Pasts.{parts_of};
+ghost use Rattle.map_edits.specs.WholeEdits.{put_back};
 ghost use Rattle.map_edits.specs.WholeStates.{no_names};
 ghost use Rattle.kept_map.specs.Maps.{seen};
 ghost use Rattle.kept_map.specs.Keeps.{IsKept};
 ghost use Rattle.kept_map.specs.Asked.{TellsLayer};
 ghost use Rattle.live_engine.specs.Accepts.{Accepts, IsFormedEdit, ReadsWithin, edit_of};
+ghost use Rattle.live_engine.specs.Inverses.{AcceptsBack, Fits, IsReverted, past_of};
 ghost use Rattle.live_engine.specs.Listed.{listed, listed_of};
 
 use crate::adding::{load, new_layer};
 use crate::defining::define;
 use crate::dropping::drop_name;
 use crate::edits::{Accepted, Edit, Refusal};
+use crate::inverses::Inverse;
 use crate::marks::{label, symbol};
 use crate::painting::Rectangle;
 use crate::procedures::define_procedure;
 use crate::repainting::paint;
+use crate::reverting::revert;
 use kept_map::{Item, KeptMap, Missing};
 use layer_tiles::{Extent, Layer, Tally};
 use map_marks::Marks;
@@ -64,11 +69,11 @@ fn apply_line<M: Tally + Send, G: Gate + Sync, R: Threads + Sync>(
     crew: &Crew<'_, R, G>,
     line: LineEdit,
     tally: &mut M,
-) -> Result<Accepted, Refusal>
+) -> Result<(Accepted, Inverse), Refusal>
     requires kept { IsKept map.old }
     requires formed { IsEdit (edit_view line) }
     requires whole { 1 < crew.now.workers → IsUndivided (M.counts tally.old) }
-    ensures accepts { Accepts (seen map.old) (seen map.new) (line_edit (edit_view line)) result }
+    ensures accepts { AcceptsBack (seen map.old) (seen map.new) (line_edit (edit_view line)) result }
     ensures kept { IsKept map.new }
     ensures reads { ReadsWithin (seen map.old) (line_edit (edit_view line)) (M.counts tally.old) (M.counts tally.new) }
 {
@@ -104,11 +109,11 @@ fn apply<M: Tally + Send, G: Gate + Sync, R: Threads + Sync>(
     crew: &Crew<'_, R, G>,
     cmd: Edit,
     tally: &mut M,
-) -> Result<Accepted, Refusal>
+) -> Result<(Accepted, Inverse), Refusal>
     requires kept { IsKept map.old }
     requires formed { IsFormedEdit cmd }
     requires whole { 1 < crew.now.workers → IsUndivided (M.counts tally.old) }
-    ensures accepts { Accepts (seen map.old) (seen map.new) (edit_of cmd) result }
+    ensures accepts { AcceptsBack (seen map.old) (seen map.new) (edit_of cmd) result }
     ensures kept { IsKept map.new }
     ensures reads { ReadsWithin (seen map.old) (edit_of cmd) (M.counts tally.old) (M.counts tally.new) }
 {
@@ -161,7 +166,41 @@ impl Engine {
         ensures accepts { Accepts self.old self.new (edit_of cmd) result }
         ensures reads { ReadsWithin self.old (edit_of cmd) (M.counts tally.old) (M.counts tally.new) }
     {
+        match self.edit_kept(crew, cmd, tally) {
+            Ok((accepted, _)) => Ok(accepted),
+            Err(refusal) => Err(refusal),
+        }
+    }
+
+    /// Makes an edit as [`Engine::edit_by`] does, and answers what takes it back as well.
+    pub fn edit_kept<M: Tally + Send, G: Gate + Sync, R: Threads + Sync>(
+        &mut self,
+        crew: &Crew<'_, R, G>,
+        cmd: Edit,
+        tally: &mut M,
+    ) -> Result<(Accepted, Inverse), Refusal>
+        requires formed { IsFormedEdit cmd }
+        requires whole { 1 < crew.now.workers → IsUndivided (M.counts tally.old) }
+        ensures accepts { AcceptsBack self.old self.new (edit_of cmd) result }
+        ensures reads { ReadsWithin self.old (edit_of cmd) (M.counts tally.old) (M.counts tally.new) }
+    {
         apply(&mut self.map, crew, cmd, tally)
+    }
+
+    /// Takes an edit back by the workers at hand: what it took the place of is put back, stamps and the number of edits go on.
+    /// Where memory is wanted all is as before, and what takes the edit back is handed back.
+    pub fn revert<M: Tally + Send, G: Gate + Sync, R: Threads + Sync>(
+        &mut self,
+        crew: &Crew<'_, R, G>,
+        inverse: Inverse,
+        tally: &mut M,
+    ) -> Result<Accepted, Inverse>
+        requires fits { Fits self.old.names.size (parts_of self.old) inverse }
+        requires whole { 1 < crew.now.workers → IsUndivided (M.counts tally.old) }
+        ensures reverted { IsReverted self.old self.new inverse result }
+        ensures reads { ReadsWithin self.old (put_back (past_of inverse (parts_of self.old))) (M.counts tally.old) (M.counts tally.new) }
+    {
+        revert(&mut self.map, crew, inverse, tally)
     }
 
     /// How many edits were accepted; at most 2^64-1. No state that is reached has a cycle, or a fault.

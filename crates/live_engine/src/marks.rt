@@ -4,9 +4,10 @@ ghost use Rattle.std.specs.Prelude.{◌≡◌, ◌<◌, ◌≤◌, false};
 ghost use Rattle.map_edits.specs.WholeEdits.{label as labels, symbol as symbols};
 ghost use Rattle.kept_map.specs.Maps.{seen};
 ghost use Rattle.kept_map.specs.Keeps.{IsKept};
-ghost use Rattle.live_engine.specs.Accepts.{Accepts};
+ghost use Rattle.live_engine.specs.Inverses.{AcceptsBack};
 
 use crate::edits::{Accepted, Refusal, Which};
+use crate::inverses::Inverse;
 use crate::limits::has;
 use crate::noting::{Note, take_note};
 use kept_map::KeptMap;
@@ -25,9 +26,9 @@ pub(crate) fn label(
     name: Name,
     value: Value,
     text: Text,
-) -> Result<Accepted, Refusal>
+) -> Result<(Accepted, Inverse), Refusal>
     requires kept { IsKept map.old }
-    ensures accepts { Accepts (seen map.old) (seen map.new) (labels name value text) result }
+    ensures accepts { AcceptsBack (seen map.old) (seen map.new) (labels name value text) result }
     ensures kept { IsKept map.new }
 {
     if !has(map, &name) {
@@ -46,9 +47,9 @@ pub(crate) fn symbol(
     name: Name,
     value: Value,
     sign: u8,
-) -> Result<Accepted, Refusal>
+) -> Result<(Accepted, Inverse), Refusal>
     requires kept { IsKept map.old }
-    ensures accepts { Accepts (seen map.old) (seen map.new) (symbols name value sign) result }
+    ensures accepts { AcceptsBack (seen map.old) (seen map.new) (symbols name value sign) result }
     ensures kept { IsKept map.new }
 {
     if !has(map, &name) {

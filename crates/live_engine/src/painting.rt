@@ -14,13 +14,13 @@ use layer_tiles::{Cell, Extent, Layer, Patch, Tally, Tile, TileView};
 use map_nums::NoMemory;
 use std::alloc::Global;
 
-/// Rows and columns count from 1.
+/// A rectangle of cells. Rows and columns count from 1.
 #[derive(Clone, Copy)]
-pub(crate) struct Rectangle {
-    pub(crate) top: u32,
-    pub(crate) left: u32,
-    pub(crate) bottom: u32,
-    pub(crate) right: u32,
+pub struct Rectangle {
+    pub top: u32,
+    pub left: u32,
+    pub bottom: u32,
+    pub right: u32,
 }
 
 /// The tiles of a layer that a paint changes, and how many it met.

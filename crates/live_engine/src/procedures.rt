@@ -10,10 +10,12 @@ ghost use Rattle.map_edits.specs.WholeStates.{WholeState};
 ghost use Rattle.map_edits.specs.WholeEdits.{define_procedure as defines};
 ghost use Rattle.kept_map.specs.Maps.{seen};
 ghost use Rattle.kept_map.specs.Keeps.{IsKept};
-ghost use Rattle.live_engine.specs.Accepts.{Accepts, Refuses};
+ghost use Rattle.live_engine.specs.Accepts.{Refuses};
+ghost use Rattle.live_engine.specs.Inverses.{AcceptsBack};
 
 use crate::edits::{Accepted, Refusal, Which};
 use crate::expanding::not_expanded;
+use crate::inverses::Inverse;
 use crate::noting::{Note, take_note};
 use kept_map::KeptMap;
 use procedure_expand::Procs;
@@ -45,10 +47,10 @@ pub(crate) fn define_procedure(
     map: &mut KeptMap,
     alloc: Global,
     procedure: Procedure,
-) -> Result<Accepted, Refusal>
+) -> Result<(Accepted, Inverse), Refusal>
     requires kept { IsKept map.old }
     requires formed { IsProcedure (procedure_view procedure) }
-    ensures accepts { Accepts (seen map.old) (seen map.new) (defines (procedure_view procedure)) result }
+    ensures accepts { AcceptsBack (seen map.old) (seen map.new) (defines (procedure_view procedure)) result }
     ensures kept { IsKept map.new }
 {
     if map.procedures.find(&procedure.name).is_some() {

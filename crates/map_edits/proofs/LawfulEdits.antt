@@ -23,7 +23,8 @@ use Rattle.map_edits.specs.Edits.{with_entries}
 use Rattle.map_edits.specs.Laws.{HasNoCycle, IsApart, edited}
 use Rattle.map_edits.specs.Marks.{put_mark}
 use Rattle.map_edits.specs.WholeStates.{WholeState}
-use Rattle.map_edits.specs.WholeEdits.{WholeEdit, of_names, define_procedure, label, symbol}
+use Rattle.map_edits.specs.Pasts.{with_parts}
+use Rattle.map_edits.specs.WholeEdits.{WholeEdit, of_names, define_procedure, label, symbol, put_back}
 use Rattle.map_edits.specs.Attempts.{unless_more, marks_after, with_names, with_procedure, with_labels, with_symbols, attempted}
 use Rattle.map_edits.specs.StampsAfter.{stamped}
 use Rattle.map_edits.specs.Counted.{Accepted, fault_after, done, unless_fault, of_attempt, accept_counted}
@@ -143,7 +144,7 @@ module _ (s t : WholeState) (l : IsLawful s) where
   procedure_lawful p None new body is e =
       subst IsLawful (within_is 32 (length s.procedures + 1) procedures _ t e) (lawful_by _ (made_more s.procedures p l.made new is body) (good_of s l))
 
-  attempt_lawful : (e : WholeEdit) → IsSaid e → attempted s e ≡ Ok t → IsLawful t
+  attempt_lawful : (e : WholeEdit) → IsSaid s e → attempted s e ≡ Ok t → IsLawful t
   attempt_lawful (of_names edit) said e = names_lawful edit (entries_with s.procedures s.names edit) said refl e
   attempt_lawful (define_procedure p) said e =
       let r = new_is (is_some (find_procedure s.procedures p.name)) (exists_already p.name) (with_procedure s p (wrong_call s.procedures p.body)) t e in
@@ -154,6 +155,9 @@ module _ (s t : WholeState) (l : IsLawful s) where
   attempt_lawful (symbol n z sign) said e =
       let r = known_is (is_some (find_def s.names.entries n)) (unknown n) (with_symbols s (put_mark s.symbols n z (sign ∷ []))) t e in
       subst IsLawful (within_is 4096 (length (put_mark s.symbols n z (sign ∷ []))) symbols _ t r) (lawful_by _ l.made (good_of s l))
+  attempt_lawful (put_back p) said e =
+      let same : with_parts s p.parts ≡ t = cc in
+      subst IsLawful same (record { made = said.made; groups = said.groups; apart = said.apart; none_looped = said.none_looped })
 
 -- ---- what an accepted edit makes
 

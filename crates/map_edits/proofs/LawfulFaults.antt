@@ -15,10 +15,11 @@ use Rattle.map_edits.specs.EntriesAfter.{entries_with}
 use Rattle.map_edits.specs.Edits.{with_entries}
 use Rattle.map_edits.specs.Marks.{put_mark}
 use Rattle.map_edits.specs.WholeStates.{WholeState}
-use Rattle.map_edits.specs.WholeEdits.{WholeEdit, of_names, define_procedure, label, symbol}
+use Rattle.map_edits.specs.Pasts.{with_parts}
+use Rattle.map_edits.specs.WholeEdits.{WholeEdit, of_names, define_procedure, label, symbol, put_back}
 use Rattle.map_edits.specs.Attempts.{with_names, with_procedure, with_labels, with_symbols, attempted}
 use Rattle.map_edits.specs.Counted.{fault_after}
-use Rattle.map_edits.specs.GroupLaws.{IsLawful, NoFaultStays}
+use Rattle.map_edits.specs.GroupLaws.{IsLawful, IsSaid, PutsBackReached, NoFaultStays}
 use Rattle.map_edits.proofs.Listed.{each_more, IsListed}
 use Rattle.map_edits.proofs.Dropped.{IsLess, none_first, listed_faultless}
 use Rattle.map_edits.proofs.Puts.{apart_drop}
@@ -59,22 +60,33 @@ module _ (s t : WholeState) (l : IsLawful s) (none : fault_of s.names ≡ None) 
   by_procedure p None e = as_counted t.names (ap (λ (u : WholeState). u.names) (sym (within_is 32 (length s.procedures + 1) procedures _ t e)))
 
   -- what no test of faults is made for has none
-  untested : (e : WholeEdit) → attempted s e ≡ Ok t → fault_after e t ≡ None → fault_of t.names ≡ None
-  untested (of_names (load n grid)) is fault = fault
-  untested (of_names (new_layer n cell)) is fault = fault
-  untested (of_names (paint n r cell)) is fault = fault
-  untested (of_names (define n written)) is fault = fault
-  untested (of_names (drop_name n)) is fault = drop_by n (entries_with s.procedures s.names (drop_name n)) refl is
-  untested (define_procedure p) is fault =
+  untested : (e : WholeEdit) → PutsBackReached s e → attempted s e ≡ Ok t → fault_after e t ≡ None → fault_of t.names ≡ None
+  untested (of_names (load n grid)) reached is fault = fault
+  untested (of_names (new_layer n cell)) reached is fault = fault
+  untested (of_names (paint n r cell)) reached is fault = fault
+  untested (of_names (define n written)) reached is fault = fault
+  untested (of_names (drop_name n)) reached is fault = drop_by n (entries_with s.procedures s.names (drop_name n)) refl is
+  untested (define_procedure p) reached is fault =
       by_procedure p (wrong_call s.procedures p.body) (new_is (is_some (find_procedure s.procedures p.name)) (exists_already p.name) (with_procedure s p (wrong_call s.procedures p.body)) t is).1
-  untested (label n z text) is fault =
+  untested (label n z text) reached is fault =
       let r = known_is (is_some (find_def s.names.entries n)) (unknown n) (with_labels s (put_mark s.labels n z text)) t is in
       as_counted t.names (ap (λ (u : WholeState). u.names) (sym (within_is 4096 (length (put_mark s.labels n z text)) labels _ t r)))
-  untested (symbol n z sign) is fault =
+  untested (symbol n z sign) reached is fault =
       let r = known_is (is_some (find_def s.names.entries n)) (unknown n) (with_symbols s (put_mark s.symbols n z (sign ∷ []))) t is in
       as_counted t.names (ap (λ (u : WholeState). u.names) (sym (within_is 4096 (length (put_mark s.symbols n z (sign ∷ []))) symbols _ t r)))
+  untested (put_back p) reached is fault =
+      let same : with_parts s p.parts ≡ t = cc in
+      subst (λ (u : WholeState). fault_of u.names ≡ None) same reached.faultless
+
+-- what a line can say puts nothing back, and what an undo puts back was reached
+pub said_puts_back : (s : WholeState) (e : WholeEdit) → IsSaid s e → PutsBackReached s e
+said_puts_back s (put_back p) said = said
+said_puts_back s (of_names edit) said = tt
+said_puts_back s (define_procedure p) said = tt
+said_puts_back s (label n z text) said = tt
+said_puts_back s (symbol n z sign) said = tt
 
 pub no_fault_stays : NoFaultStays
-no_fault_stays s e a l none is =
+no_fault_stays s e a l none reached is =
     let r = done_is s e a is in
-    subst (λ u. fault_of u ≡ None) r.names (untested s r.state l none e r.is r.faultless)
+    subst (λ u. fault_of u ≡ None) r.names (untested s r.state l none e reached r.is r.faultless)

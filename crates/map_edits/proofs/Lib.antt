@@ -26,3 +26,4 @@ pub mod LawfulFaults
 pub mod LawfulValues
 pub mod Stamped
 pub mod Limited
+pub mod PutBack

@@ -21,9 +21,10 @@ use Rattle.map_edits.specs.EntriesAfter.{same_size, add_source, paint_source, pu
 use Rattle.map_edits.specs.Edits.{with_entries}
 use Rattle.map_edits.specs.Marks.{Mark, put_mark}
 use Rattle.map_edits.specs.WholeStates.{WholeState}
-use Rattle.map_edits.specs.WholeEdits.{WholeEdit, of_names, define_procedure, label, symbol}
+use Rattle.map_edits.specs.Pasts.{with_parts}
+use Rattle.map_edits.specs.WholeEdits.{WholeEdit, of_names, define_procedure, label, symbol, put_back}
 use Rattle.map_edits.specs.Attempts.{most_marks, most_procedures, unless_more, counted, marks_after, with_names, with_procedure, with_labels, with_symbols, attempted}
-use Rattle.map_edits.specs.LimitLaws.{AreFew, FewStay}
+use Rattle.map_edits.specs.LimitLaws.{AreFew, PutsBackFew, FewStay}
 use Rattle.map_edits.proofs.Accepted.{cond_err, cond_ok}
 use Rattle.map_edits.proofs.LawfulEdits.{known_is, new_is, done_is}
 
@@ -210,14 +211,15 @@ module _ (s t : WholeState) (few : AreFew s) where
       let r = within_limit most_marks (length marks) symbols (record (counted s) { symbols = marks }) t e in
       subst AreFew r.0 (record { sources = few.sources; flats = few.flats; zonals = few.zonals; procedures = few.procedures; labels = few.labels; symbols = r.1 })
 
-  attempt_few : (e : WholeEdit) → attempted s e ≡ Ok t → AreFew t
-  attempt_few (of_names edit) is = by_names edit (entries_with s.procedures s.names edit) refl is
-  attempt_few (define_procedure p) is = by_procedure p (wrong_call s.procedures p.body) (new_is (is_some (find_procedure s.procedures p.name)) (exists_already p.name) (with_procedure s p (wrong_call s.procedures p.body)) t is).1
-  attempt_few (label n z text) is = by_labels (put_mark s.labels n z text) (known_is (is_some (find_def s.names.entries n)) (unknown n) (with_labels s (put_mark s.labels n z text)) t is)
-  attempt_few (symbol n z sign) is = by_symbols (put_mark s.symbols n z (sign ∷ [])) (known_is (is_some (find_def s.names.entries n)) (unknown n) (with_symbols s (put_mark s.symbols n z (sign ∷ []))) t is)
+  attempt_few : (e : WholeEdit) → PutsBackFew s e → attempted s e ≡ Ok t → AreFew t
+  attempt_few (of_names edit) back is = by_names edit (entries_with s.procedures s.names edit) refl is
+  attempt_few (define_procedure p) back is = by_procedure p (wrong_call s.procedures p.body) (new_is (is_some (find_procedure s.procedures p.name)) (exists_already p.name) (with_procedure s p (wrong_call s.procedures p.body)) t is).1
+  attempt_few (label n z text) back is = by_labels (put_mark s.labels n z text) (known_is (is_some (find_def s.names.entries n)) (unknown n) (with_labels s (put_mark s.labels n z text)) t is)
+  attempt_few (symbol n z sign) back is = by_symbols (put_mark s.symbols n z (sign ∷ [])) (known_is (is_some (find_def s.names.entries n)) (unknown n) (with_symbols s (put_mark s.symbols n z (sign ∷ []))) t is)
+  attempt_few (put_back p) back is = let same : with_parts s p.parts ≡ t = cc in subst AreFew same back
 
 pub few_stay : FewStay
-few_stay s e a few is =
+few_stay s e a few back is =
     let r = done_is s e a is in
-    let t = attempt_few s r.state few e r.is in
+    let t = attempt_few s r.state few e back r.is in
     subst AreFew r.whole (record { sources = t.sources; flats = t.flats; zonals = t.zonals; procedures = t.procedures; labels = t.labels; symbols = t.symbols })

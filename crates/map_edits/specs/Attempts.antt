@@ -9,7 +9,8 @@ use Rattle.map_edits.specs.EditForms.{Edit, drop_name}
 use Rattle.map_edits.specs.Edits.{with_entries}
 use Rattle.map_edits.specs.Marks.{Mark, put_mark, drop_marks}
 use Rattle.map_edits.specs.WholeStates.{WholeState}
-use Rattle.map_edits.specs.WholeEdits.{WholeEdit, of_names, define_procedure, label, symbol}
+use Rattle.map_edits.specs.Pasts.{with_parts}
+use Rattle.map_edits.specs.WholeEdits.{WholeEdit, of_names, define_procedure, label, symbol, put_back}
 use Rattle.map_edits.specs.EntriesAfter.{entries_with}
 
 -- of labels, and of symbols
@@ -52,3 +53,4 @@ attempted s (of_names edit) = with_names s edit (entries_with s.procedures s.nam
 attempted s (define_procedure p) = if is_some (find_procedure s.procedures p.name) then Err (exists_already p.name) else with_procedure s p (wrong_call s.procedures p.body)
 attempted s (label n z text) = if is_some (find_def s.names.entries n) then with_labels s (put_mark s.labels n z text) else Err (unknown n)
 attempted s (symbol n z sign) = if is_some (find_def s.names.entries n) then with_symbols s (put_mark s.symbols n z (sign ∷ [])) else Err (unknown n)
+attempted s (put_back p) = Ok (with_parts s p.parts)

@@ -1,4 +1,4 @@
--- What edits there are.
+-- What edits of names there are, and what an edit touches.
 use Rattle.std.specs.Prelude.{ℕ, ℤ, Option}
 use Rattle.map_nums.specs.Grids.{Grid}
 use Rattle.map_defs.specs.Ops.{Name}
@@ -18,3 +18,10 @@ pub data Edit : Type 0 where
   paint : Name → Rectangle → Option ℤ → Edit
   define : Name → Written → Edit
   drop_name : Name → Edit
+
+-- what an edit touches: all that stands for a name, or a rectangle of a source
+pub data Touch : Type 0 where
+  nothing : Touch
+  -- the source or the flat statements of a name
+  whole : Name → Touch
+  within : Name → Rectangle → Touch

@@ -9,7 +9,10 @@ use Rattle.map_edits.specs.Faults.{fault_of}
 use Rattle.map_edits.specs.EditForms.{Edit, load, new_layer, paint, define, drop_name}
 use Rattle.map_edits.specs.Laws.{HasNoCycle, IsApart}
 use Rattle.map_edits.specs.WholeStates.{WholeState}
-use Rattle.map_edits.specs.WholeEdits.{WholeEdit, of_names, define_procedure, label, symbol}
+use Rattle.map_edits.specs.Pasts.{Past}
+use Rattle.map_edits.specs.WholeEdits.{WholeEdit, of_names, define_procedure, label, symbol, put_back}
+use Rattle.map_edits.specs.Edits.{with_entries}
+use Rattle.map_edits.specs.Touching.{ChangesOnly}
 use Rattle.map_edits.specs.Counted.{Accepted, accept_counted}
 
 -- a statement's own flat statement is the last, the others begin with its name and a dot, all differ, and each need with a dot is an earlier one
@@ -36,16 +39,34 @@ IsPlainEdit (paint n r cell) = IsUndotted n
 IsPlainEdit (define n written) = IsUndotted n × Each IsUndotted (written_names written)
 IsPlainEdit (drop_name n) = IsUndotted n
 
--- what a line can say: names without a dot, and a procedure whose inner names are right
-abbrev pub IsSaid : WholeEdit → Type 0
-IsSaid (of_names edit) = IsPlainEdit edit
-IsSaid (define_procedure p) = IsBody p.body
-IsSaid (label n z text) = ⊤
-IsSaid (symbol n z sign) = ⊤
+-- the parts of a state that was reached: they are lawful, have no fault, and differ from those of this state in what is touched alone
+pub record IsReached (s : WholeState) (p : Past) : Type 0 where
+  pub made : AreMade p.parts.procedures
+  pub groups : AreGroups p.parts.entries
+  pub apart : IsApart p.parts.entries
+  pub none_looped : HasNoCycle (nodes_of p.parts.entries)
+  pub faultless : fault_of (with_entries s.names p.parts.entries) ≡ None
+  pub only : ChangesOnly p.touch s.names (with_entries s.names p.parts.entries)
+
+-- what a line can say: names without a dot, and a procedure whose inner names are right; and what an undo puts back
+abbrev pub IsSaid : WholeState → WholeEdit → Type 0
+IsSaid s (of_names edit) = IsPlainEdit edit
+IsSaid s (define_procedure p) = IsBody p.body
+IsSaid s (label n z text) = ⊤
+IsSaid s (symbol n z sign) = ⊤
+IsSaid s (put_back p) = IsReached s p
 
 abbrev pub LawfulStays : Type 0
-LawfulStays = (s : WholeState) (e : WholeEdit) (a : Accepted) → IsLawful s → IsSaid e → accept_counted s e ≡ Ok a → IsLawful a.state
+LawfulStays = (s : WholeState) (e : WholeEdit) (a : Accepted) → IsLawful s → IsSaid s e → accept_counted s e ≡ Ok a → IsLawful a.state
+
+-- of what is put back alone this is asked
+abbrev pub PutsBackReached : WholeState → WholeEdit → Type 0
+PutsBackReached s (put_back p) = IsReached s p
+PutsBackReached s (of_names edit) = ⊤
+PutsBackReached s (define_procedure p) = ⊤
+PutsBackReached s (label n z text) = ⊤
+PutsBackReached s (symbol n z sign) = ⊤
 
 -- no accepted edit leaves a fault, though the rows of some have none
 abbrev pub NoFaultStays : Type 0
-NoFaultStays = (s : WholeState) (e : WholeEdit) (a : Accepted) → IsLawful s → fault_of s.names ≡ None → accept_counted s e ≡ Ok a → fault_of a.state.names ≡ None
+NoFaultStays = (s : WholeState) (e : WholeEdit) (a : Accepted) → IsLawful s → fault_of s.names ≡ None → PutsBackReached s e → accept_counted s e ≡ Ok a → fault_of a.state.names ≡ None

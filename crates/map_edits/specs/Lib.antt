@@ -7,14 +7,17 @@ pub mod Refusals
 pub mod Limits
 pub mod Painting
 pub mod EntriesAfter
+pub mod EntriesAt
 pub mod Edits
 pub mod LineEdits
 pub mod Laws
 pub mod Marks
 pub mod WholeStates
+pub mod Pasts
 pub mod WholeEdits
 pub mod Attempts
 pub mod Touches
+pub mod Touching
 pub mod LayerChanges
 pub mod EditCounts
 pub mod StampsAfter

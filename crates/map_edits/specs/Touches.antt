@@ -7,15 +7,10 @@ use Rattle.map_defs.specs.Ops.{Name}
 use Rattle.map_defs.specs.Differences.{tile_has}
 use Rattle.map_edits.specs.Entries.{Entry}
 use Rattle.map_edits.specs.LayerDefs.{LayerDef, layers_of}
-use Rattle.map_edits.specs.EditForms.{Rectangle, Edit, load, new_layer, paint, define, drop_name}
+pub use Rattle.map_edits.specs.EditForms.{Touch, nothing, whole, within}
+use Rattle.map_edits.specs.EditForms.{Edit, load, new_layer, paint, define, drop_name}
 use Rattle.map_edits.specs.Painting.{holds}
-use Rattle.map_edits.specs.WholeEdits.{WholeEdit, of_names, define_procedure, label, symbol}
-
-pub data Touch : Type 0 where
-  nothing : Touch
-  -- the source or the flat statements of a name
-  whole : Name → Touch
-  within : Name → Rectangle → Touch
+use Rattle.map_edits.specs.WholeEdits.{WholeEdit, of_names, define_procedure, label, symbol, put_back}
 
 abbrev pub touch_of_names : Edit → Touch
 touch_of_names (load n grid) = whole n
@@ -30,6 +25,7 @@ touch_of (of_names edit) = touch_of_names edit
 touch_of (define_procedure p) = nothing
 touch_of (label n z text) = nothing
 touch_of (symbol n z sign) = nothing
+touch_of (put_back p) = p.touch
 
 -- layer n is one of those that stand for name m
 abbrev pub stands_for : List Entry → Name → Name → Bool

@@ -10,3 +10,4 @@ pub mod TileRows
 pub mod SampleRows
 pub mod ReadRows
 pub mod LimitRows
+pub mod UndoRows

@@ -24,7 +24,7 @@ abbrev pub looks : ℕ → Reads
 looks n = record { looks = n; picks = 0 }
 
 abbrev pub nothing : MapState
-nothing = record { header = sample_header; place = first_place; whole = no_names (record { rows = 1; columns = 1 }) }
+nothing = record { header = sample_header; place = first_place; whole = no_names (record { rows = 1; columns = 1 }); pasts = [] }
 
 pub record ReadRows : Type 0 where
   pub none_written : reads_by 0 ≡ looks 64

@@ -12,6 +12,7 @@ ghost use Rattle.map_examples.specs.ReadRows.{ReadRows};
 ghost use Rattle.map_examples.specs.RepairRows.{RepairRows};
 ghost use Rattle.map_examples.specs.SampleRows.{SampleRows};
 ghost use Rattle.map_examples.specs.TileRows.{TileRows};
+ghost use Rattle.map_examples.specs.UndoRows.{UndoRows};
 ghost use Rattle.map_examples.specs.WordRows.{WordRows};
 
 /// Texts that are cut into lines.
@@ -52,6 +53,11 @@ pub fn repair_rows()
 /// Runs over maps of several tiles.
 pub fn tile_rows()
     ensures { TileRows }
+{}
+
+/// Runs whose edits are taken back.
+pub fn undo_rows()
+    ensures { UndoRows }
 {}
 
 /// The grids, the lines and the text of the sample.

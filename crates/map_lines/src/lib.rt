@@ -61,7 +61,7 @@ const OPERATIONS: [Operation; 37] = [
 ];
 
 /// The commands; all but the first are there at each place.
-const COMMANDS: [Command; 15] = [
+const COMMANDS: [Command; 16] = [
     Command::Model,
     Command::Procedure,
     Command::Paint,
@@ -69,6 +69,7 @@ const COMMANDS: [Command; 15] = [
     Command::Drop,
     Command::Label,
     Command::Symbol,
+    Command::Undo,
     Command::Value,
     Command::Grid,
     Command::Show,

@@ -6,4 +6,5 @@ pub mod WordsLemmas
 pub mod PairsLemmas
 pub mod WorkersLemmas
 pub mod ReadsLemmas
+pub mod Undoing
 pub mod SampleLemmas

@@ -1,7 +1,7 @@
 -- A line that ends the session ends it wherever it stands.
 use Rattle.std.proofs.Common.{◌≡◌, ℕ, Bool, true, false, List, Result, Ok, Err, refl, ap, ◌∙◌, sym}
 use Rattle.map_lines.specs.Present.{rows_at}
-use Rattle.statement_parser.specs.Lines.{Line, blank, edit, ask, model, quit}
+use Rattle.statement_parser.specs.Lines.{Line, blank, edit, undo, ask, model, quit}
 use Rattle.statement_parser.specs.Texts.{Refusal}
 use Rattle.statement_parser.specs.LineOf.{line_of}
 use Rattle.statement_parser.specs.There.{HasCommand}
@@ -20,6 +20,7 @@ has_quit p = elim p.early as (λ e. HasCommand (rows_at (record p { early = e })
 ends_quit : (r : Result Line Refusal) → ends r ≡ true → r ≡ Ok quit
 ends_quit (Ok blank) e = absurd (cc)
 ends_quit (Ok (edit x)) e = absurd (cc)
+ends_quit (Ok undo) e = absurd (cc)
 ends_quit (Ok (ask q)) e = absurd (cc)
 ends_quit (Ok (model l)) e = absurd (cc)
 ends_quit (Ok quit) e = refl

@@ -5,7 +5,7 @@ use Rattle.std.specs.List.{list_any}
 use Rattle.std.proofs.lemmas.Bool.{le-leb}
 use Rattle.std.proofs.lemmas.List.{length-append}
 use Rattle.map_lines.specs.Present.{first_place, rows_at}
-use Rattle.statement_parser.specs.Lines.{Line, blank, edit, ask, model, quit}
+use Rattle.statement_parser.specs.Lines.{Line, blank, edit, undo, ask, model, quit}
 use Rattle.statement_parser.specs.Texts.{Refusal as LineRefusal}
 use Rattle.statement_parser.specs.LineOf.{line_of}
 use Rattle.map_edits.specs.Allowances.{Reads, no_reads}
@@ -105,6 +105,7 @@ lines_reads-one s line n goes = rw goes (elim (nat_le (length (reply_to s line))
 ends_reads : (s : MapState) (r : Result Line LineRefusal) → ends r ≡ true → reads_by s r ≡ no_reads
 ends_reads s (Ok blank) e = absurd (cc)
 ends_reads s (Ok (edit e)) h = absurd (cc)
+ends_reads s (Ok undo) e = absurd (cc)
 ends_reads s (Ok (ask r)) e = absurd (cc)
 ends_reads s (Ok (model l)) e = absurd (cc)
 ends_reads s (Ok quit) e = refl

@@ -1,24 +1,31 @@
 -- What a line does, by its kind.
-use Rattle.std.proofs.Common.{◌≡◌, ◌↔◌, ℕ, true, List, Result, Ok, Err, refl, subst}
+use Rattle.std.proofs.Common.{◌≡◌, ◌↔◌, ℕ, true, List, [], ◌∷◌, Result, Ok, Err, refl, subst}
 use Rattle.map_lines.specs.Present.{first_place, rows_at}
-use Rattle.statement_parser.specs.Lines.{Line, blank, edit, ask, model, quit}
+use Rattle.statement_parser.specs.Lines.{Line, blank, edit, undo, ask, model, quit}
 use Rattle.statement_parser.specs.Texts.{Refusal as LineRefusal}
 use Rattle.statement_parser.specs.LineOf.{line_of}
 use Rattle.map_edits.specs.Refusals.{Refusal}
 use Rattle.map_edits.specs.Counted.{Accepted, accept_counted}
 use Rattle.map_edits.specs.LineEdits.{line_edit}
+use Rattle.map_edits.specs.Pasts.{Past}
+use Rattle.map_edits.specs.WholeEdits.{WholeEdit}
 use Rattle.map_machine.specs.declared.Kind.TheVariants.{Quit}
 use Rattle.map_machine.specs.States.{MapState}
-use Rattle.map_machine.specs.Steps.{edited, step_by, step_of, ends, is_quit}
+use Rattle.map_machine.specs.Steps.{edited, undone, step_by, step_of, ends, is_quit}
 use Rattle.map_machine.proofs.Quits.{quit_anywhere}
 
-edited_goes_on : (s : MapState) (r : Result Accepted Refusal) → (edited s r).kind ≡ Quit → ⊥
-edited_goes_on s (Ok a) e = cc
-edited_goes_on s (Err r) e = cc
+edited_goes_on : (s : MapState) (e : WholeEdit) (r : Result Accepted Refusal) → (edited s e r).kind ≡ Quit → ⊥
+edited_goes_on s e (Ok a) k = cc
+edited_goes_on s e (Err r) k = cc
+
+undone_goes_on : (s : MapState) (pasts : List Past) → (undone s pasts).kind ≡ Quit → ⊥
+undone_goes_on s [] k = cc
+undone_goes_on s (p ∷ ps) k = cc
 
 ends_kind : (s : MapState) (r : Result Line LineRefusal) → ((step_by s r).kind ≡ Quit) ↔ (ends r ≡ true)
 ends_kind s (Ok blank) = (λ e. absurd (cc), λ e. absurd (cc))
-ends_kind s (Ok (edit e)) = (λ k. absurd (edited_goes_on s (accept_counted s.whole (line_edit e)) k), λ q. absurd (cc))
+ends_kind s (Ok (edit e)) = (λ k. absurd (edited_goes_on s (line_edit e) (accept_counted s.whole (line_edit e)) k), λ q. absurd (cc))
+ends_kind s (Ok undo) = (λ k. absurd (undone_goes_on s s.pasts k), λ q. absurd (cc))
 ends_kind s (Ok (ask r)) = (λ e. absurd (cc), λ e. absurd (cc))
 ends_kind s (Ok (model l)) = (λ e. absurd (cc), λ e. absurd (cc))
 ends_kind s (Ok quit) = (λ e. refl, λ e. refl)

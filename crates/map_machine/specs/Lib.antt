@@ -21,6 +21,7 @@ pub mod Samples
 pub mod Play
 pub mod RequestReads
 pub mod LineReads
+pub mod UndoLaws
 pub mod LoadReads
 pub mod SessionReads
 pub mod OpeningReads

@@ -1,5 +1,5 @@
 -- What the load of a grid does.
-use Rattle.std.specs.Prelude.{ℕ, List, Result, Ok, Err, codes}
+use Rattle.std.specs.Prelude.{ℕ, List, [], Result, Ok, Err, codes}
 use Rattle.map_nums.specs.Grids.{Grid}
 use Rattle.grid_text.specs.Faults.{Fault}
 use Rattle.grid_text.specs.Headed.{Headed}
@@ -20,8 +20,9 @@ pub data Opened : Type 0 where
   ready : MapState → List ℕ → Opened
   turned_away : List ℕ → Opened
 
+-- no edit from before a load can be taken back
 abbrev pub opened : MapState → Name → Result Accepted Refusal → Opened
-opened s name (Ok a) = ready (record s { whole = a.state }) (counted_reply a.state.names.number a.counts)
+opened s name (Ok a) = ready (record s { whole = a.state; pasts = [] }) (counted_reply a.state.names.number a.counts)
 opened s name (Err r) = turned_away (load_refused_reply name (edit_cause r))
 
 -- a grid is loaded into a state
@@ -30,7 +31,7 @@ grid_load s name grid = opened s name (accept_counted s.whole (of_names (load na
 
 -- before the first grid: it sets the size and the header texts of the run
 abbrev pub state_for : Headed → MapState
-state_for read = record { header = read.header; place = first_place; whole = no_names read.grid.size }
+state_for read = record { header = read.header; place = first_place; whole = no_names read.grid.size; pasts = [] }
 
 -- what reading a file's bytes answered is loaded into the state before it
 abbrev pub read_load : (Headed → MapState) → Name → Result Headed Fault → Opened

@@ -10,7 +10,7 @@ use Rattle.map_machine.specs.SampleGrids.{NamedGrid, sample_header}
 
 -- before the first grid
 abbrev pub sample_state : ℕ → MapState
-sample_state n = record { header = sample_header; place = first_place; whole = no_names (record { rows = n; columns = n }) }
+sample_state n = record { header = sample_header; place = first_place; whole = no_names (record { rows = n; columns = n }); pasts = [] }
 
 -- the text from these grids on; `next` is the text from the state after them
 abbrev pub grids_text : MapState → List NamedGrid → (MapState → List ℕ) → List ℕ

@@ -5,6 +5,14 @@
 //! and what a run may read (`RunReads`). The engine and the top call are proved against it; nothing here runs.
 #![tactic(auto)]
 
+ghost use Rattle.map_machine.specs.UndoLaws.{UndosLeadBack};
+
+/// After at most 64 accepted edits as many undos lead back to the sources, statements, procedures, labels and symbols that there
+/// were.
+pub fn undo_law()
+    ensures { UndosLeadBack }
+{}
+
 /// What became of a line.
 #[derive(Clone, Copy, Debug, PartialEq, Eq)]
 pub enum Kind {
@@ -12,7 +20,7 @@ pub enum Kind {
     Silent,
     /// The line sets the language; nothing is replied.
     Model,
-    /// The line is an edit, and was accepted.
+    /// The line is an edit, or takes one back, and was accepted.
     Accepted,
     /// The line is a request, and was answered.
     Shown,

@@ -1,1 +1,3 @@
+pub mod Dropping
 pub mod Searching
+pub mod Taking

@@ -4,6 +4,8 @@
 
 mod mark;
 mod marks;
+mod taken;
 
 pub use mark::Mark;
 pub use marks::Marks;
+pub use taken::Taken;

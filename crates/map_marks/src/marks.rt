@@ -1,9 +1,12 @@
 //! All labels of a map, or all symbols.
-ghost use Rattle.std.specs.Prelude.{◌≡◌, [], length, map, option_map, slice_get, IfOk, OnOk, OnErr};
+ghost use Rattle.std.specs.Prelude.{◌≡◌, ◌<◌, [], length, map, drop, option_map, slice_get, bytes_eq, IfOk, IfErr, IfSome, IfNone, OnOk, OnErr};
+ghost use Rattle.std.specs.List.{list_any};
 ghost use Rattle.map_edits.specs.Marks.{find_mark, put_mark, drop_marks};
 ghost use Rattle.map_marks.specs.Views.{mark_of};
+ghost use Rattle.map_marks.specs.Taken.{given_back};
 
 use crate::mark::Mark;
+use crate::taken::{Taken, put_at, put_back, take_out};
 use layer_tiles::Text;
 use map_nums::{NoMemory, Value};
 use map_words::Name;
@@ -86,10 +89,56 @@ impl Marks {
         ensures put { OnOk result (self.new ≡ put_mark self.old mark.name mark.value mark.text) }
         ensures kept { OnErr result (self.new ≡ self.old) }
     {
-        self.kept.reserve(1)?;
-        self.kept.retain(|old| !old.is(&mark.name, mark.value));
-        self.kept.insert(0, mark)?;
+        self.exchange(mark)?;
         Ok(())
+    }
+
+    /// Puts a mark before the others and hands out what it replaces: marks for the same value of the layer, with their places.
+    /// Where memory is wanted all is as before.
+    pub fn exchange(&mut self, mark: Mark) -> Result<Vec<Taken>, NoMemory>
+        ensures put { OnOk result (self.new ≡ put_mark self.old mark.name mark.value mark.text) }
+        ensures back { IfOk result (λ taken. given_back (drop 1 self.new) taken.items ≡ self.old) }
+        ensures kept { OnErr result (self.new ≡ self.old) }
+    {
+        let replaced = self.count() - (self.count_with(&mark.name, mark.value) - 1);
+        let mut taken = Vec::with_capacity(*self.kept.allocator(), replaced)?;
+        self.kept.reserve(1)?;
+        take_out(&mut self.kept, &mark.name, mark.value, &mut taken);
+        put_at(&mut self.kept, 0, mark);
+        Ok(taken)
+    }
+
+    /// Takes the first mark out and gives back what it had replaced. Where memory is wanted all is as before, and the marks come back.
+    pub fn give_back(&mut self, taken: Vec<Taken>) -> Result<(), Vec<Taken>>
+        requires { 0 < length self.old }
+        ensures given { OnOk result (self.new ≡ given_back (drop 1 self.old) taken.items) }
+        ensures back { IfErr result (λ back. back ≡ taken) }
+        ensures kept { OnErr result (self.new ≡ self.old) }
+    {
+        if self.kept.reserve(taken.len().saturating_sub(1)).is_err() {
+            return Err(taken);
+        }
+        self.kept.remove(0);
+        put_back(&mut self.kept, taken);
+        Ok(())
+    }
+
+    /// The marks without those of a layer; nothing where it has none.
+    pub fn without(&self, alloc: Global, name: &Name) -> Result<Option<Marks>, NoMemory>
+        ensures some { IfOk result (λ left. IfSome left (λ marks. marks ≡ drop_marks self.now name.now)) }
+        ensures fewer { IfOk result (λ left. IfSome left (λ marks. length marks < length self.now)) }
+        ensures none { IfOk result (λ left. IfNone left (drop_marks self.now name.now ≡ self.now)) }
+    {
+        if !has_name(&self.kept, name) {
+            return Ok(None);
+        }
+        let mut kept = Vec::with_capacity(alloc, self.kept.len())?;
+        for mark in &self.kept {
+            if mark.name != *name {
+                kept.push(mark.copy(alloc)?)?;
+            }
+        }
+        Ok(Some(Marks { kept }))
     }
 
     /// Takes out the marks of a layer.
@@ -108,4 +157,11 @@ impl Marks {
         }
         Ok(Marks { kept })
     }
+}
+
+/// Whether one of these marks is of a layer.
+fn has_name(marks: &[Mark], name: &Name) -> bool
+    ensures { result ≡ list_any (λ m. bytes_eq m.name name.now) marks.now }
+{
+    marks.iter().any(|mark| mark.name == *name)
 }

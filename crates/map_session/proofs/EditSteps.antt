@@ -1,5 +1,6 @@
 -- What an edit does, by what the engine answers.
 use Rattle.std.proofs.Common.{◌≡◌, ℕ, List, Some, Result, Ok, Err, IfOk, refl, ap, ◌∙◌, sym, subst}
+use Rattle.map_nums.specs.Grids.{Grid}
 use Rattle.map_nums.specs.declared.NoMemory.{NoMemory}
 use Rattle.grid_text.specs.declared.Header.{Header}
 use Rattle.statement_parser.specs.declared.language.Place.{Place}
@@ -8,38 +9,47 @@ use Rattle.live_engine.specs.declared.edits.Accepted.{Accepted}
 use Rattle.live_engine.specs.declared.edits.Refusal.{Refusal}
 use Rattle.live_engine.specs.declared.edits.Refusal.TheVariants as an_edit
 use Rattle.live_engine.specs.Accepts.{Refuses, which_of}
+use Rattle.live_engine.specs.declared.inverses.Inverse.{Inverse}
+use Rattle.undo_shelf.specs.Histories.{pasts_from}
+use Rattle.map_defs.specs.Ops.{Name}
+use Rattle.map_edits.specs.EditForms.{load}
 use Rattle.map_edits.specs.Refusals as edits
 use Rattle.map_edits.specs.Faults as faults
 use Rattle.map_edits.specs.WholeStates.{WholeState}
-use Rattle.map_edits.specs.WholeEdits.{WholeEdit}
+use Rattle.map_edits.specs.WholeEdits.{WholeEdit, of_names}
+use Rattle.map_edits.specs.Pasts.{Past, parts_of, with_past}
+use Rattle.map_edits.specs.Touches.{touch_of}
 use Rattle.map_edits.specs.Counted as counted
 use Rattle.map_edits.specs.Counted.{accept_counted}
 use Rattle.map_machine.specs.declared.Kind.TheVariants as kinds
 use Rattle.map_machine.specs.States.{MapState}
-use Rattle.map_machine.specs.Replies.{counted_reply, refused_reply}
+use Rattle.map_machine.specs.Replies.{counted_reply, refused_reply, load_refused_reply}
 use Rattle.map_machine.specs.Causes.{edit_cause}
+use Rattle.map_machine.specs.Loads.{opened, grid_load}
 use Rattle.map_machine.specs.Steps.{later, edited}
 use Rattle.map_session.specs.Causes.{edit_told}
 use Rattle.map_session.specs.Said.{Says, Does}
+use Rattle.map_session.specs.Answered.{LoadsAs}
 use Rattle.map_session.specs.declared.replies.Reply.{Reply}
 
 some_same : {A : Type 0} (x y : A) → Some x ≡ Some y → x ≡ y
 some_same x y e = cc
 
 -- a session's state, by what it keeps
-abbrev pub state : Header → Place → WholeState → MapState
-state h p whole = record { header = h; place = p; whole = whole }
+abbrev pub state : Header → Place → WholeState → List Past → MapState
+state h p whole pasts = record { header = h; place = p; whole = whole; pasts = pasts }
 
 -- what the machine is told of an edit that the engine accepted
-abbrev outcome : WholeState → Accepted → counted.Accepted
+abbrev pub outcome : WholeState → Accepted → counted.Accepted
 outcome new a = record { state = new; counts = counts_view a.counts }
 
-pub edit_done : (h : Header) (p : Place) (old new : WholeState) (s : MapState) (e : WholeEdit) (a : Accepted) (reply : Reply) → state h p old ≡ s → accept_counted old e ≡ Ok (outcome new a)
-    → a.number ≡ new.names.number → Says (counted_reply a.number (counts_view a.counts)) kinds.Accepted reply → Does s (state h (later p.language) new) (edited s (accept_counted s.whole e)) (Ok reply)
-edit_done h p old new s e a reply w accepts number says =
-    subst (λ (u : MapState). Does u (state h (later p.language) new) (edited u (accept_counted u.whole e)) (Ok reply)) w
-    (subst (λ (r : Result counted.Accepted edits.Refusal). Does (state h p old) (state h (later p.language) new) (edited (state h p old) r) (Ok reply)) (sym accepts)
-    (refl, says.0 ∙ ap (λ k. counted_reply k (counts_view a.counts)) number, says.1))
+pub edit_done : (h : Header) (p : Place) (old new : WholeState) (before after : List Past) (s : MapState) (e : WholeEdit) (a : Accepted) (reply : Reply) → state h p old before ≡ s → accept_counted old e ≡ Ok (outcome new a)
+    → a.number ≡ new.names.number → after ≡ with_past old (touch_of e) before → Says (counted_reply a.number (counts_view a.counts)) kinds.Accepted reply
+    → Does s (state h (later p.language) new after) (edited s e (accept_counted s.whole e)) (Ok reply)
+edit_done h p old new before after s e a reply w accepts number kept says =
+    subst (λ (u : MapState). Does u (state h (later p.language) new after) (edited u e (accept_counted u.whole e)) (Ok reply)) w
+    (subst (λ (r : Result counted.Accepted edits.Refusal). Does (state h p old before) (state h (later p.language) new after) (edited (state h p old before) e r) (Ok reply)) (sym accepts)
+    (ap (state h (later p.language) new) kept, says.0 ∙ ap (λ k. counted_reply k (counts_view a.counts)) number, says.1))
 
 -- what an edit that is refused leaves, and what is told of it
 record Turned (old new : WholeState) (e : WholeEdit) (text : List ℕ) : Type 0 where
@@ -61,11 +71,29 @@ turned old new e (an_edit.NoProcedure n) text a t = record { cause = edits.no_pr
 turned old new e (an_edit.Terms given wanted) text a t = record { cause = edits.wrong_terms given wanted; is = a.0; told = some_same _ _ t; kept = a.1 }
 turned old new e an_edit.NoMemory text a t = absurd (cc)
 
-pub edit_refused : (h : Header) (p : Place) (old new : WholeState) (s : MapState) (e : WholeEdit) (r : Refusal) (cause text : List ℕ) (reply : Result Reply NoMemory) → state h p old ≡ s → Refuses old new e r
-    → edit_told r ≡ Some cause → text ≡ cause → IfOk reply (Says (refused_reply text) kinds.Refused) → Does s (state h p new) (edited s (accept_counted s.whole e)) reply
-edit_refused h p old new s e r cause text (Ok reply) w a t same says =
+-- the state by what is held to take edits back
+abbrev pub holding : Header → Place → WholeState → List Inverse → MapState
+holding h p whole held = state h p whole (pasts_from (parts_of whole) held)
+
+pub held_same : (h : Header) (p : Place) (old new : WholeState) (held left : List Inverse) → new ≡ old → left ≡ held → holding h p new left ≡ holding h p old held
+held_same h p old new held left same kept = ap (λ (w : WholeState). holding h p w left) same ∙ ap (holding h p old) kept
+
+pub edit_refused : (h : Header) (p : Place) (old new : WholeState) (held left : List Inverse) (s : MapState) (e : WholeEdit) (r : Refusal) (cause text : List ℕ) (reply : Result Reply NoMemory) → holding h p old held ≡ s → Refuses old new e r → left ≡ held
+    → edit_told r ≡ Some cause → text ≡ cause → IfOk reply (Says (refused_reply text) kinds.Refused) → Does s (holding h p new left) (edited s e (accept_counted s.whole e)) reply
+edit_refused h p old new held left s e r cause text (Ok reply) w a kept t same says =
     let u = turned old new e r cause a t in
-    subst (λ (s : MapState). Does s (state h p new) (edited s (accept_counted s.whole e)) (Ok reply)) w
-    (subst (λ (x : Result counted.Accepted edits.Refusal). Does (state h p old) (state h p new) (edited (state h p old) x) (Ok reply)) (sym u.is)
-    (ap (state h p) u.kept, says.0 ∙ ap refused_reply (same ∙ sym u.told), says.1))
-edit_refused h p old new s e r cause text (Err x) w a t same says = ap (state h p) (turned old new e r cause a t).kept ∙ w
+    subst (λ (s : MapState). Does s (holding h p new left) (edited s e (accept_counted s.whole e)) (Ok reply)) w
+    (subst (λ (x : Result counted.Accepted edits.Refusal). Does (holding h p old held) (holding h p new left) (edited (holding h p old held) e x) (Ok reply)) (sym u.is)
+    (held_same h p old new held left u.kept kept, says.0 ∙ ap refused_reply (same ∙ sym u.told), says.1))
+edit_refused h p old new held left s e r cause text (Err x) w a kept t same says = held_same h p old new held left (turned old new e r cause a t).kept kept ∙ w
+
+-- a load that is refused
+pub load_turned : (h : Header) (p : Place) (old new : WholeState) (held : List Inverse) (s : MapState) (name copied : Name) (grid : Grid) (r : Refusal) (cause text : List ℕ) (reply : Result Reply NoMemory) → holding h p old held ≡ s
+    → copied ≡ name → Refuses old new (of_names (load copied grid)) r → edit_told r ≡ Some cause → text ≡ cause → IfOk reply (Says (load_refused_reply name text) kinds.Refused) → LoadsAs s (holding h p new held) (grid_load s name grid) reply
+load_turned h p old new held s name copied grid r cause text (Ok reply) w named a t same says =
+    let u = turned old new (of_names (load copied grid)) r cause a t in
+    let is : accept_counted old (of_names (load name grid)) ≡ Err u.cause = subst (λ (n : Name). accept_counted old (of_names (load n grid)) ≡ Err u.cause) named u.is in
+    subst (λ (v : MapState). LoadsAs v (holding h p new held) (grid_load v name grid) (Ok reply)) w
+    (subst (λ (x : Result counted.Accepted edits.Refusal). LoadsAs (holding h p old held) (holding h p new held) (opened (holding h p old held) name x) (Ok reply)) (sym is)
+    (held_same h p old new held held u.kept refl, says.0 ∙ ap (load_refused_reply name) (same ∙ sym u.told), says.1))
+load_turned h p old new held s name copied grid r cause text (Err x) w named a t same says = held_same h p old new held held (turned old new (of_names (load copied grid)) r cause a t).kept refl ∙ w

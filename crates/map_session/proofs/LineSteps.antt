@@ -3,6 +3,7 @@ use Rattle.std.proofs.Common.{◌≡◌, ℕ, List, [], Some, Result, Ok, Err, I
 use Rattle.map_nums.specs.declared.NoMemory.{NoMemory}
 use Rattle.layer_tiles.specs.Tallies.{TallyState}
 use Rattle.grid_text.specs.declared.Header.{Header}
+use Rattle.map_edits.specs.Pasts.{Past}
 use Rattle.map_edits.specs.WholeStates.{WholeState}
 use Rattle.map_lines.specs.Present.{rows_at}
 use Rattle.statement_parser.specs.Lines as lines
@@ -28,6 +29,7 @@ use Rattle.map_session.specs.Causes.{line_told}
 use Rattle.map_session.specs.Said.{Says, Does}
 use Rattle.map_session.specs.Answered.{Steps}
 use Rattle.map_session.specs.declared.replies.Reply.{Reply}
+use Rattle.map_session.proofs.EditSteps.{state}
 
 some_same : {A : Type 0} (x y : A) → Some x ≡ Some y → x ≡ y
 some_same x y e = cc
@@ -48,11 +50,26 @@ stepped_reads s line x a b e r = subst (λ (y : Result Line SpecRefusal). IsRead
 pub stepped_empty : (s : MapState) (line : List ℕ) (x : Line) (kind : Kind) (reply : Reply) → line_of (rows_at s.place) line ≡ Ok x → step_by s (Ok x) ≡ unchanged s [] kind → Says [] kind reply → Steps s s line (Ok reply)
 stepped_empty s line x kind reply is step says = stepped s s line x (Ok reply) is (subst (λ (d : Stepped). Does s s d (Ok reply)) (sym step) (refl, says.0, says.1))
 
-pub stepped_model : (h : Header) (p set : Place) (whole : WholeState) (s : MapState) (line : List ℕ) (l : Language) (reply : Reply) → record { header = h; place = p; whole = whole } ≡ s → set ≡ later l
-    → line_of (rows_at s.place) line ≡ Ok (lines.model l) → Says [] Model reply → Steps s (record { header = h; place = set; whole = whole }) line (Ok reply)
-stepped_model h p set whole s line l reply same e is says =
-    let new = ap (λ (q : Place). let t : MapState = record { header = h; place = q; whole = whole } in t) e ∙ ap (λ (u : MapState). let t : MapState = record u { place = later l } in t) same in
-    stepped s (record { header = h; place = set; whole = whole }) line (lines.model l) (Ok reply) is (new, says.0, says.1)
+pub stepped_model : (h : Header) (p set : Place) (whole : WholeState) (pasts : List Past) (s : MapState) (line : List ℕ) (l : Language) (reply : Reply) → state h p whole pasts ≡ s → set ≡ later l
+    → line_of (rows_at s.place) line ≡ Ok (lines.model l) → Says [] Model reply → Steps s (state h set whole pasts) line (Ok reply)
+stepped_model h p set whole pasts s line l reply same e is says =
+    let new = ap (λ (q : Place). state h q whole pasts) e ∙ ap (λ (u : MapState). let t : MapState = record u { place = later l } in t) same in
+    stepped s (state h set whole pasts) line (lines.model l) (Ok reply) is (new, says.0, says.1)
+
+-- no answer goes by earlier states
+answer_same : (h : Header) (p : Place) (whole : WholeState) (a b : List Past) (q : lines.Request) → answer_to (state h p whole a) q ≡ answer_to (state h p whole b) q
+answer_same h p whole a b (lines.ask_value n r c) = refl
+answer_same h p whole a b (lines.ask_grid n) = refl
+answer_same h p whole a b (lines.ask_show n) = refl
+answer_same h p whole a b (lines.ask_legend n) = refl
+answer_same h p whole a b (lines.ask_table n m) = refl
+answer_same h p whole a b (lines.ask_stamps n) = refl
+answer_same h p whole a b lines.ask_list = refl
+
+pub asked_says : (h : Header) (p : Place) (whole : WholeState) (pasts : List Past) (s : MapState) (q : lines.Request) (r : Result Reply NoMemory) → state h p whole pasts ≡ s → IfOk r (Says (answer_to (state h p whole []) q) Shown)
+    → IfOk r (Says (answer_to s q) Shown)
+asked_says h p whole pasts s q (Ok reply) same says = (says.0 ∙ answer_same h p whole [] pasts q ∙ ap (λ (u : MapState). answer_to u q) same, says.1)
+asked_says h p whole pasts s q (Err e) same says = says
 
 ask_done : (s : MapState) (q : lines.Request) (r : Result Reply NoMemory) → IfOk r (Says (answer_to s q) Shown) → Does s s (step_by s (Ok (lines.ask q))) r
 ask_done s q (Ok reply) says = (refl, says.0, says.1)

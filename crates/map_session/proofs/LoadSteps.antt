@@ -1,5 +1,5 @@
 -- What the load of a grid does, by what its bytes hold.
-use Rattle.std.proofs.Common.{◌≡◌, ◌≢◌, ℕ, List, Some, Result, Ok, Err, IfOk, refl, sym, ap, ◌∙◌, subst}
+use Rattle.std.proofs.Common.{◌≡◌, ◌≢◌, ℕ, List, [], Some, Result, Ok, Err, IfOk, refl, sym, ap, ◌∙◌, subst}
 use Rattle.map_nums.specs.Grids.{Size, Grid}
 use Rattle.map_nums.specs.declared.NoMemory.{NoMemory}
 use Rattle.layer_tiles.specs.Tallies.{TallyState}
@@ -11,6 +11,7 @@ use Rattle.grid_text.specs.Faults as grids
 use Rattle.grid_text.specs.Contents.{grid_in}
 use Rattle.grid_text.specs.Reads.{Reads as Holds}
 use Rattle.map_lines.specs.Present.{first_place}
+use Rattle.map_edits.specs.Pasts.{Past}
 use Rattle.map_edits.specs.WholeStates.{WholeState, no_names}
 use Rattle.map_machine.specs.declared.Kind.TheVariants.{Accepted, Refused}
 use Rattle.map_machine.specs.States.{MapState}
@@ -79,8 +80,8 @@ load_reads s name bytes h a b e r = subst (λ (x : Result Headed grids.Fault). I
 -- ---- the first load, into a state without names
 
 -- the state before the first load is that of the grid's size
-pub state_before : (read : Headed) (whole : WholeState) (size : Size) → whole ≡ no_names size → size ≡ read.grid.size → record { header = read.header; place = first_place; whole = whole } ≡ state_for read
-state_before read whole size w e = rw (w, e) refl
+pub state_before : (read : Headed) (whole : WholeState) (pasts : List Past) (size : Size) → whole ≡ no_names size → pasts ≡ [] → size ≡ read.grid.size → record { header = read.header; place = first_place; whole = whole; pasts = pasts } ≡ state_for read
+state_before read whole pasts size w none e = rw (w, none, e) refl
 
 opened_refused : (o : Opened) (old new : MapState) (reply : Reply) → LoadsAs old new o (Ok reply) → reply.kind ≢ Accepted → (o ≡ turned_away reply.bytes.items) × (reply.kind ≡ Refused)
 opened_refused (ready s bytes) old new reply l other = absurd (other l.2)

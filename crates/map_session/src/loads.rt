@@ -20,6 +20,7 @@ use map_words::Name;
 use std::alloc::Global;
 use std::thread::Threads;
 use tile_workers::{Crew, Gate};
+use undo_shelf::History;
 
 impl Session {
     /// Loads the first grid, whose extent and header texts the session keeps. Its name is plain.
@@ -62,10 +63,12 @@ impl Session {
     {
         let Grid { header, layer } = grid;
         let engine = Engine::new(crew.alloc, layer.extent());
+        let history = History::new(crew.alloc)?;
         let mut session = Session {
             header,
             place: FIRST_PLACE,
             engine,
+            history,
         };
         let reply = session.load_layer(crew, name, layer, tally)?;
         match reply.kind {
@@ -121,7 +124,10 @@ impl Session {
             layer,
         };
         match self.engine.edit_by(crew, edit, tally) {
-            Ok(accepted) => Ok(room.filled(accepted)),
+            Ok(accepted) => {
+                self.history.clear();
+                Ok(room.filled(accepted))
+            }
             Err(refusal) => {
                 let cause = edit_cause(crew.alloc, &refusal)?;
                 Reply::load_refused(crew.alloc, &name, &cause)

@@ -9,6 +9,7 @@ use layer_tiles::{Extent, Text};
 use live_engine::Engine;
 use map_nums::NoMemory;
 use std::alloc::Global;
+use undo_shelf::History;
 
 impl Session {
     /// A session over a map without names, for the sample of so many rows and columns.
@@ -19,10 +20,12 @@ impl Session {
     {
         let header = sample_header(alloc)?;
         let engine = Engine::new(alloc, square(side));
+        let history = History::new(alloc)?;
         Ok(Session {
             header,
             place: FIRST_PLACE,
             engine,
+            history,
         })
     }
 }

@@ -8,10 +8,10 @@ ghost use Rattle.map_edits.specs.GroupLaws.{IsLawful};
 ghost use Rattle.map_edits.specs.Allowances.{edit_reads};
 ghost use Rattle.map_edits.specs.Counted.{accept_counted};
 ghost use Rattle.map_edits.specs.LineEdits.{line_edit};
-ghost use Rattle.map_machine.specs.LineReads.{line_reads};
+ghost use Rattle.map_machine.specs.LineReads.{line_reads, undo_reads};
 ghost use Rattle.map_machine.specs.Answers.{answer_to};
 ghost use Rattle.map_session.specs.Asked.{ReadsFor};
-ghost use Rattle.map_machine.specs.Steps.{edited, later};
+ghost use Rattle.map_machine.specs.Steps.{edited, later, undone};
 
 use crate::answers::Asked;
 use crate::causes::{edit_cause, line_cause};
@@ -28,6 +28,7 @@ use std::alloc::Global;
 use std::marker::Model;
 use std::thread::Threads;
 use tile_workers::{Crew, Gate};
+use undo_shelf::{History, UndoRefusal};
 
 /// A session, seen as a state of the machine.
 #[derive(Drop)]
@@ -35,14 +36,19 @@ pub struct Session {
     pub(crate) header: Header,
     pub(crate) place: Place,
     pub(crate) engine: Engine,
+    pub(crate) history: History,
 }
 
 impl Model for Session {
+    ghost use Rattle.map_edits.specs.Pasts.{parts_of};
     ghost use Rattle.map_machine.specs.States.{MapState};
+    ghost use Rattle.undo_shelf.specs.Histories.{AreChained, pasts_from};
 
     ghost Value = { MapState };
 
-    ghost view = { λ s. record { header = s.header; place = s.place; whole = s.engine } };
+    ghost view = { λ s. record { header = s.header; place = s.place; whole = s.engine; pasts = pasts_from (parts_of s.engine) s.history } };
+
+    ghost invariant = { λ s. AreChained s.engine.names.size (parts_of s.engine) s.history };
 }
 
 /// How a session began.
@@ -95,6 +101,7 @@ impl Session {
         match parse_line(alloc, line, self.place) {
             Ok(Line::Blank) => Ok(Reply::empty(alloc, Kind::Silent)),
             Ok(Line::Edit(edit)) => self.edit(&crew, edit, tally),
+            Ok(Line::Undo) => self.undo(&crew, tally),
             Ok(Line::Ask(request)) => self.answer(alloc, &request, tally),
             Ok(Line::Model(language)) => {
                 self.place = later(language);
@@ -117,11 +124,14 @@ impl Session {
     ) -> Result<Reply, NoMemory>
         requires formed { IsEdit (edit_view edit) }
         requires whole { 1 < crew.now.workers → IsUndivided (M.counts tally.old) }
-        ensures does { Does self.old self.new (edited self.old (accept_counted self.old.whole (line_edit (edit_view edit)))) result }
+        ensures does { Does self.old self.new (edited self.old (line_edit (edit_view edit)) (accept_counted self.old.whole (line_edit (edit_view edit)))) result }
         ensures reads { RisesBy (edit_reads self.old.whole (line_edit (edit_view edit))).looks (edit_reads self.old.whole (line_edit (edit_view edit))).picks (M.counts tally.old) (M.counts tally.new) }
     {
         let room = ReplyRoom::new(crew.alloc)?;
-        match self.engine.edit_by(crew, Edit::Line(edit), tally) {
+        match self
+            .history
+            .apply(&mut self.engine, crew, Edit::Line(edit), tally)
+        {
             Ok(accepted) => {
                 self.place = later(self.place.language);
                 Ok(room.filled(accepted))
@@ -130,6 +140,24 @@ impl Session {
                 let cause = edit_cause(crew.alloc, &refusal)?;
                 Reply::refused(crew.alloc, &cause)
             }
+        }
+    }
+
+    // The reply has its room before the edit is taken back.
+    fn undo<M: Tally + Send, G: Gate + Sync, R: Threads + Sync>(
+        &mut self,
+        crew: &Crew<'_, R, G>,
+        tally: &mut M,
+    ) -> Result<Reply, NoMemory>
+        requires whole { 1 < crew.now.workers → IsUndivided (M.counts tally.old) }
+        ensures does { Does self.old self.new (undone self.old self.old.pasts) result }
+        ensures reads { RisesBy (undo_reads self.old self.old.pasts).looks (undo_reads self.old self.old.pasts).picks (M.counts tally.old) (M.counts tally.new) }
+    {
+        let room = ReplyRoom::new(crew.alloc)?;
+        match self.history.undo(&mut self.engine, crew, tally) {
+            Ok(accepted) => Ok(room.filled(accepted)),
+            Err(UndoRefusal::Nothing) => Reply::refused(crew.alloc, b"nothing"),
+            Err(UndoRefusal::NoMemory) => Err(NoMemory),
         }
     }
 

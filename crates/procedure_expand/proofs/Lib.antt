@@ -2,4 +2,5 @@ pub mod Giving
 pub mod Putting
 pub mod Plain
 pub mod Checks
+pub mod Fewer
 pub mod WorkedBodies

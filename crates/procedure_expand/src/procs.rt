@@ -1,6 +1,7 @@
 //! Procedures in order of definition.
 
-ghost use Rattle.std.specs.Prelude.{◌≡◌, ◌<◌, ◌≤◌, ◌++◌, ◌∷◌, [], length, IfOk, OnOk, OnErr, Ok, None, option_copied, option_map, slice_get};
+ghost use Rattle.std.specs.Prelude.{◌≡◌, ◌<◌, ◌≤◌, ◌++◌, ◌∷◌, [], length, IfOk, OnOk, OnErr, Ok, None, List, option_copied, option_map, slice_get};
+ghost use Rattle.map_defs.specs.Statements.{Procedure as Meant};
 ghost use Rattle.map_defs.specs.Expansion.{find_procedure, expansion_of, both_flats};
 ghost use Rattle.map_defs.specs.Calls.{wrong_call, wrong_in};
 ghost use Rattle.statement_parser.specs.Views.{written_view};
@@ -113,6 +114,14 @@ impl Procs {
     {
         self.list.push(procedure)?;
         Ok(())
+    }
+
+    /// Takes the last procedure away, without memory.
+    pub fn drop_last(&mut self)
+        requires { 0 < length self.old }
+        ensures { (ps : List Meant) (p : Meant) → self.old ≡ ps ++ p ∷ [] → self.new ≡ ps }
+    {
+        self.list.pop();
     }
 }
 

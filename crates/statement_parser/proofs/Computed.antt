@@ -17,7 +17,7 @@ use Rattle.statement_parser.specs.ReadParts.{term_after_at, further_at, optional
 use Rattle.statement_parser.specs.ReadLine.{define_at, line_at, quit_at}
 use Rattle.statement_parser.specs.ReadProcedures.{names_at, parameters_at, inner_at, result_at, named_inner_at, statements_at, procedure_at}
 use Rattle.statement_parser.specs.ReadLabels.{bytes_at, label_at, symbol_at}
-use Rattle.statement_parser.specs.ReadCommands.{corners_at, paint_at, new_at, drop_at, value_at, any_line_at, table_at, model_at, list_at}
+use Rattle.statement_parser.specs.ReadCommands.{corners_at, paint_at, new_at, drop_at, value_at, any_line_at, table_at, undo_at, model_at, list_at}
 use Rattle.statement_parser.specs.Texts.{seen, is_short, LineText, silent, worded, refusal_of, RefusedText, bad_byte, bad_word}
 use Rattle.statement_parser.specs.Columns.{column}
 use Rattle.statement_parser.specs.Worked.{first_rows, all_rows, WorkedProcedures, WorkedLanguages, Worked}
@@ -31,7 +31,7 @@ refused_row : (m : Manner) (bytes : Text) (f : Fault) → is_short bytes ≡ tru
 refused_row m bytes f s e g h = bad_word f.kind f.left s e g (refused_so (tests m) (line_rule m) (seen bytes) f (healthy_line m).sound refl (sym (line_reads m (seen bytes)) ∙ h))
 
 procedure_rows : WorkedProcedures
-unfolding line_at names_at parameters_at inner_at result_at named_inner_at statements_at procedure_at bytes_at label_at symbol_at define_at corners_at paint_at new_at drop_at value_at any_line_at table_at model_at list_at quit_at term_after_at further_at optional_at nulls_at ignoring_at statistic_at pair_at difference_at ratio_at range_at rate_at with_at rating_at radius_at sight_at reaching_at focal_at friction_at spread_at given_at call_at plain_at body_at operation_named find_operation command_named find_command is_plain is_dotted is_reserved is_among number_text
+unfolding line_at names_at parameters_at inner_at result_at named_inner_at statements_at procedure_at bytes_at label_at symbol_at define_at corners_at paint_at new_at drop_at undo_at value_at any_line_at table_at model_at list_at quit_at term_after_at further_at optional_at nulls_at ignoring_at statistic_at pair_at difference_at ratio_at range_at rate_at with_at rating_at radius_at sight_at reaching_at focal_at friction_at spread_at given_at call_at plain_at body_at operation_named find_operation command_named find_command is_plain is_dotted is_reserved is_among number_text
 procedure_rows = record {
   made = line_row all_rows (codes "procedure Twice(P, K): x = LocalSum of P and K; result = LocalProduct of x and 2") _ refl refl refl refl;
   no_result = refused_row all_rows (codes "procedure Q(P): x = LocalSum of P and 1") (record { kind = Syntax; left = 0 }) refl refl refl refl;
@@ -43,7 +43,7 @@ procedure_rows = record {
 }
 
 language_rows : WorkedLanguages
-unfolding line_at names_at parameters_at inner_at result_at named_inner_at statements_at procedure_at bytes_at label_at symbol_at define_at corners_at paint_at new_at drop_at value_at any_line_at table_at model_at list_at quit_at term_after_at further_at optional_at nulls_at ignoring_at statistic_at pair_at difference_at ratio_at range_at rate_at with_at rating_at radius_at sight_at reaching_at focal_at friction_at spread_at given_at call_at plain_at body_at operation_named find_operation command_named find_command is_plain is_dotted is_reserved is_among number_text
+unfolding line_at names_at parameters_at inner_at result_at named_inner_at statements_at procedure_at bytes_at label_at symbol_at define_at corners_at paint_at new_at drop_at undo_at value_at any_line_at table_at model_at list_at quit_at term_after_at further_at optional_at nulls_at ignoring_at statistic_at pair_at difference_at ratio_at range_at rate_at with_at rating_at radius_at sight_at reaching_at focal_at friction_at spread_at given_at call_at plain_at body_at operation_named find_operation command_named find_command is_plain is_dotted is_reserved is_among number_text
 language_rows = record {
   ignoring = line_row all_rows (codes "C = LocalSum of A and B ignoring nulls") _ refl refl refl refl;
   not_ignoring = refused_row first_rows (codes "C = LocalSum of A and B ignoring nulls") _ refl refl refl refl;
@@ -59,7 +59,7 @@ language_rows = record {
 }
 
 pub rows : Worked
-unfolding line_at names_at parameters_at inner_at result_at named_inner_at statements_at procedure_at bytes_at label_at symbol_at define_at corners_at paint_at new_at drop_at value_at any_line_at table_at model_at list_at quit_at term_after_at further_at optional_at nulls_at ignoring_at statistic_at pair_at difference_at ratio_at range_at rate_at with_at rating_at radius_at sight_at reaching_at focal_at friction_at spread_at given_at call_at plain_at body_at operation_named find_operation command_named find_command is_plain is_dotted is_reserved is_among number_text
+unfolding line_at names_at parameters_at inner_at result_at named_inner_at statements_at procedure_at bytes_at label_at symbol_at define_at corners_at paint_at new_at drop_at undo_at value_at any_line_at table_at model_at list_at quit_at term_after_at further_at optional_at nulls_at ignoring_at statistic_at pair_at difference_at ratio_at range_at rate_at with_at rating_at radius_at sight_at reaching_at focal_at friction_at spread_at given_at call_at plain_at body_at operation_named find_operation command_named find_command is_plain is_dotted is_reserved is_among number_text
 rows = record {
   empty = silent refl refl;
   note = silent refl refl;
@@ -93,6 +93,10 @@ rows = record {
   tabled = line_row all_rows (codes "table A.b C") _ refl refl refl refl;
   labelled = line_row all_rows (codes "label A 5=x  y ") _ refl refl refl refl;
   signed = line_row all_rows (codes "symbol A -1; ") _ refl refl refl refl;
+  undone = line_row all_rows (codes " undo ") _ refl refl refl refl;
+  undo_and_more = refused_row all_rows (codes "undo x") _ refl refl refl refl;
+  undo_as_name = refused_row all_rows (codes "undo = LocalSum of A and 1") _ refl refl refl refl;
+  undo_not_yet = refused_row first_rows (codes "undo") _ refl refl refl refl;
   joined_label = refused_row all_rows (codes "label A 5x") _ refl refl refl refl;
   no_text = refused_row all_rows (codes "label A 5 ") _ refl refl refl refl;
   longest_label = refused_row all_rows (codes "label A 5 0123456789012345678901234567890123456789012345678901234567890123 4") _ refl refl refl refl;

@@ -15,7 +15,7 @@ use Rattle.grammar_core.proofs.Ends.{AllEnds, each_end, ends_on, ends_next, ends
 use Rattle.map_defs.specs.Ops.{Term, layer_term, number_term, terms_of, Op, local_op, difference_op, ratio_op, rating_op, focal_op, zonal_op, form_op, direction_op, flow_op, spread_op, sight_op, region_op}
 use Rattle.map_defs.specs.Sight.{Sighting}
 use Rattle.map_defs.specs.Statements.{Written, plain, call, Inner}
-use Rattle.statement_parser.specs.Lines.{Manner, define, paint, new_layer, drop, put_label, put_symbol, ask_value, ask_grid, ask_show, ask_legend, ask_table, ask_stamps, ask_list, Line, edit, ask, model, quit}
+use Rattle.statement_parser.specs.Lines.{Manner, define, paint, new_layer, drop, put_label, put_symbol, ask_value, ask_grid, ask_show, ask_legend, ask_table, ask_stamps, ask_list, Line, edit, undo, ask, model, quit}
 use Rattle.statement_parser.specs.Forms.{form_of, form_row}
 use Rattle.statement_parser.specs.Scopes.{Scope, anywhere, has_name, names_before}
 use Rattle.statement_parser.specs.ProcedureRules.{fresh_of, further_names, inner_part, result_rule, statements_rule, procedure_line, procedure_rule}
@@ -38,7 +38,7 @@ use Rattle.statement_parser.specs.declared.op.Form.TheVariants.{Linkage, Length,
 use Rattle.statement_parser.specs.declared.operation.Operation.{Operation}
 use Rattle.statement_parser.specs.declared.operation.Operation.TheVariants.{Local, Difference, Ratio, Rating, Focal, Proximity, Insularity, Zonal, Incremental, Drainage}
 use Rattle.statement_parser.specs.declared.command.Command.{Command}
-use Rattle.statement_parser.specs.declared.command.Command.TheVariants.{Model, Procedure, Paint, New, Drop, Label, Symbol, Value, Grid, Show, Legend, Table, Stamps, List as Listing, Quit}
+use Rattle.statement_parser.specs.declared.command.Command.TheVariants.{Model, Procedure, Paint, New, Drop, Label, Symbol, Undo, Value, Grid, Show, Legend, Table, Stamps, List as Listing, Quit}
 
 -- ---- what a place gives
 
@@ -151,7 +151,7 @@ abbrev IsAnyCommand : Command → Type 0
 IsAnyCommand c = Unit {0}
 
 all_commands : Each IsAnyCommand commands
-all_commands = (tt, (tt, (tt, (tt, (tt, (tt, (tt, (tt, (tt, (tt, (tt, (tt, (tt, (tt, (tt, tt)))))))))))))))
+all_commands = (tt, (tt, (tt, (tt, (tt, (tt, (tt, (tt, (tt, (tt, (tt, (tt, (tt, (tt, (tt, (tt, tt))))))))))))))))
 
 -- a command that is named has the word, and is in the table
 pub command_word : (m : Manner) (w : Text) (c : Command) → command_named m w ≡ Some c → (command_text c ≡ w) × (find_command w ≡ Some c)
@@ -432,6 +432,7 @@ module _ (m : Manner) where
   command_formed Drop t = then_name _ (λ n p. done (edit (drop n)) (p, t))
   command_formed Label t = then_name _ (λ n p. then_value _ (λ z q. text_ends IsGood (λ t. edit (put_label n z t)) (λ x r. ((p, q, r), t))))
   command_formed Symbol t = then_name _ (λ n p. then_value _ (λ z q. sign_ends IsGood (λ b. edit (put_symbol n z b)) (λ b r. ((p, q, r), t))))
+  command_formed Undo t = done undo (tt, t)
   command_formed Value t = then_any _ (λ n p. then_side _ (λ r a. then_side _ (λ c b. done (ask (ask_value n r c)) ((p, a, b), t))))
   command_formed Grid t = then_any _ (λ n p. done (ask (ask_grid n)) (p, t))
   command_formed Show t = then_any _ (λ n p. done (ask (ask_show n)) (p, t))

@@ -16,11 +16,11 @@ use Rattle.statement_parser.specs.There.{HasCommand}
 use Rattle.statement_parser.specs.Texts.{seen, is_short, Refusal, long}
 use Rattle.statement_parser.specs.LineOf.{of_words, of_bytes, line_of}
 use Rattle.statement_parser.specs.ReadLine.{define_at, command_at, statement_at, started_at, line_at}
-use Rattle.statement_parser.specs.ReadCommands.{corners_at, paint_at, new_at, drop_at, value_at, any_line_at, table_at, model_at, list_at}
+use Rattle.statement_parser.specs.ReadCommands.{corners_at, paint_at, new_at, drop_at, value_at, any_line_at, table_at, undo_at, model_at, list_at}
 use Rattle.statement_parser.specs.ReadLabels.{bytes_at, label_at, symbol_at}
 use Rattle.statement_parser.specs.ReadProcedures.{parameters_at, statements_at, procedure_at}
 use Rattle.statement_parser.specs.declared.command.Command.{Command}
-use Rattle.statement_parser.specs.declared.command.Command.TheVariants.{Model, Procedure, Paint, New, Drop, Label, Symbol, Value, Grid, Show, Legend, Table, Stamps, List as Listing, Quit}
+use Rattle.statement_parser.specs.declared.command.Command.TheVariants.{Model, Procedure, Paint, New, Drop, Label, Symbol, Undo, Value, Grid, Show, Legend, Table, Stamps, List as Listing, Quit}
 use Rattle.statement_parser.proofs.FormedLines.{command_word}
 use Rattle.statement_parser.proofs.ReadsLines.{line_reads}
 
@@ -51,7 +51,7 @@ statement_on m (Some n) ws = define_on m n ws
 
 -- of all commands one ends the session
 quit_or_on : (c : Command) → (c ≡ Quit) ⊎ ((m : Manner) (ws : List Text) → GoesOn (command_at m c ws))
-unfolding procedure_at paint_at new_at drop_at label_at symbol_at value_at table_at model_at list_at
+unfolding procedure_at paint_at new_at drop_at label_at symbol_at undo_at value_at table_at model_at list_at
 quit_or_on Model = inr (λ m ws. then_on (one_at reading version_of true ws) _ (λ l. then_on (end_at l.1) _ (λ e. record { on = tt })))
 quit_or_on Procedure = inr (λ m ws. then_on (one_at reading name_of false ws) _ (λ p. then_on (parameters_at p.1) _ (λ ps. then_on (statements_at m ps.0 15 [] ps.1) _ (λ is. record { on = tt }))))
 quit_or_on Paint = inr (λ m ws. then_on (one_at reading name_of false ws) _ (λ n. then_on (corners_at n.1) _ (λ k. then_on (one_at reading cell_of true k.1) _ (λ v. then_on (end_at v.1) _ (λ e. record { on = tt })))))
@@ -63,6 +63,7 @@ quit_or_on Label = inr (λ m ws.
 quit_or_on Symbol = inr (λ m ws.
     then_on (one_at reading name_of false ws) _ (λ n. then_on (one_at reading value_of true n.1) _ (λ z. then_on (one_at reading sign_of false z.1) _ (λ b.
     then_on (end_at b.1) _ (λ e. record { on = tt })))))
+quit_or_on Undo = inr (λ m ws. then_on (end_at ws) _ (λ e. record { on = tt }))
 quit_or_on Value = inr (λ m ws. then_on (one_at reading any_of false ws) _ (λ n. then_on (one_at reading side_of true n.1) _ (λ r. then_on (one_at reading side_of true r.1) _ (λ c. then_on (end_at c.1) _ (λ e. record { on = tt })))))
 quit_or_on Grid = inr (λ m. named_on (λ n. ask (ask_grid n)) (λ n. record { on = tt }))
 quit_or_on Show = inr (λ m. named_on (λ n. ask (ask_show n)) (λ n. record { on = tt }))

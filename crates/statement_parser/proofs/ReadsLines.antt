@@ -7,16 +7,16 @@ use Rattle.grammar_core.specs.Run.{run, is_node}
 use Rattle.grammar_core.specs.Readers.{◌>>=◌, one_at, end_at}
 use Rattle.grammar_core.proofs.Reading.{end_reads, ends_tail, or_else, or_refused, start_place}
 use Rattle.map_defs.specs.Statements.{Written}
-use Rattle.statement_parser.specs.Lines.{Manner, define, paint, new_layer, drop, ask_value, ask_grid, ask_show, ask_legend, ask_table, ask_stamps, ask_list, Line, blank, edit, ask, model, quit}
+use Rattle.statement_parser.specs.Lines.{Manner, define, paint, new_layer, drop, ask_value, ask_grid, ask_show, ask_legend, ask_table, ask_stamps, ask_list, Line, blank, edit, undo, ask, model, quit}
 use Rattle.statement_parser.specs.Scopes.{anywhere}
 use Rattle.statement_parser.specs.Places.{the, name_of, any_of, side_of, cell_of, version_of, tests, reading}
 use Rattle.statement_parser.specs.Commands.{command_named}
 use Rattle.statement_parser.specs.Grammar.{define_rule, paint_rule, new_rule, drop_rule, value_rule, any_rule, table_rule, model_rule, command_rule, line_rule}
 use Rattle.statement_parser.specs.ReadBodies.{body_at}
 use Rattle.statement_parser.specs.ReadLine.{define_at, command_at, statement_at, started_at, line_at, quit_at}
-use Rattle.statement_parser.specs.ReadCommands.{corners_at, paint_at, new_at, drop_at, value_at, any_line_at, table_at, model_at, list_at}
+use Rattle.statement_parser.specs.ReadCommands.{corners_at, paint_at, new_at, drop_at, value_at, any_line_at, table_at, undo_at, model_at, list_at}
 use Rattle.statement_parser.specs.declared.command.Command.{Command}
-use Rattle.statement_parser.specs.declared.command.Command.TheVariants.{Model, Procedure, Paint, New, Drop, Label, Symbol, Value, Grid, Show, Legend, Table, Stamps, List as Listing, Quit}
+use Rattle.statement_parser.specs.declared.command.Command.TheVariants.{Model, Procedure, Paint, New, Drop, Label, Symbol, Undo, Value, Grid, Show, Legend, Table, Stamps, List as Listing, Quit}
 use Rattle.statement_parser.proofs.PlaceFacts.{the_place, name_place, any_place, side_place, cell_place, version_place, command_place}
 use Rattle.statement_parser.proofs.ProcedureReads.{procedure_reads}
 use Rattle.statement_parser.proofs.LabelRules.{label_reads, symbol_reads}
@@ -51,6 +51,10 @@ module _ (m : Manner) where
   drop_reads : (ws : List Text) → drop_at ws ≡ run (tests m) drop_rule ws
   unfolding drop_at
   drop_reads = placed m name_of false (λ n us. end_at us >>= λ e. Ok (edit (drop n))) (λ n. ends (edit (drop n))) (name_place m) (λ n. refl) (λ n. end_reads (tests m) (edit (drop n)))
+
+  undo_reads : (ws : List Text) → undo_at ws ≡ run (tests m) (ends undo) ws
+  unfolding undo_at
+  undo_reads = end_reads (tests m) undo
 
   value_reads : (ws : List Text) → value_at ws ≡ run (tests m) value_rule ws
   unfolding value_at
@@ -89,6 +93,7 @@ module _ (m : Manner) where
   command_reads Drop = drop_reads
   command_reads Label = label_reads m
   command_reads Symbol = symbol_reads m
+  command_reads Undo = undo_reads
   command_reads Value = value_reads
   command_reads Grid = any_reads (λ n. ask (ask_grid n))
   command_reads Show = any_reads (λ n. ask (ask_show n))
@@ -106,6 +111,7 @@ module _ (m : Manner) where
   command_node Drop = refl
   command_node Label = refl
   command_node Symbol = refl
+  command_node Undo = refl
   command_node Value = refl
   command_node Grid = refl
   command_node Show = refl

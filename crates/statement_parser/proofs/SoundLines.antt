@@ -4,13 +4,13 @@ use Rattle.std.specs.Prelude.{codes}
 use Rattle.map_words.specs.Bytes.{Text}
 use Rattle.grammar_core.specs.Rules.{Rule, on, next, ends, ◌<|>◌}
 use Rattle.grammar_core.proofs.Parts.{Healthy, NoBody, healthy_next, healthy_end, healthy_ends, all_on, all_or, tail_ends}
-use Rattle.statement_parser.specs.Lines.{Manner, define, paint, new_layer, drop, ask_value, ask_grid, ask_show, ask_legend, ask_table, ask_stamps, ask_list, Line, blank, edit, ask, model, quit}
+use Rattle.statement_parser.specs.Lines.{Manner, define, paint, new_layer, drop, ask_value, ask_grid, ask_show, ask_legend, ask_table, ask_stamps, ask_list, Line, blank, edit, undo, ask, model, quit}
 use Rattle.statement_parser.specs.Scopes.{anywhere}
 use Rattle.statement_parser.specs.Places.{name_of, any_of, side_of, version_of, tests}
 use Rattle.statement_parser.specs.Commands.{command_named}
 use Rattle.statement_parser.specs.Grammar.{define_rule, command_rule, line_rule}
 use Rattle.statement_parser.specs.declared.command.Command.{Command}
-use Rattle.statement_parser.specs.declared.command.Command.TheVariants.{Model, Procedure, Paint, New, Drop, Label, Symbol, Value, Grid, Show, Legend, Table, Stamps, List as Listing, Quit}
+use Rattle.statement_parser.specs.declared.command.Command.TheVariants.{Model, Procedure, Paint, New, Drop, Label, Symbol, Undo, Value, Grid, Show, Legend, Table, Stamps, List as Listing, Quit}
 use Rattle.statement_parser.proofs.ProcedureSound.{healthy_procedure}
 use Rattle.statement_parser.proofs.LabelRules.{healthy_label, healthy_symbol}
 use Rattle.statement_parser.proofs.PlaceFacts.{name_takes, name_place, any_takes, any_place, side_takes, side_place, version_takes, version_place, command_place}
@@ -37,6 +37,7 @@ module _ (m : Manner) where
   healthy_command Drop = healthy_name _ (λ n. healthy_ends (tests m) (edit (drop n)))
   healthy_command Label = healthy_label m
   healthy_command Symbol = healthy_symbol m
+  healthy_command Undo = healthy_ends (tests m) undo
   healthy_command Value = healthy_any _ (λ n. healthy_side _ (λ r. healthy_side _ (λ c. healthy_ends (tests m) (ask (ask_value n r c)))))
   healthy_command Grid = healthy_any _ (λ n. healthy_ends (tests m) (ask (ask_grid n)))
   healthy_command Show = healthy_any _ (λ n. healthy_ends (tests m) (ask (ask_show n)))

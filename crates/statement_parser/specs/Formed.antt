@@ -12,7 +12,7 @@ use Rattle.map_defs.specs.Ops.{Term, layer_term, number_term, terms_of, Op, loca
 use Rattle.map_defs.specs.Statements.{Written, plain, call, Inner, Procedure}
 use Rattle.statement_parser.specs.Signs.{is_sign}
 use Rattle.statement_parser.specs.Scopes.{Scope, has_name, names_before}
-use Rattle.statement_parser.specs.Lines.{Edit, define, paint, new_layer, drop, define_procedure, put_label, put_symbol, Request, ask_value, ask_grid, ask_show, ask_legend, ask_table, ask_stamps, ask_list, Line, blank, edit, ask, model, quit}
+use Rattle.statement_parser.specs.Lines.{Edit, define, paint, new_layer, drop, define_procedure, put_label, put_symbol, Request, ask_value, ask_grid, ask_show, ask_legend, ask_table, ask_stamps, ask_list, Line, blank, edit, undo, ask, model, quit}
 
 abbrev pub Each : {A : Type 0} → (A → Type 0) → List A → Type 0
 Each P [] = Unit {0}
@@ -137,6 +137,7 @@ IsRequest ask_list = Unit {0}
 abbrev pub IsFormed : Line → Type 0
 IsFormed blank = Unit {0}
 IsFormed (edit e) = IsEdit e
+IsFormed undo = Unit {0}
 IsFormed (ask r) = IsRequest r
 IsFormed (model l) = Unit {0}
 IsFormed quit = Unit {0}

@@ -2,7 +2,7 @@
 use Rattle.std.specs.Prelude.{List, Some, codes}
 use Rattle.map_words.specs.Bytes.{Text}
 use Rattle.grammar_core.specs.Rules.{Rule, Derives, node, ends, on, next, ◌<|>◌}
-use Rattle.statement_parser.specs.Lines.{Manner, define, paint, new_layer, drop, ask_value, ask_grid, ask_show, ask_legend, ask_table, ask_stamps, ask_list, Line, blank, edit, ask, model, quit}
+use Rattle.statement_parser.specs.Lines.{Manner, define, paint, new_layer, drop, ask_value, ask_grid, ask_show, ask_legend, ask_table, ask_stamps, ask_list, Line, blank, edit, undo, ask, model, quit}
 use Rattle.statement_parser.specs.Scopes.{anywhere}
 use Rattle.statement_parser.specs.Commands.{command_named}
 use Rattle.statement_parser.specs.Places.{the, name_of, any_of, side_of, cell_of, version_of}
@@ -10,7 +10,7 @@ use Rattle.statement_parser.specs.Bodies.{body_rule}
 use Rattle.statement_parser.specs.Labels.{label_rule, symbol_rule}
 use Rattle.statement_parser.specs.ProcedureRules.{procedure_rule}
 use Rattle.statement_parser.specs.declared.command.Command.{Command}
-use Rattle.statement_parser.specs.declared.command.Command.TheVariants.{Model, Procedure, Paint, New, Drop, Label, Symbol, Value, Grid, Show, Legend, Table, Stamps, List as Listing, Quit}
+use Rattle.statement_parser.specs.declared.command.Command.TheVariants.{Model, Procedure, Paint, New, Drop, Label, Symbol, Undo, Value, Grid, Show, Legend, Table, Stamps, List as Listing, Quit}
 
 -- after its name: "=" body
 abbrev pub define_rule : Manner → Text → Rule Text Line
@@ -55,6 +55,7 @@ command_rule m New = new_rule
 command_rule m Drop = drop_rule
 command_rule m Label = label_rule
 command_rule m Symbol = symbol_rule
+command_rule m Undo = ends undo
 command_rule m Value = value_rule
 command_rule m Grid = any_rule (λ n. ask (ask_grid n))
 command_rule m Show = any_rule (λ n. ask (ask_show n))

@@ -46,6 +46,8 @@ pub data Request : Type 0 where
 pub data Line : Type 0 where
   blank : Line
   edit : Edit → Line
+  -- the newest edit that isn't taken back yet is taken back
+  undo : Line
   ask : Request → Line
   -- the language of the lines after it
   model : Language → Line

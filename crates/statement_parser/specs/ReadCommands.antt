@@ -3,7 +3,7 @@ use Rattle.std.specs.Prelude.{ℕ, true, false, List, Result, Ok}
 use Rattle.map_words.specs.Bytes.{Text}
 use Rattle.grammar_core.specs.declared.Fault.{Fault}
 use Rattle.grammar_core.specs.Readers.{◌>>=◌, Read, one_at, end_at}
-use Rattle.statement_parser.specs.Lines.{Line, paint, new_layer, drop, ask_value, ask_table, ask_list, edit, ask, model}
+use Rattle.statement_parser.specs.Lines.{Line, paint, new_layer, drop, ask_value, ask_table, ask_list, edit, undo, ask, model}
 use Rattle.statement_parser.specs.Places.{name_of, any_of, side_of, cell_of, version_of, reading}
 
 -- the rows and columns of a rectangle
@@ -35,6 +35,11 @@ drop_at ws = do
   n ← one_at reading name_of false ws
   e ← end_at n.1
   Ok (edit (drop n.0))
+
+unfoldable pub undo_at : List Text → Result Line Fault
+undo_at ws = do
+  e ← end_at ws
+  Ok undo
 
 unfoldable pub value_at : List Text → Result Line Fault
 value_at ws = do

@@ -12,9 +12,9 @@ use Rattle.statement_parser.specs.Commands.{command_named}
 use Rattle.statement_parser.specs.ReadBodies.{body_at}
 use Rattle.statement_parser.specs.ReadLabels.{label_at, symbol_at}
 use Rattle.statement_parser.specs.ReadProcedures.{procedure_at}
-use Rattle.statement_parser.specs.ReadCommands.{paint_at, new_at, drop_at, value_at, any_line_at, table_at, model_at, list_at}
+use Rattle.statement_parser.specs.ReadCommands.{paint_at, new_at, drop_at, value_at, any_line_at, table_at, undo_at, model_at, list_at}
 use Rattle.statement_parser.specs.declared.command.Command.{Command}
-use Rattle.statement_parser.specs.declared.command.Command.TheVariants.{Model, Procedure, Paint, New, Drop, Label, Symbol, Value, Grid, Show, Legend, Table, Stamps, List as Listing, Quit}
+use Rattle.statement_parser.specs.declared.command.Command.TheVariants.{Model, Procedure, Paint, New, Drop, Label, Symbol, Undo, Value, Grid, Show, Legend, Table, Stamps, List as Listing, Quit}
 
 unfoldable pub define_at : Manner → Text → List Text → Result Line Fault
 define_at m n ws = do
@@ -36,6 +36,7 @@ command_at m New ws = new_at ws
 command_at m Drop ws = drop_at ws
 command_at m Label ws = label_at ws
 command_at m Symbol ws = symbol_at ws
+command_at m Undo ws = undo_at ws
 command_at m Value ws = value_at ws
 command_at m Grid ws = any_line_at (λ n. ask (ask_grid n)) ws
 command_at m Show ws = any_line_at (λ n. ask (ask_show n)) ws

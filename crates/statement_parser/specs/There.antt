@@ -3,7 +3,7 @@ use Rattle.std.specs.Prelude.{Bool, true, false, ◌∷◌, List, IsTrue}
 use Rattle.map_nums.specs.declared.Stat.TheVariants.{Sum}
 use Rattle.map_defs.specs.Ops.{Op, local_op, difference_op, ratio_op, rating_op, focal_op, zonal_op, form_op, direction_op, flow_op, spread_op, sight_op, region_op}
 use Rattle.map_defs.specs.Statements.{Written, plain, call, Inner}
-use Rattle.statement_parser.specs.Lines.{Manner, Edit, define, paint, new_layer, drop, define_procedure, put_label, put_symbol, Request, ask_value, ask_grid, ask_show, ask_legend, ask_table, ask_stamps, ask_list, Line, blank, edit, ask, model, quit}
+use Rattle.statement_parser.specs.Lines.{Manner, Edit, define, paint, new_layer, drop, define_procedure, put_label, put_symbol, Request, ask_value, ask_grid, ask_show, ask_legend, ask_table, ask_stamps, ask_list, Line, blank, edit, undo, ask, model, quit}
 use Rattle.statement_parser.specs.Formed.{Each}
 use Rattle.statement_parser.specs.Forms.{form_row}
 use Rattle.statement_parser.specs.Operations.{operation_text, has_row}
@@ -11,7 +11,7 @@ use Rattle.statement_parser.specs.Commands.{command_text, has_command}
 use Rattle.statement_parser.specs.declared.operation.Operation.{Operation}
 use Rattle.statement_parser.specs.declared.operation.Operation.TheVariants.{Local, Difference, Ratio, Rating, Focal, Proximity, Insularity, Zonal, Incremental, Drainage}
 use Rattle.statement_parser.specs.declared.command.Command.{Command}
-use Rattle.statement_parser.specs.declared.command.Command.TheVariants.{Model, Procedure, Paint, New, Drop, Label, Symbol, Value, Grid, Show, Legend, Table, Stamps, List as Listing, Quit}
+use Rattle.statement_parser.specs.declared.command.Command.TheVariants.{Model, Procedure, Paint, New, Drop, Label, Symbol, Undo, Value, Grid, Show, Legend, Table, Stamps, List as Listing, Quit}
 
 -- the operation's row is there
 abbrev pub HasRow : Manner → Operation → Type 0
@@ -69,6 +69,7 @@ IsRequestThere m ask_list = HasCommand m Listing
 abbrev pub IsThere : Manner → Line → Type 0
 IsThere m blank = Unit {0}
 IsThere m (edit e) = IsEditThere m e
+IsThere m undo = HasCommand m Undo
 IsThere m (ask r) = IsRequestThere m r
 IsThere m (model l) = HasCommand m Model
 IsThere m quit = HasCommand m Quit

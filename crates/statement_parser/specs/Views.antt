@@ -22,7 +22,7 @@ use Rattle.map_defs.specs.Statements as meant
 use Rattle.map_defs.specs.Statements.{Written, plain, call}
 use Rattle.statement_parser.specs.Forms.{form_of}
 use Rattle.statement_parser.specs.declared.rows.Rows.{Rows}
-use Rattle.statement_parser.specs.Lines.{Manner, Edit, define, paint, new_layer, drop, define_procedure, put_label, put_symbol, Request, ask_value, ask_grid, ask_show, ask_legend, ask_table, ask_stamps, ask_list, Line, blank, edit, ask, model, quit}
+use Rattle.statement_parser.specs.Lines.{Manner, Edit, define, paint, new_layer, drop, define_procedure, put_label, put_symbol, Request, ask_value, ask_grid, ask_show, ask_legend, ask_table, ask_stamps, ask_list, Line, blank, edit, undo, ask, model, quit}
 
 -- the texts of words
 abbrev pub texts_of : List Word → List Text
@@ -92,6 +92,7 @@ request_view a_request.List = ask_list
 abbrev pub line_view : lines.Line → Line
 line_view a_line.Blank = blank
 line_view (a_line.Edit e) = edit (edit_view e)
+line_view a_line.Undo = undo
 line_view (a_line.Ask r) = ask (request_view r)
 line_view (a_line.Model l) = model l
 line_view a_line.Quit = quit

@@ -4,7 +4,7 @@ use Rattle.map_nums.specs.declared.Stat.TheVariants as stats
 use Rattle.map_words.specs.Bytes.{Text}
 use Rattle.map_defs.specs.Ops.{layer_term, number_term, local_op, rating_op, focal_op, spread_op, sight_op}
 use Rattle.map_defs.specs.Statements.{plain, call}
-use Rattle.statement_parser.specs.Lines.{Manner, define, define_procedure, paint, new_layer, put_label, put_symbol, ask_grid, ask_table, Line, blank, edit, ask, model}
+use Rattle.statement_parser.specs.Lines.{Manner, define, define_procedure, paint, new_layer, put_label, put_symbol, ask_grid, ask_table, Line, blank, edit, undo, ask, model}
 use Rattle.statement_parser.specs.Operations.{operations}
 use Rattle.statement_parser.specs.Commands.{commands}
 use Rattle.statement_parser.specs.declared.operation.Operation.TheVariants.{Rating}
@@ -93,6 +93,10 @@ pub record Worked : Type 0 where
   pub tabled : IsOfAll (codes "table A.b C") (ask (ask_table (codes "A.b") (codes "C")))
   pub labelled : IsOfAll (codes "label A 5=x  y ") (edit (put_label (codes "A") (pos 5) (codes "=x  y")))
   pub signed : IsOfAll (codes "symbol A -1; ") (edit (put_symbol (codes "A") (negsuc 0) 59))
+  pub undone : IsOfAll (codes " undo ") undo
+  pub undo_and_more : IsRefusedOfAll (codes "undo x") (syntax 6)
+  pub undo_as_name : IsRefusedOfAll (codes "undo = LocalSum of A and 1") (syntax 6)
+  pub undo_not_yet : IsRefused (codes "undo") (syntax 1)
   pub joined_label : IsRefusedOfAll (codes "label A 5x") (syntax 9)
   pub no_text : IsRefusedOfAll (codes "label A 5 ") (syntax 11)
   pub longest_label : IsRefusedOfAll (codes "label A 5 0123456789012345678901234567890123456789012345678901234567890123 " ++ codes "4") (syntax 75)

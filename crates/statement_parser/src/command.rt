@@ -16,6 +16,7 @@ pub enum Command {
     Drop,
     Label,
     Symbol,
+    Undo,
     Value,
     Grid,
     Show,
@@ -27,7 +28,7 @@ pub enum Command {
 }
 
 /// All commands.
-const COMMANDS: [Command; 15] = [
+const COMMANDS: [Command; 16] = [
     Command::Model,
     Command::Procedure,
     Command::Paint,
@@ -35,6 +36,7 @@ const COMMANDS: [Command; 15] = [
     Command::Drop,
     Command::Label,
     Command::Symbol,
+    Command::Undo,
     Command::Value,
     Command::Grid,
     Command::Show,
@@ -57,6 +59,7 @@ fn command_word(command: Command) -> &'static [u8]
         Command::Drop => b"drop",
         Command::Label => b"label",
         Command::Symbol => b"symbol",
+        Command::Undo => b"undo",
         Command::Value => b"value",
         Command::Grid => b"grid",
         Command::Show => b"show",

@@ -73,6 +73,8 @@ pub enum Line {
     /// An empty line, a line of blanks, or a comment.
     Blank,
     Edit(LineEdit),
+    /// The newest edit that isn't taken back yet is taken back.
+    Undo,
     Ask(Request),
     /// The language of the lines after it.
     Model(Language),

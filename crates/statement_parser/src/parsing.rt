@@ -6,7 +6,7 @@ ghost use Rattle.statement_parser.specs.Gives.{Gives};
 ghost use Rattle.statement_parser.specs.Lines.{ask, ask_grid, ask_show, ask_legend, ask_stamps};
 ghost use Rattle.statement_parser.specs.Parsed.{IsWordsRead};
 ghost use Rattle.statement_parser.specs.ReadLine.{define_at, command_at, line_at, quit_at};
-ghost use Rattle.statement_parser.specs.ReadCommands.{corners_at, paint_at, new_at, drop_at, value_at, any_line_at, table_at, model_at, list_at};
+ghost use Rattle.statement_parser.specs.ReadCommands.{corners_at, paint_at, new_at, drop_at, value_at, any_line_at, table_at, undo_at, model_at, list_at};
 
 use crate::bodies::body;
 use crate::command::{Command, command_named};
@@ -93,6 +93,14 @@ fn drop_line(alloc: Global, words: &[Word<'_>]) -> Result<Line, ReadError>
     let (name, rest) = name(alloc, words)?;
     end(rest)?;
     Ok(Line::Edit(LineEdit::Drop { name }))
+}
+
+#[tactic(auto, unfolding(crate::specs::ReadCommands::undo_at))]
+fn undo(words: &[Word<'_>]) -> Result<Line, ReadError>
+    ensures { Gives line_view result (undo_at (texts_of words.now)) }
+{
+    end(words)?;
+    Ok(Line::Undo)
 }
 
 #[tactic(auto, unfolding(crate::specs::ReadCommands::value_at))]
@@ -194,6 +202,7 @@ fn commanded(
         Command::Drop => drop_line(alloc, words),
         Command::Label => label(alloc, words),
         Command::Symbol => symbol(alloc, words),
+        Command::Undo => undo(words),
         Command::Value => value(alloc, words),
         Command::Grid => grid(alloc, words),
         Command::Show => show(alloc, words),

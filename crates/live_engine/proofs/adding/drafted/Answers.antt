@@ -18,5 +18,5 @@ with_source-requires-clause-few c = graph_is_small c.args.map.now c.requires.kep
 
 pub returns-clause-drafted : goal.returns-clause-drafted
 returns-clause-drafted c = λ edit adding.
-    added_draft c.args.map.now c.requires.kept c.args.name c.in_ok-key.key c.requires.plain c.requires.new c.args.layer c.requires.layer c.extent-extent.ensures.layer c.in_ok-key.ensures
+    added_draft c.args.map.now c.requires.kept c.args.name c.in_ok-key.key c.requires.plain c.requires.new c.args.layer c.requires.size c.extent-extent.ensures.layer c.in_ok-key.ensures
     (subst (λ k. k < 32) c.sources.ensures c.if-sources-ge-MOST_SOURCES.false) c.in_ok-graph.graph c.in_ok-graph.ensures edit adding

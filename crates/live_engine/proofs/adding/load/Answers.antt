@@ -4,12 +4,13 @@ use Rattle.map_edits.specs.EditForms.{load}
 use Rattle.map_edits.specs.EntriesAfter.{same_size}
 use Rattle.map_edits.specs.Refusals.{exists_already, wrong_size}
 use Rattle.map_edits.specs.WholeEdits.{WholeEdit, of_names}
-use Rattle.layer_tiles.specs.Layers.{LayerState}
+use Rattle.map_edits.specs.WholeStates.{WholeState}
 use Rattle.kept_map.specs.Maps.{grid_of, seen}
-use Rattle.live_engine.specs.Accepts.{Accepts, ReadsWithin}
+use Rattle.live_engine.specs.Accepts.{ReadsWithin}
 use Rattle.live_engine.specs.Adding.{IsAdding}
 use Rattle.live_engine.specs.Drafts.{IsDrafted}
-use Rattle.live_engine.proofs.AddedStates.{load_exists, load_size, load_adding, size_refused}
+use Rattle.live_engine.specs.Inverses.{AcceptsBack}
+use Rattle.live_engine.proofs.AddedStates.{load_exists, load_size, load_adding, same_sized, size_refused}
 use Rattle.live_engine.proofs.Refusing.{accept_refused}
 use Rattle.live_engine.proofs.adding.load.Goals as goal
 
@@ -32,9 +33,8 @@ returns-clause-accepts g c =
     let own = load c.args.name (grid_of c.args.layer) in
     let size : same_size c.args.layer.size s.names.size ≡ true = ap (λ x. same_size x s.names.size) (sym c.extent.ensures.extent) ∙ sym c.same_size.ensures ∙ c.if-not-same_size.false in
     let here : IsAdding s own c.args.name (grid_of c.args.layer) = load_adding s c.args.name (grid_of c.args.layer) c.requires.plain (sym c.has.ensures ∙ c.if-has.false) size in
-    let adding : IsAdding r own c.args.name (grid_of c.restamp.new.self) =
-    subst (λ (l : LayerState). IsAdding r own c.args.name (grid_of l)) (sym c.restamp.ensures) (subst (λ q. IsAdding q own c.args.name (grid_of c.args.layer)) (sym c.reserve.ensures.seen) here) in
-    subst (λ q. Accepts q (seen c.carry_out.new.map) (of_names own) c.carry_out.result) c.reserve.ensures.seen (c.carry_out.ensures.accepts (of_names own) (c.drafted-drafted.ensures.drafted own adding))
+    let adding : IsAdding r own c.args.name (grid_of c.args.layer) = subst (λ (q : WholeState). IsAdding q own c.args.name (grid_of c.args.layer)) (sym c.reserve.ensures.seen) here in
+    subst (λ q. AcceptsBack q (seen c.carry_out.new.map) (of_names own) c.carry_out.result) c.reserve.ensures.seen (c.carry_out.ensures.accepts (of_names own) (c.drafted-drafted.ensures.drafted own adding))
 
 pub returns-clause-reads : goal.returns-clause-reads
 returns-clause-reads g c =
@@ -43,8 +43,7 @@ returns-clause-reads g c =
     let own = load c.args.name (grid_of c.args.layer) in
     let size : same_size c.args.layer.size s.names.size ≡ true = ap (λ x. same_size x s.names.size) (sym c.extent.ensures.extent) ∙ sym c.same_size.ensures ∙ c.if-not-same_size.false in
     let here : IsAdding s own c.args.name (grid_of c.args.layer) = load_adding s c.args.name (grid_of c.args.layer) c.requires.plain (sym c.has.ensures ∙ c.if-has.false) size in
-    let adding : IsAdding r own c.args.name (grid_of c.restamp.new.self) =
-    subst (λ (l : LayerState). IsAdding r own c.args.name (grid_of l)) (sym c.restamp.ensures) (subst (λ q. IsAdding q own c.args.name (grid_of c.args.layer)) (sym c.reserve.ensures.seen) here) in
+    let adding : IsAdding r own c.args.name (grid_of c.args.layer) = subst (λ (q : WholeState). IsAdding q own c.args.name (grid_of c.args.layer)) (sym c.reserve.ensures.seen) here in
     subst (λ q. ReadsWithin q (of_names own) (g.M.Tally.counts c.args.tally.now) (g.M.Tally.counts c.carry_out.new.tally)) c.reserve.ensures.seen (c.carry_out.ensures.reads (of_names own) (c.drafted-drafted.ensures.drafted own adding))
 
 pub carry_out-requires-clause-drafted : goal.carry_out-requires-clause-drafted
@@ -54,7 +53,11 @@ carry_out-requires-clause-drafted g c =
     let own = load c.args.name (grid_of c.args.layer) in
     let size : same_size c.args.layer.size s.names.size ≡ true = ap (λ x. same_size x s.names.size) (sym c.extent.ensures.extent) ∙ sym c.same_size.ensures ∙ c.if-not-same_size.false in
     let here : IsAdding s own c.args.name (grid_of c.args.layer) = load_adding s c.args.name (grid_of c.args.layer) c.requires.plain (sym c.has.ensures ∙ c.if-has.false) size in
-    let adding : IsAdding r own c.args.name (grid_of c.restamp.new.self) =
-    subst (λ (l : LayerState). IsAdding r own c.args.name (grid_of l)) (sym c.restamp.ensures) (subst (λ q. IsAdding q own c.args.name (grid_of c.args.layer)) (sym c.reserve.ensures.seen) here) in
+    let adding : IsAdding r own c.args.name (grid_of c.args.layer) = subst (λ (q : WholeState). IsAdding q own c.args.name (grid_of c.args.layer)) (sym c.reserve.ensures.seen) here in
     let both : (e : WholeEdit) × IsDrafted c.reserve.new.self e c.drafted-drafted.result = (of_names own, c.drafted-drafted.ensures.drafted own adding) in
     λ κs within. both
+
+pub drafted-drafted-requires-clause-size : goal.drafted-drafted-requires-clause-size
+drafted-drafted-requires-clause-size g c =
+    let s = seen c.args.map.now in
+    same_sized c.args.layer.size s.names.size (ap (λ x. same_size x s.names.size) (sym c.extent.ensures.extent) ∙ sym c.same_size.ensures ∙ c.if-not-same_size.false) ∙ ap (λ (q : WholeState). q.names.size) (sym c.reserve.ensures.seen)

@@ -5,9 +5,10 @@ use Rattle.map_edits.specs.Refusals.{exists_already}
 use Rattle.map_edits.specs.WholeEdits.{WholeEdit, of_names}
 use Rattle.layer_tiles.specs.Layers.{LayerState}
 use Rattle.kept_map.specs.Maps.{grid_of, seen}
-use Rattle.live_engine.specs.Accepts.{Accepts, ReadsWithin}
+use Rattle.live_engine.specs.Accepts.{ReadsWithin}
 use Rattle.live_engine.specs.Adding.{IsAdding}
 use Rattle.live_engine.specs.Drafts.{IsDrafted}
+use Rattle.live_engine.specs.Inverses.{AcceptsBack}
 use Rattle.live_engine.proofs.AddedStates.{new_exists, new_adding}
 use Rattle.live_engine.proofs.Refusing.{accept_refused}
 use Rattle.live_engine.proofs.adding.new_layer.Goals as goal
@@ -25,7 +26,7 @@ returns-clause-accepts g c =
     let here : IsAdding s own c.args.name (constant s.names.size c.args.cell) = new_adding s c.args.name c.args.cell c.requires.plain (sym c.has.ensures ∙ c.if-has.false) in
     let adding : IsAdding r own c.args.name (grid_of c.in_ok-layer.layer) =
     subst (λ (l : LayerState). IsAdding r own c.args.name (grid_of l)) (sym c.in_ok-layer.ensures) (subst (λ q. IsAdding q own c.args.name (constant s.names.size c.args.cell)) (sym c.reserve.ensures.seen) here) in
-    subst (λ q. Accepts q (seen c.carry_out.new.map) (of_names own) c.carry_out.result) c.reserve.ensures.seen (c.carry_out.ensures.accepts (of_names own) (c.drafted-drafted.ensures.drafted own adding))
+    subst (λ q. AcceptsBack q (seen c.carry_out.new.map) (of_names own) c.carry_out.result) c.reserve.ensures.seen (c.carry_out.ensures.accepts (of_names own) (c.drafted-drafted.ensures.drafted own adding))
 
 pub returns-clause-reads : goal.returns-clause-reads
 returns-clause-reads g c =

@@ -1,13 +1,14 @@
 use Rattle.std.proofs.Common.{subst}
 use Rattle.kept_map.specs.Maps.{seen}
-use Rattle.live_engine.specs.Accepts.{Accepts, ReadsWithin}
+use Rattle.live_engine.specs.Accepts.{ReadsWithin}
 use Rattle.live_engine.specs.Defining.{defines}
+use Rattle.live_engine.specs.Inverses.{AcceptsBack}
 use Rattle.live_engine.proofs.defining.define.Goals as goal
 
 pub returns-clause-accepts : goal.returns-clause-accepts
 returns-clause-accepts g c =
     let e = defines c.args.name c.args.written in
-    subst (λ q. Accepts q (seen c.carry_out.new.map) e c.carry_out.result) c.reserve.ensures.seen (c.carry_out.ensures.accepts e c.drafted-drafted.ensures.drafted)
+    subst (λ q. AcceptsBack q (seen c.carry_out.new.map) e c.carry_out.result) c.reserve.ensures.seen (c.carry_out.ensures.accepts e c.drafted-drafted.ensures.drafted)
 
 pub returns-clause-reads : goal.returns-clause-reads
 returns-clause-reads g c =

@@ -1,27 +1,27 @@
-use Rattle.std.proofs.Common.{◌≡◌, Ok, refl, sym, ap, subst, arith}
+use Rattle.std.proofs.Common.{sym, subst}
 use Rattle.map_nums.specs.Counts.{raised}
-use Rattle.map_edits.specs.Counted.{accept_counted}
-use Rattle.edit_plans.specs.SourceCounts.{no_counts}
+use Rattle.map_edits.specs.Touches.{touch_of}
 use Rattle.kept_map.specs.Maps.{seen}
-use Rattle.kept_map.specs.Keeps.{IsKept}
 use Rattle.kept_map.specs.declared.maps.KeptMap.{KeptMap}
+use Rattle.live_engine.specs.Inverses.{TakesBack}
 use Rattle.live_engine.specs.Notes.{edit_of_note}
-use Rattle.live_engine.proofs.Noted.{noted_is, note_accepted, noted_kept}
+use Rattle.live_engine.proofs.Noted.{is_noted, count_kept, count_accepted, note_beside, note_back}
 use Rattle.live_engine.proofs.noting.take_note.Goals as goal
 
 pub returns-clause-accepts : goal.returns-clause-accepts
 returns-clause-accepts c =
     let m = c.args.map.now in
-    let stays = ap (λ (x : KeptMap). x.number) c.in_ok-put.ensures in
-    let number : c.saturating_add-map.result ≡ raised m.number 1 = omega (arith, c.saturating_add-map.ensures, stays) in (
-      subst (λ (q : KeptMap). accept_counted (seen m) (edit_of_note c.args.note) ≡ Ok (record { state = seen q; counts = no_counts })) (sym (noted_is m c.args.note c.requires.kept c.requires.may c.put.new.map c.saturating_add-map.result c.in_ok-put.ensures number))
-          (note_accepted m c.args.note c.requires.kept c.requires.may),
-      refl,
+    let note = c.args.note in
+    let kept = c.requires.kept in
+    let is = note_beside m note kept c.requires.may in
+    let put = c.in_ok-before.ensures in
+    let new = is_noted m _ _ kept is c.put.new.map c.count.new.map put.0 c.count.ensures.map in (
+      count_accepted m _ _ kept is c.put.new.map c.count.new.map put.0 c.count.ensures.map c.count.result c.count.ensures.number c.count.ensures.counts,
+      subst (λ (x : KeptMap). TakesBack (seen m) (seen x) (touch_of (edit_of_note note)) c.in_ok-before.before) (sym new) (note_back m note c.in_ok-before.before (raised m.number 1) kept put.1),
     )
 
 pub returns-clause-kept : goal.returns-clause-kept
 returns-clause-kept c =
     let m = c.args.map.now in
-    let stays = ap (λ (x : KeptMap). x.number) c.in_ok-put.ensures in
-    let number : c.saturating_add-map.result ≡ raised m.number 1 = omega (arith, c.saturating_add-map.ensures, stays) in
-    subst IsKept (sym (noted_is m c.args.note c.requires.kept c.requires.may c.put.new.map c.saturating_add-map.result c.in_ok-put.ensures number)) (noted_kept m c.args.note c.requires.kept c.requires.may)
+    let kept = c.requires.kept in
+    count_kept m _ _ kept (note_beside m c.args.note kept c.requires.may) c.put.new.map c.count.new.map c.in_ok-before.ensures.0 c.count.ensures.map

@@ -7,6 +7,7 @@ use Rattle.map_waves.specs.declared.keeping.Kept.{Kept}
 use Rattle.statement_parser.specs.declared.op.Op.{Op as Given}
 use Rattle.map_waves.specs.Placing.{HaveOwnSlots, AreReady, ArePlaced}
 use Rattle.map_waves.specs.declared.plans.Step.{Step}
+use Rattle.edit_plans.specs.declared.planning.Planned.{Planned}
 use Rattle.kept_map.specs.Commits.{Rests}
 use Rattle.kept_map.proofs.Ready.{slots_within, own_slots, are_ready}
 use Rattle.live_engine.proofs.placing.commit.Goals as goal
@@ -28,16 +29,17 @@ put_in_place-requires-clause-ready c =
     subst (λ (xs : List (Step Given)). AreReady c.args.map.now.extent (map (λ k. Some k) c.args.map.now.kept.items) xs c.args.replanned.prepared.made.items) (sym c.as_mut_slice.ensures.value)
     (are_ready c.args.map.now p.0 p.1 p.2 p.3 c.args.replanned.planned.names.keys c.args.replanned.planned.steps.items c.requires.kept p.5.under c.args.replanned.prepared.made.items p.5.made)
 
-pub returns : goal.returns
-returns c =
+pub returns-clause-put : goal.returns-clause-put
+returns-clause-put c =
     let steps = c.as_mut_slice.ensures.value in
     let moved = c.put_in_place.new.steps in
     let long : length moved ≡ c.args.replanned.planned.steps.len = omega (arith, c.put_in_place.auto.steps, c.as_mut_slice.ensures.len) in
     let is : (with_items c.args.replanned.planned.steps moved).items ≡ moved = with_items_is c.args.replanned.planned.steps moved long in
     let slots : List (Option (Kept Beside)) = map (λ k. Some k) c.args.map.now.kept.items in
     let number : c.saturating_add-number.result ≡ raised c.args.map.now.number 1 = omega (arith, c.saturating_add-number.ensures) in
+    let plan : Planned = record { names = c.args.replanned.planned.names; steps = with_items c.args.replanned.planned.steps moved } in
     record {
-      others = ap (λ k. record c.args.map.now { graph = c.args.graph; planned = record { names = c.args.replanned.planned.names; steps = with_items c.args.replanned.planned.steps moved }; kept = c.put_in_place.new.kept; number = k }) number;
+      others = λ j. record c.args.map.now { graph = c.replace.ensures.after j; planned = plan; kept = c.put_in_place.new.kept; number = number j };
       plan_names = refl;
       rests = subst (Rests c.args.replanned.planned.steps.items) (sym is) (subst (λ xs. Rests xs moved) steps c.put_in_place.ensures.rest);
       kept_count = c.put_in_place.ensures.count ∙ ap length steps;

@@ -10,6 +10,7 @@ use Rattle.map_edits.specs.Counted.{Accepted}
 use Rattle.map_edits.specs.Painting.{is_within, painted}
 use Rattle.map_edits.specs.WholeEdits.{of_names}
 use Rattle.procedure_expand.proofs.Plain.{plain_undotted}
+use Rattle.edit_plans.proofs.There.{none_where}
 use Rattle.kept_map.specs.Maps.{grid_of, seen}
 use Rattle.kept_map.specs.Keeps.{IsKept}
 use Rattle.kept_map.specs.declared.maps.KeptMap.{KeptMap}
@@ -30,19 +31,22 @@ read_layer m n place l kept at is =
 abbrev refused_of : Refusal → Result Accepted Refusal
 refused_of r = Err r
 
-pub returns-in-Err-clause-drafted : goal.returns-in-Err-clause-drafted
-returns-in-Err-clause-drafted g c = c.in-Err.ensures.refused (rectangle_of c.args.rectangle) c.args.cell
+pub no_source-requires-clause-none : goal.no_source-requires-clause-none
+no_source-requires-clause-none g c = sym c.get_index_of.ensures.index ∙ none_where c.get_index_of.result c.in_default.not-Some
+
+pub returns-in_default-clause-drafted : goal.returns-in_default-clause-drafted
+returns-in_default-clause-drafted g c = c.no_source.ensures (rectangle_of c.args.rectangle) c.args.cell
 
 pub returns-then-not-is_within-clause-drafted : goal.returns-then-not-is_within-clause-drafted
 returns-then-not-is_within-clause-drafted g c =
     let m = c.args.map.now in
     let n = c.args.name in
     let r = rectangle_of c.args.rectangle in
-    let at = c.in-Ok.ensures.place in
-    let k = layer_at m.sources n c.requires.kept.sources.count c.in-Ok.place at in
+    let at = sym c.get_index_of.ensures.index ∙ c.in-Some.is in
+    let k = layer_at m.sources n c.requires.kept.sources.count c.in-Some.place at in
     let out : is_within m.extent r ≡ false = sym c.is_within.ensures ∙ c.if-not-is_within.true in
     let told : record { rows = c.rows.result; columns = c.columns.result } ≡ m.extent = ap (λ k. record { rows = k; columns = c.columns.result }) c.rows.ensures.rows ∙ ap (λ k. record { rows = m.extent.rows; columns = k }) c.columns.ensures.columns in
-    (accept_refused (seen m) _ _ (paint_outside m c.requires.kept n r c.args.cell k.0 (source_at m.sources n c.in-Ok.place at ∙ k.1) out) ∙ ap (λ (z : Size). refused_of (wrong_size z)) (sym told), refl)
+    (accept_refused (seen m) _ _ (paint_outside m c.requires.kept n r c.args.cell k.0 (source_at m.sources n c.in-Some.place at ∙ k.1) out) ∙ ap (λ (z : Size). refused_of (wrong_size z)) (sym told), refl)
 
 pub returns-in_err-patch-clause-reads : goal.returns-in_err-patch-clause-reads
 returns-in_err-patch-clause-reads g c =
@@ -51,13 +55,13 @@ returns-in_err-patch-clause-reads g c =
     let r = rectangle_of c.args.rectangle in
     let kept = c.requires.kept in
     let plain = plain_undotted n c.requires.formed.0 in
-    let at = c.in-Ok.ensures.place in
+    let at = sym c.get_index_of.ensures.index ∙ c.in-Some.is in
     let l = c.index-layer.result.now in
-    let there : slice_get m.sources.layers.items c.in-Ok.place ≡ Some l = read_layer m n c.in-Ok.place l kept at c.index-layer.ensures in
+    let there : slice_get m.sources.layers.items c.in-Some.place ≡ Some l = read_layer m n c.in-Some.place l kept at c.index-layer.ensures in
     let on : is_within m.extent r ≡ true = sym c.is_within.ensures ∙ c.if-not-is_within.false in
-    let found = source_at m.sources n c.in-Ok.place at ∙ there in
+    let found = source_at m.sources n c.in-Some.place at ∙ there in
     let damage = repaint_damage m n r (painted m.extent r c.args.cell (grid_of l)) (paint_lawful m kept n r c.args.cell l plain found on) in
-    let count : length (met_tiles l.size r) ≡ length (met_tiles m.extent r) = ap (λ z. length (met_tiles z r)) (layer_size m kept c.in-Ok.place l there) in
+    let count : length (met_tiles l.size r) ≡ length (met_tiles m.extent r) = ap (λ z. length (met_tiles z r)) (layer_size m kept c.in-Some.place l there) in
     reads_tried (seen m) (repainted_state (seen m) n (painted m.extent r c.args.cell (grid_of l))) (of_names (paint n r c.args.cell)) kept.lawful plain (paint_attempt m kept n r c.args.cell l plain found on) (3 * length (met_tiles l.size r)) _ _ (omega (arith, damage, count)) c.changed_by_paint.ensures.tally
 
 pub returns-clause-reads : goal.returns-clause-reads
@@ -67,13 +71,13 @@ returns-clause-reads g c =
     let r = rectangle_of c.args.rectangle in
     let kept = c.requires.kept in
     let plain = plain_undotted n c.requires.formed.0 in
-    let at = c.in-Ok.ensures.place in
+    let at = sym c.get_index_of.ensures.index ∙ c.in-Some.is in
     let l = c.index-layer.result.now in
-    let there : slice_get m.sources.layers.items c.in-Ok.place ≡ Some l = read_layer m n c.in-Ok.place l kept at c.index-layer.ensures in
+    let there : slice_get m.sources.layers.items c.in-Some.place ≡ Some l = read_layer m n c.in-Some.place l kept at c.index-layer.ensures in
     let on : is_within m.extent r ≡ true = sym c.is_within.ensures ∙ c.if-not-is_within.false in
-    let found = source_at m.sources n c.in-Ok.place at ∙ there in
+    let found = source_at m.sources n c.in-Some.place at ∙ there in
     let damage = repaint_damage m n r (painted m.extent r c.args.cell (grid_of l)) (paint_lawful m kept n r c.args.cell l plain found on) in
-    let count : length (met_tiles l.size r) ≡ length (met_tiles m.extent r) = ap (λ z. length (met_tiles z r)) (layer_size m kept c.in-Ok.place l there) in
+    let count : length (met_tiles l.size r) ≡ length (met_tiles m.extent r) = ap (λ z. length (met_tiles z r)) (layer_size m kept c.in-Some.place l there) in
     reads_tried (seen m) (repainted_state (seen m) n (painted m.extent r c.args.cell (grid_of l))) (of_names (paint n r c.args.cell)) kept.lawful plain (paint_attempt m kept n r c.args.cell l plain found on) (3 * length (met_tiles l.size r)) _ _ (omega (arith, damage, count)) c.changed_by_paint.ensures.tally
 
 pub returns-clause-drafted : goal.returns-clause-drafted
@@ -83,18 +87,18 @@ returns-clause-drafted g c =
     let r = rectangle_of c.args.rectangle in
     let kept = c.requires.kept in
     let plain = plain_undotted n c.requires.formed.0 in
-    let at = c.in-Ok.ensures.place in
+    let at = sym c.get_index_of.ensures.index ∙ c.in-Some.is in
     let l = c.index-layer.result.now in
-    let there : slice_get m.sources.layers.items c.in-Ok.place ≡ Some l = read_layer m n c.in-Ok.place l kept at c.index-layer.ensures in
+    let there : slice_get m.sources.layers.items c.in-Some.place ≡ Some l = read_layer m n c.in-Some.place l kept at c.index-layer.ensures in
     let on : is_within m.extent r ≡ true = sym c.is_within.ensures ∙ c.if-not-is_within.false in
     let p = c.in_ok-patch.ensures in
-    (painted m.extent r c.args.cell (grid_of l), paint_draft m kept n r c.args.cell l plain (source_at m.sources n c.in-Ok.place at ∙ there) on _ at there p.size p.cells p.operand p.met)
+    (painted m.extent r c.args.cell (grid_of l), paint_draft m kept c.args.cell _ c.in-Some.place l plain at there on p.size p.cells p.operand p.met)
 
 pub returns-clause-looks : goal.returns-clause-looks
 returns-clause-looks g c =
     let m = c.args.map.now in
     let n = c.args.name in
     let l = c.index-layer.result.now in
-    let there = read_layer m n c.in-Ok.place l c.requires.kept c.in-Ok.ensures.place c.index-layer.ensures in
-    let size = layer_size m c.requires.kept c.in-Ok.place l there in
+    let there = read_layer m n c.in-Some.place l c.requires.kept (sym c.get_index_of.ensures.index ∙ c.in-Some.is) c.index-layer.ensures in
+    let size = layer_size m c.requires.kept c.in-Some.place l there in
     subst (λ z. RisesBy (3 * length (met_tiles z (rectangle_of c.args.rectangle))) 0 (g.M.Tally.counts c.args.tally.now) (g.M.Tally.counts c.changed_by_paint.new.tally)) size c.changed_by_paint.ensures.tally

@@ -1,0 +1,192 @@
+-- What stood for a name takes the edit of the name back.
+use Rattle.std.proofs.Common.{◌≡◌, ◌<◌, ◌≤◌, ◌⊎◌, inl, inr, ℕ, List, ◌∷◌, ◌++◌, take, drop, length, position, Option, Some, None, option_map, unwrap_or, slice_get, bytes_eq, IsTrue, Vec, refl, sym, ap, subst, ◌∙◌, arith}
+use Rattle.std.specs.Map.{lookup}
+use Rattle.std.specs.declared.alloc.Global.{Global}
+use Rattle.std.proofs.lemmas.List.{length-append, take-append-drop}
+use Rattle.std.proofs.lemmas.List.Elements.{recursion_from_All}
+use Rattle.std.proofs.lemmas.Option.{none-some, slice_get-map, slice_get_within}
+use Rattle.map_nums.specs.Grids.{Grid}
+use Rattle.map_words.specs.Names.{is_plain}
+use Rattle.map_defs.specs.Ops.{Name}
+use Rattle.map_defs.specs.Statements as meant
+use Rattle.layer_tiles.specs.Layers.{LayerState}
+use Rattle.statement_parser.specs.Views.{written_view}
+use Rattle.statement_parser.specs.declared.line.Written.{Written}
+use Rattle.procedure_expand.specs.declared.flat.Flat.{Flat}
+use Rattle.procedure_expand.specs.Flats.{flats_view}
+use Rattle.statement_graph.specs.Groups.{Group}
+use Rattle.map_edits.specs.Entries.{Def, source, statement, Entry, find_def, put_entry, drop_entry}
+use Rattle.map_edits.specs.EntriesAt.{entry_at}
+use Rattle.map_edits.specs.Marks.{Mark}
+use Rattle.map_edits.specs.Pasts.{Parts, parts_of}
+use Rattle.map_edits.specs.Touches.{whole, touch_of}
+use Rattle.map_edits.specs.WholeEdits.{WholeEdit}
+use Rattle.map_edits.specs.WholeStates.{WholeState}
+use Rattle.map_edits.proofs.Puts.{find_put, find_drop}
+use Rattle.map_edits.proofs.PutBack.{drop_none, drop_put, put_put, put_same, drop_at, at_dropped}
+use Rattle.map_waves.proofs.Making.{all_get}
+use Rattle.kept_map.specs.Groups.{groups_of}
+use Rattle.kept_map.specs.Maps.{grid_of, source_in, source_grid, def_by, entry_by, entries_in, names_in, seen}
+use Rattle.kept_map.specs.Keeps.{IsNamed, IsKept}
+use Rattle.kept_map.specs.declared.maps.Item.{Item}
+use Rattle.kept_map.specs.declared.maps.Item.TheVariants as items
+use Rattle.kept_map.specs.declared.maps.KeptMap.{KeptMap}
+use Rattle.kept_map.proofs.SourceLayers.{source_whole}
+use Rattle.kept_map.proofs.Naming.{item_def, item_source}
+use Rattle.kept_map.proofs.EditedPlans.{item_named}
+use Rattle.live_engine.specs.Drafts.{seated, entries_after, state_after, IsNextStatement, IsFit, IsDraftOf}
+use Rattle.live_engine.specs.Inverses.{back, AreReached, Fits, TakesBack}
+use Rattle.live_engine.specs.Puts.{StoodFor, replaced_by, IsStandBefore}
+use Rattle.live_engine.specs.declared.drafts.Change.{Change}
+use Rattle.live_engine.specs.declared.drafts.Change.TheVariants.{Source, Statement, Out}
+use Rattle.live_engine.specs.declared.inverses.Inverse.{Inverse}
+use Rattle.live_engine.specs.declared.inverses.Inverse.TheVariants as inverses
+use Rattle.live_engine.proofs.Reached.{kept_reached}
+
+-- ---- lists
+
+-- a name that wasn't there is dropped
+seated_drop : (es : List Entry) (place : Option ℕ) (n : Name) (d : Def) → find_def es n ≡ None → drop_entry (seated es place n d) n ≡ es
+seated_drop es None n d absent = drop_put es n d absent
+seated_drop es (Some k) n d absent = drop_at es k n d absent
+
+-- what stands at a place has no more before it than there are others
+place_within : (xs : List Entry) (k : ℕ) (e : Entry) → k < length (take k xs ++ e ∷ drop k xs) → k ≤ length xs
+place_within xs k e within =
+    let all = length-append (take k xs) (e ∷ drop k xs) in
+    let others = length-append (take k xs) (drop k xs) in
+    let same = ap length (take-append-drop k xs) in
+    omega (arith, within, all, others, same)
+
+-- a statement is no source
+other_def : (o : Option Def) (w : meant.Written) (fs : List meant.Flat) (grid : Grid) → o ≡ Some (statement w fs) → o ≡ Some (source grid) → ⊥
+other_def o w fs grid is e = cc
+
+-- lists that took the place of others
+marks_back : (o : Option (List Mark)) (own : List Mark) → unwrap_or (option_map (λ (x : List Mark). own) o) (unwrap_or o own) ≡ own
+marks_back None own = refl
+marks_back (Some others) own = refl
+
+-- ---- names
+
+-- what stood for a name is put in its place again, and the entries are those of the map
+record IsNameBack (m : KeptMap) (n : Name) (after : List Entry) (before : Change) : Type 0 where
+  entries : entries_after after n before ≡ entries_in m
+  fits : IsFit m.extent after n before
+
+module _ (m : KeptMap) (keeps : IsKept m) (n : Name) where
+  out_back : (after : List Entry) (before : Change) → drop_entry after n ≡ entries_in m → before ≡ Out → IsNameBack m n after before
+  out_back after before same is = subst (IsNameBack m n after) (sym is) (record { entries = same; fits = tt })
+
+  absent : lookup (bytes_eq n) m.names.entries ≡ None → find_def (entries_in m) n ≡ None
+  absent none = item_def m n None none
+
+  -- ---- a statement took its place
+
+  statement_back : (place : Option ℕ) (written own : Written) (flats stood : Vec Flat Global) → IsNextStatement (entries_in m) n written flats.items place → lookup (bytes_eq n) m.names.entries ≡ Some (items.Statement own stood)
+      → IsNameBack m n (entries_after (entries_in m) n (Statement written flats place)) (Statement own stood None)
+  statement_back (Some k) written own flats stood fits at = absurd (none-some (statement (written_view own) (flats_view stood.items)) (sym fits.seat.0 ∙ item_def m n (Some (items.Statement own stood)) at))
+  statement_back None written own flats stood fits at =
+      let d : Def = statement (written_view written) (flats_view flats.items) in
+      let c : Def = statement (written_view own) (flats_view stood.items) in
+      let named = item_named m.names.entries n (items.Statement own stood) (recursion_from_All IsNamed m.names.entries keeps.named) at in
+      record {
+        entries = put_put (entries_in m) n d c ∙ put_same (entries_in m) n c (item_def m n (Some (items.Statement own stood)) at);
+        fits = record { formed = named.0; ranges = named.1; other = λ grid is. other_def (find_def (put_entry (entries_in m) n d) n) (written_view written) (flats_view flats.items) grid (find_put (entries_in m) n d) is; seat = tt };
+      }
+
+  replaced_back : (place : Option ℕ) (written : Written) (flats : Vec Flat Global) (o : Option Item) (before : Change) → IsNextStatement (entries_in m) n written flats.items place → lookup (bytes_eq n) m.names.entries ≡ o → before ≡ replaced_by o
+      → IsNameBack m n (entries_after (entries_in m) n (Statement written flats place)) before
+  replaced_back place written flats None before fits at is = out_back _ before (seated_drop (entries_in m) place n (statement (written_view written) (flats_view flats.items)) (absent at)) is
+  replaced_back place written flats (Some items.Source) before fits at is = absurd (fits.other (source_grid m.extent (source_in m.sources n)) (item_def m n (Some items.Source) at))
+  replaced_back place written flats (Some (items.Statement own stood)) before fits at is =
+      subst (IsNameBack m n (entries_after (entries_in m) n (Statement written flats place))) (sym is) (statement_back place written own flats stood fits at)
+
+  -- ---- it was dropped
+
+  abbrev others : List Entry
+  others = drop_entry (entries_in m) n
+
+  stood_at : (k : ℕ) (item : Item) → slice_get m.names.entries k ≡ Some (n, item) → slice_get (entries_in m) k ≡ Some (record { name = n; def = def_by m.extent (source_in m.sources n) item })
+  stood_at k item at = slice_get-map (entry_by m.extent (source_in m.sources)) m.names.entries k ∙ ap (option_map (entry_by m.extent (source_in m.sources))) at
+
+  module _ (k : ℕ) (d : Def) (at : slice_get (entries_in m) k ≡ Some (record { name = n; def = d })) where
+    at_again : entry_at others k n d ≡ entries_in m
+    at_again = at_dropped (entries_in m) k n d keeps.lawful.apart at
+
+    again_within : k ≤ length others
+    again_within = place_within others k (record { name = n; def = d }) (subst (λ j. k < j) (sym (ap length at_again)) (slice_get_within (entries_in m) k (record { name = n; def = d }) at))
+
+    again_seat : (find_def others n ≡ None) × (k ≤ length others)
+    again_seat = (find_drop (entries_in m) n, again_within)
+
+  never_stood : (lookup (bytes_eq n) m.names.entries ≡ None) ⊎ (position (bytes_eq n) m.sources.names.keys ≡ None) × (lookup (bytes_eq n) m.names.entries ≡ Some items.Source) → IsNameBack m n others Out
+  never_stood (inl none) = let same = drop_none (entries_in m) n (absent none) in record { entries = ap (λ es. drop_entry es n) same ∙ same; fits = tt }
+  never_stood (inr odd) = let r = item_source m n keeps odd.1 in absurd (none-some r.0 (sym odd.0 ∙ r.2))
+
+  dropped_back : (before : Change) → StoodFor m n before → IsNameBack m n others before
+  dropped_back (Source key layer None) stood = absurd stood
+  dropped_back (Source key layer (Some k)) stood =
+      let d : Def = source (grid_of layer) in
+      let at : slice_get (entries_in m) k ≡ Some (record { name = n; def = d }) = stood_at k items.Source stood.0 ∙ ap (λ o. Some (record { name = n; def = source (source_grid m.extent o) })) stood.2 in
+      let whole = source_whole m.sources n (names_in m) layer keeps.sources stood.2 in
+      record { entries = at_again k d at; fits = record { same = stood.1; absent = find_drop (entries_in m) n; sized = whole.0; whole = whole.1; seat = again_seat k d at } }
+  dropped_back (Statement written flats None) stood = absurd stood
+  dropped_back (Statement written flats (Some k)) stood =
+      let d : Def = statement (written_view written) (flats_view flats.items) in
+      let at : slice_get (entries_in m) k ≡ Some (record { name = n; def = d }) = stood_at k (items.Statement written flats) stood in
+      let named = all_get IsNamed m.names.entries keeps.named k (n, items.Statement written flats) stood in
+      record { entries = at_again k d at; fits = record { formed = named.1.0; ranges = named.1.1; other = λ grid is. none-some (source grid) (sym (find_drop (entries_in m) n) ∙ is); seat = again_seat k d at } }
+  dropped_back Out stood = never_stood stood
+
+  -- ---- the parts of the state
+
+  stood_back : (change before : Change) → IsFit m.extent (entries_in m) n change → IsStandBefore m n change before → IsNameBack m n (entries_after (entries_in m) n change) before
+  stood_back (Source key layer place) before fits is = out_back _ before (seated_drop (entries_in m) place n (source (grid_of layer)) fits.absent) is
+  stood_back (Statement written flats place) before fits is = replaced_back place written flats (lookup (bytes_eq n) m.names.entries) before fits refl is
+  stood_back Out before fits stood = dropped_back before stood
+
+  module _ (change before : Change) (labels symbols : Option (List Mark)) (plain : IsTrue (is_plain n)) (is : IsNameBack m n (entries_after (entries_in m) n change) before) where
+    abbrev inverse : Inverse
+    inverse = inverses.Name (record {
+      name = n;
+      change = before;
+      graph = m.graph;
+      labels = option_map (λ (x : List Mark). m.labels) labels;
+      symbols = option_map (λ (x : List Mark). m.symbols) symbols;
+    })
+
+    abbrev after : Parts
+    after = parts_of (state_after (seen m) n change labels symbols)
+
+    abbrev parts_by : List Entry → List Mark → List Mark → Parts
+    parts_by entries labels symbols = record { entries = entries; procedures = m.procedures; labels = labels; symbols = symbols }
+
+    parts_back : back inverse after ≡ parts_of (seen m)
+    parts_back =
+        ap (λ es. parts_by es (unwrap_or (option_map (λ (x : List Mark). m.labels) labels) (unwrap_or labels m.labels)) (unwrap_or (option_map (λ (x : List Mark). m.symbols) symbols) (unwrap_or symbols m.symbols))) is.entries
+        ∙ ap (λ ls. parts_by (entries_in m) ls (unwrap_or (option_map (λ (x : List Mark). m.symbols) symbols) (unwrap_or symbols m.symbols))) (marks_back labels m.labels)
+        ∙ ap (parts_by (entries_in m) m.labels) (marks_back symbols m.symbols)
+
+    after_fits : Fits m.extent after inverse
+    after_fits = record {
+      suits = record { plain = plain; fits = is.fits; graph_is = keeps.graph_is ∙ ap groups_of (sym is.entries) };
+      reached = subst (AreReached m.extent) (sym parts_back) (kept_reached m keeps);
+    }
+
+    taken_back : (t : WholeState) → t.names.size ≡ m.extent → parts_of t ≡ after → TakesBack (seen m) t (whole n) inverse
+    taken_back t size parts = record {
+      size = size;
+      fits = subst (λ z. Fits z (parts_of t) inverse) (sym size) (subst (λ p. Fits m.extent p inverse) (sym parts) after_fits);
+      parts = ap (back inverse) parts ∙ parts_back;
+      touch_is = refl;
+    }
+
+-- the state after the edit is told by its parts
+pub name_back : (m : KeptMap) (keeps : IsKept m) (e : WholeEdit) (n : Name) (change : Change) (graph : List Group) (labels symbols : Option (List Mark)) → IsDraftOf m e n change graph labels symbols
+    → (t : WholeState) (before : Change) → t.names.size ≡ m.extent → parts_of t ≡ parts_of (state_after (seen m) n change labels symbols) → IsStandBefore m n change before
+    → TakesBack (seen m) t (touch_of e) (inverses.Name (record { name = n; change = before; graph = m.graph; labels = option_map (λ (x : List Mark). m.labels) labels; symbols = option_map (λ (x : List Mark). m.symbols) symbols }))
+name_back m keeps e n change graph labels symbols draft t before size parts stood =
+    let is = stood_back m keeps n change before draft.fits stood in
+    let i = inverse m keeps n change before labels symbols draft.plain is in
+    subst (λ touch. TakesBack (seen m) t touch i) (sym draft.touch) (taken_back m keeps n change before labels symbols draft.plain is t size parts)

@@ -1,0 +1,252 @@
+-- What takes a repaint back: the tiles that the source had, and when they can be put in place.
+use Rattle.std.proofs.Common.{◌≡◌, ℕ, ◌==◌, Bool, true, false, not, cond, List, [], ◌∷◌, length, position, Option, Some, None, option_map, slice_get, bytes_eq, Result, Ok, refl, sym, ap, subst, ◌∙◌, ℤ}
+use Rattle.std.specs.List.{list_any}
+use Rattle.std.proofs.lemmas.Bool.{eqb-true}
+use Rattle.std.proofs.lemmas.Bool.Decides.{same_from_decides, Decides-int_eq}
+use Rattle.std.proofs.lemmas.List.Elements.{filter_agree}
+use Rattle.std.proofs.lemmas.Option.{none-some, same_Some}
+use Rattle.map_nums.specs.Grids.{Size, IsSize, Grid, Cells, cell_at, cells_in, places}
+use Rattle.map_nums.specs.Tiles.{tiles, tile_of}
+use Rattle.map_defs.specs.Cells.{same_cell}
+use Rattle.map_defs.specs.Differences.{differs, tile_has, changed_tiles}
+use Rattle.layer_tiles.specs.Changes.{ChangeState}
+use Rattle.layer_tiles.specs.Exchanges.{tiles_at}
+use Rattle.layer_tiles.specs.Layers.{LayerState, IsLayer}
+use Rattle.layer_tiles.specs.Patches.{PatchState, patch_get, patched, numbers_of}
+use Rattle.layer_tiles.specs.Tiles.{Block, tile_block}
+use Rattle.layer_tiles.proofs.Patching.{tile_kept}
+use Rattle.layer_tiles.proofs.Whole.{patched_to}
+use Rattle.map_edits.specs.Edits.{with_entries}
+use Rattle.map_edits.specs.Entries.{source, find_def, put_entry}
+use Rattle.map_edits.specs.GroupLaws.{IsLawful}
+use Rattle.map_edits.specs.Pasts.{Parts, Past, parts_of, with_parts}
+use Rattle.map_edits.specs.Refusals.{Refusal}
+use Rattle.map_edits.specs.Touches.{touch_of}
+use Rattle.map_edits.specs.Touching.{ChangesOnly}
+use Rattle.map_edits.specs.WholeEdits.{WholeEdit, put_back}
+use Rattle.map_edits.specs.WholeStates.{WholeState}
+use Rattle.map_edits.proofs.GroupsKept.{put_makings}
+use Rattle.map_edits.proofs.LawfulEdits.{IsGoodChange, good_of}
+use Rattle.map_edits.proofs.PutBack.{put_put, put_same}
+use Rattle.map_edits.proofs.Puts.{find_put}
+use Rattle.map_waves.specs.Operands.{IsOperand}
+use Rattle.edit_plans.specs.Planned.{is_source_node}
+use Rattle.edit_plans.proofs.TouchedAlone.{part_touched}
+use Rattle.kept_map.specs.Maps.{grid_of, source_in, entries_in, names_in, seen}
+use Rattle.kept_map.specs.Keeps.{IsKept}
+use Rattle.kept_map.specs.declared.maps.KeptMap.{KeptMap}
+use Rattle.kept_map.proofs.Given.{source_node}
+use Rattle.kept_map.proofs.Naming.{placed_item, item_source, source_def}
+use Rattle.kept_map.proofs.SourceLayers.{source_at, source_whole}
+use Rattle.live_engine.specs.Inverses.{with_tiles, repainted, back, past_of, AreReached, SuitsTiles, Fits, TakesBack}
+use Rattle.live_engine.specs.Painting.{rectangle_of}
+use Rattle.live_engine.specs.Repainting.{repainted_state, IsRepaintOf, HadTiles}
+use Rattle.live_engine.specs.declared.inverses.Inverse.TheVariants as inverses
+use Rattle.live_engine.specs.declared.repainting.Repaint.{Repaint}
+use Rattle.live_engine.proofs.Reached.{kept_reached, reached_lawful, reached_said}
+
+-- ---- tiles that differ do so both ways
+
+same_cell_turned : (c d : Option ℤ) → same_cell c d ≡ same_cell d c
+same_cell_turned None None = refl
+same_cell_turned None (Some w) = refl
+same_cell_turned (Some z) None = refl
+same_cell_turned (Some z) (Some w) = same_from_decides _ _ (Decides-int_eq w z) (let turned = Decides-int_eq z w in (λ e. sym (turned.0 e), λ e. turned.1 (sym e)))
+
+changed_turned : (s : Size) (before after : Cells) → changed_tiles s (Some before) after ≡ changed_tiles s (Some after) before
+unfolding changed_tiles
+changed_turned s before after =
+    filter_agree (tile_has s (differs before after)) (tile_has s (differs after before))
+    (λ t. ap (λ ks. list_any (λ k. tile_of s k == t) ks) (filter_agree (differs before after) (differs after before) (λ k. ap not (same_cell_turned (cell_at before k) (cell_at after k))) (places s)))
+    (tiles s)
+
+-- ---- a patch and the tiles that it took the place of
+
+had_tile : (s : Size) (cells : Cells) (held : List (ℕ × Block)) (t : ℕ) → patch_get (tiles_at s cells held) t ≡ option_map (λ (b : Block). tile_block s cells t) (patch_get held t)
+had_tile s cells [] t = refl
+had_tile s cells (x ∷ held) t = go (x.0 == t) refl (had_tile s cells held t)
+  where
+    go : (v : Bool) → (x.0 == t) ≡ v → patch_get (tiles_at s cells held) t ≡ option_map (λ (b : Block). tile_block s cells t) (patch_get held t)
+        → cond v (Some (tile_block s cells x.0)) (patch_get (tiles_at s cells held) t) ≡ option_map (λ (b : Block). tile_block s cells t) (cond v (Some x.1) (patch_get held t))
+    go true same rest = ap (λ u. Some (tile_block s cells u)) (eqb-true x.0 t same)
+    go false same rest = rest
+
+numbers_stay : (s : Size) (cells : Cells) (held : List (ℕ × Block)) → numbers_of (tiles_at s cells held) ≡ numbers_of held
+numbers_stay s cells [] = refl
+numbers_stay s cells (x ∷ held) = ap (λ ks. x.0 ∷ ks) (numbers_stay s cells held)
+
+-- a grid with these tiles in place of its own
+abbrev change_by : Size → Cells → List (ℕ × Block) → ChangeState
+change_by s cells held = record { size = s; before = Some cells; cells = patched s cells held; touched = numbers_of held }
+
+module _ (s : Size) (cells : Cells) (held : List (ℕ × Block)) (size : IsSize s) (count : length cells ≡ cells_in s) where
+  abbrev own : List (ℕ × Block)
+  own = tiles_at s cells held
+
+  abbrev new : Cells
+  new = patched s cells held
+
+  of_grid : (t : ℕ) (b : Block) → (o : Option Block) → option_map (λ (c : Block). tile_block s cells t) o ≡ Some b → b ≡ tile_block s cells t
+  of_grid t b None e = absurd (none-some b e)
+  of_grid t b (Some c) e = sym (same_Some (tile_block s cells t) b e)
+
+  not_held : (t : ℕ) (o : Option Block) → option_map (λ (c : Block). tile_block s cells t) o ≡ None → o ≡ None
+  not_held t None e = refl
+  not_held t (Some c) e = absurd (none-some (tile_block s cells t) (sym e))
+
+  own_back : patched s new own ≡ cells
+  own_back =
+      patched_to s new cells own size count
+      (λ t b e. of_grid t b (patch_get held t) (sym (had_tile s cells held t) ∙ e))
+      (λ t within none. tile_kept s cells held t size within (not_held t (patch_get held t) (sym (had_tile s cells held t) ∙ none)))
+
+  -- they are just those that differ again
+  own_operand : IsOperand s (change_by s cells held) → IsOperand s (change_by s new own)
+  own_operand is =
+      let numbers = numbers_stay s cells held in
+      record {
+        size = refl;
+        exact = λ was e. numbers ∙ is.exact cells refl ∙ changed_turned s cells new ∙ ap (λ xs. changed_tiles s (Some new) xs) (sym own_back) ∙ ap (λ xs. changed_tiles s (Some xs) (patched s new own)) (same_Some new was e);
+        same = λ was e none. own_back ∙ sym (is.same cells refl (sym numbers ∙ none)) ∙ same_Some new was e;
+      }
+
+-- ---- the tiles that a repainted source had
+
+module _ (m : KeptMap) (keeps : IsKept m) (e : WholeEdit) (grid : Grid) (d : Repaint) (is : IsRepaintOf m e grid d) (taken : PatchState) (had : HadTiles m is.place d.patch taken) where
+  abbrev l : LayerState
+  l = is.layer
+
+  abbrev before : Repaint
+  before = record d { patch = taken }
+
+  abbrev after : Parts
+  after = parts_of (repainted_state (seen m) d.name grid)
+
+  found : source_in m.sources d.name ≡ Some l
+  found = source_at m.sources d.name is.place is.placed ∙ is.there
+
+  whole : (l.size ≡ m.extent) × IsLayer l
+  whole = source_whole m.sources d.name (names_in m) l keeps.sources found
+
+  taken_is : taken ≡ record { size = d.patch.size; tiles = tiles_at l.size l.cells d.patch.tiles }
+  taken_is = had l is.there
+
+  -- the source has its own grid again
+  source_back : source (with_tiles grid taken) ≡ source (grid_of l)
+  source_back =
+      ap (λ z. source (record { size = z; cells = patched z grid.cells taken.tiles })) (is.grid_size ∙ sym whole.0)
+      ∙ ap (λ xs. source (record { size = l.size; cells = patched l.size xs taken.tiles })) (sym is.cells)
+      ∙ ap (λ (p : PatchState). source (record { size = l.size; cells = patched l.size (patched l.size l.cells d.patch.tiles) p.tiles })) taken_is
+      ∙ ap (λ xs. source (record { size = l.size; cells = xs })) (own_back l.size l.cells d.patch.tiles whole.1.size whole.1.cells)
+
+  entries_back : repainted after.entries d.name taken (find_def after.entries d.name) ≡ entries_in m
+  entries_back =
+      ap (repainted after.entries d.name taken) (find_put (entries_in m) d.name (source grid))
+      ∙ put_put (entries_in m) d.name (source grid) (source (with_tiles grid taken))
+      ∙ ap (put_entry (entries_in m) d.name) source_back
+      ∙ put_same (entries_in m) d.name (source (grid_of l)) (source_def m d.name keeps l found)
+
+  parts_back : back (inverses.Tiles before) after ≡ parts_of (seen m)
+  parts_back = ap (λ es. record (parts_of (seen m)) { entries = es }) entries_back
+
+  own_suits : SuitsTiles m.extent after before
+  own_suits = record {
+    plain = is.plain;
+    grid = grid;
+    there = find_put (entries_in m) d.name (source grid);
+    sized = is.grid_size;
+    patch_sized = ap (λ (p : PatchState). p.size) taken_is ∙ is.size ∙ whole.0;
+    operand = subst (λ z. IsOperand z (change_by z grid.cells taken.tiles)) whole.0
+        (subst (λ xs. IsOperand l.size (change_by l.size xs taken.tiles)) is.cells
+        (subst (λ (p : PatchState). IsOperand l.size (change_by l.size (patched l.size l.cells d.patch.tiles) p.tiles)) (sym taken_is)
+        (own_operand l.size l.cells d.patch.tiles whole.1.size whole.1.cells is.operand)));
+    met = is.met;
+  }
+
+  -- they take the repaint back, from a state with its parts
+  pub tiles_back : (t : WholeState) → t.names.size ≡ m.extent → parts_of t ≡ after → TakesBack (seen m) t (touch_of e) (inverses.Tiles before)
+  tiles_back t size parts =
+      let leads : back (inverses.Tiles before) (parts_of t) ≡ parts_of (seen m) = ap (back (inverses.Tiles before)) parts ∙ parts_back in
+      record {
+        size = size;
+        fits = record {
+          suits = subst (λ z. SuitsTiles z (parts_of t) before) (sym size) (subst (λ p. SuitsTiles m.extent p before) (sym parts) own_suits);
+          reached = subst (λ z. AreReached z (back (inverses.Tiles before) (parts_of t))) (sym size) (subst (AreReached m.extent) (sym leads) (kept_reached m keeps));
+        };
+        parts = leads;
+        touch_is = sym is.touch;
+      }
+
+-- ---- a repaint is taken back
+
+abbrev ok_of : WholeState → Result WholeState Refusal
+ok_of t = Ok t
+
+module _ (m : KeptMap) (keeps : IsKept m) (d : Repaint) (fits : Fits m.extent (parts_of (seen m)) (inverses.Tiles d)) where
+  abbrev suits : SuitsTiles m.extent (parts_of (seen m)) d
+  suits = fits.suits
+
+  abbrev past : Past
+  past = past_of (inverses.Tiles d) (parts_of (seen m))
+
+  abbrev now : Grid
+  now = with_tiles suits.grid d.patch
+
+  abbrev made : WholeState
+  made = repainted_state (seen m) d.name now
+
+  entries_are : past.parts.entries ≡ put_entry (entries_in m) d.name (source now)
+  entries_are = ap (repainted (entries_in m) d.name d.patch) suits.there
+
+  state_is : with_parts (seen m) past.parts ≡ made
+  state_is = ap (λ es. record (seen m) { names = with_entries (names_in m) es }) entries_are
+
+  lawful : IsLawful made
+  lawful = subst IsLawful state_is (reached_lawful (seen m) past.parts fits.reached)
+
+  change : IsGoodChange (entries_in m) d.name made.names.entries
+  change = record { good = good_of made lawful; makings = put_makings (entries_in m) d.name (source now) keeps.lawful.groups keeps.lawful.apart suits.plain tt }
+
+  only : ChangesOnly past.touch (names_in m) (with_entries (names_in m) past.parts.entries)
+  only = subst (λ es. ChangesOnly past.touch (names_in m) (with_entries (names_in m) es)) (sym entries_are)
+      (part_touched (names_in m) made.names d.name (rectangle_of d.rectangle) now refl change (find_put (entries_in m) d.name (source now)))
+
+  there : (i : ℕ) × (l : LayerState) × (position (bytes_eq d.name) m.sources.names.keys ≡ Some i) × (slice_get m.sources.layers.items i ≡ Some l)
+  there =
+      item_source m d.name keeps
+      (placed_item m d.name keeps (keeps.sources.stand d.name ∙ ap is_source_node (source_node (entries_in m) d.name keeps.lawful.groups keeps.lawful.apart suits.grid suits.there)))
+
+  abbrev layer : LayerState
+  layer = there.1
+
+  found_there : source_in m.sources d.name ≡ Some layer
+  found_there = source_at m.sources d.name there.0 there.2 ∙ there.3
+
+  own_grid : suits.grid ≡ grid_of layer
+  own_grid = let both : Some (source suits.grid) ≡ Some (source (grid_of layer)) = sym suits.there ∙ source_def m d.name keeps layer found_there in cc
+
+  own_change : IsOperand layer.size (change_by layer.size layer.cells d.patch.tiles)
+  own_change =
+      subst (λ (g : Grid). IsOperand g.size (change_by g.size g.cells d.patch.tiles)) own_grid
+      (subst (λ z. IsOperand z (change_by z suits.grid.cells d.patch.tiles)) (sym suits.sized) suits.operand)
+
+  pub back_repaint : (grid : Grid) × IsRepaintOf m (put_back past) grid d
+  back_repaint = (
+    now,
+    record {
+      plain = suits.plain;
+      said = reached_said (seen m) past fits.reached only;
+      touch = refl;
+      attempt = ap ok_of state_is;
+      lawful = lawful;
+      place = there.0;
+      layer = layer;
+      placed = there.2;
+      there = there.3;
+      grid_size = suits.sized;
+      size = suits.patch_sized ∙ sym suits.sized ∙ ap (λ (g : Grid). g.size) own_grid;
+      cells = ap (λ (g : Grid). patched g.size g.cells d.patch.tiles) (sym own_grid);
+      operand = own_change;
+      met = suits.met;
+    },
+  )

@@ -1,0 +1,59 @@
+use Rattle.std.proofs.Common.{◌≡◌, Ok, sym, ap, subst, ◌∙◌}
+use Rattle.map_edits.specs.Pasts.{parts_of}
+use Rattle.map_edits.specs.WholeEdits.{WholeEdit, put_back}
+use Rattle.map_edits.specs.WholeStates.{WholeState}
+use Rattle.kept_map.specs.Maps.{seen}
+use Rattle.kept_map.specs.Keeps.{IsKept}
+use Rattle.kept_map.specs.declared.maps.KeptMap.{KeptMap}
+use Rattle.live_engine.specs.Accepts.{Accepts, ReadsWithin}
+use Rattle.live_engine.specs.Drafts.{IsDraft}
+use Rattle.live_engine.specs.Inverses.{Fits, past_of}
+use Rattle.live_engine.specs.declared.drafts.Draft.{Draft}
+use Rattle.live_engine.specs.declared.inverses.Inverse.TheVariants as inverses
+use Rattle.live_engine.proofs.Putting.{back_draft}
+use Rattle.live_engine.proofs.Refusing.{refused_stays}
+use Rattle.live_engine.proofs.reverting.name_back.Goals as goal
+
+abbrev back_of : KeptMap → Draft → WholeEdit
+back_of m d = put_back (past_of (inverses.Name d) (parts_of (seen m)))
+
+-- a map that is seen the same takes the same draft
+same_draft : (m roomy : KeptMap) (d : Draft) → seen roomy ≡ seen m → IsKept roomy → Fits m.extent (parts_of (seen m)) (inverses.Name d) → IsDraft roomy (back_of m d) d
+same_draft m roomy d same keeps fits =
+    let there : Fits roomy.extent (parts_of (seen roomy)) (inverses.Name d) = subst (λ (s : WholeState). Fits s.names.size (parts_of s) (inverses.Name d)) (sym same) fits in
+    subst (λ (s : WholeState). IsDraft roomy (put_back (past_of (inverses.Name d) (parts_of s))) d) same (back_draft roomy keeps d there)
+
+pub carry-requires-clause-draft : goal.carry-requires-clause-draft
+carry-requires-clause-draft g c κs within =
+    let m = c.args.map.now in
+    let d = c.args.draft in
+    (back_of m d, same_draft m c.reserve.new.self d c.reserve.ensures.seen (c.reserve.ensures.kept c.requires.kept) c.requires.fits)
+
+pub returns-in-Ok-clause-reverted : goal.returns-in-Ok-clause-reverted
+returns-in-Ok-clause-reverted g c =
+    let m = c.args.map.now in
+    let d = c.args.draft in
+    let is = same_draft m c.reserve.new.self d c.reserve.ensures.seen (c.reserve.ensures.kept c.requires.kept) c.requires.fits in
+    subst (λ s. Accepts s (seen c.carry.new.map) (back_of m d) (Ok c.in-Ok.accepted)) c.reserve.ensures.seen (c.in-Ok.ensures.carried (back_of m d) is)
+
+pub returns-in-Ok-clause-reads : goal.returns-in-Ok-clause-reads
+returns-in-Ok-clause-reads g c =
+    let m = c.args.map.now in
+    let d = c.args.draft in
+    let is = same_draft m c.reserve.new.self d c.reserve.ensures.seen (c.reserve.ensures.kept c.requires.kept) c.requires.fits in
+    subst (λ s. ReadsWithin s (back_of m d) (g.M.Tally.counts c.args.tally.now) (g.M.Tally.counts c.carry.new.tally)) c.reserve.ensures.seen (c.carry.ensures.reads (back_of m d) is)
+
+pub returns-clause-reverted : goal.returns-clause-reverted
+returns-clause-reverted g c =
+    let m = c.args.map.now in
+    let d = c.args.draft in
+    let is = same_draft m c.reserve.new.self d c.reserve.ensures.seen (c.reserve.ensures.kept c.requires.kept) c.requires.fits in
+    let left = c.in-Err.ensures.carried (back_of m d) is in
+    (ap (λ q. inverses.Name q) left.0, refused_stays (seen c.reserve.new.self) (seen c.carry.new.map) (back_of m d) c.in-Err.left.refusal left.1 ∙ c.reserve.ensures.seen)
+
+pub returns-clause-reads : goal.returns-clause-reads
+returns-clause-reads g c =
+    let m = c.args.map.now in
+    let d = c.args.draft in
+    let is = same_draft m c.reserve.new.self d c.reserve.ensures.seen (c.reserve.ensures.kept c.requires.kept) c.requires.fits in
+    subst (λ s. ReadsWithin s (back_of m d) (g.M.Tally.counts c.args.tally.now) (g.M.Tally.counts c.carry.new.tally)) c.reserve.ensures.seen (c.carry.ensures.reads (back_of m d) is)
