@@ -23,5 +23,3 @@ mod shelves_and_sinks;
 mod steady_forms;
 #[cfg(test)]
 mod taken_whole;
-#[cfg(test)]
-mod undone;

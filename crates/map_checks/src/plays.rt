@@ -66,7 +66,7 @@ fn loaded<R: AllocGlobal + Threads + Sync>(
 }
 
 /// What is said to a line.
-pub(crate) fn said<R: AllocGlobal + Threads + Sync>(
+fn said<R: AllocGlobal + Threads + Sync>(
     rt: &R,
     session: &mut Session,
     line: &str,
