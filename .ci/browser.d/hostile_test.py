@@ -11,7 +11,7 @@ import threading
 import time
 
 from chromium import Chromium, wait
-from live_run import RELIEF, TOP, Case, Page
+from live_run import RELIEF, TOP, WATER, Case, Page
 
 PAINT = 'paint Crater 57 24 60 30 1'
 
@@ -88,7 +88,8 @@ class Requests(Case):
         """Each line is followed by one whose reply is known, so that a reply too many or too few would show."""
         odd = ['', ' ', '\t', '\r', '#', ' \t# x', '# x\r', '\r\r', '\x00', 'caf\u00e9', 'quit x', 'list\r', 'show Crater', 'grid Crater', 'stamps Crater',
                'legend Crater', 'table Crater Water', 'value Crater 1 1', 'grid Gone', 'ok 99 changed 0 evaluated 0 worked 0', 'x' * 4097, '#' * 4097,
-               'symbol Crater 1 k', 'label Crater 1 ok 50', 'undo', 'undo it', ' undo\t\r']
+               'symbol Crater 1 k', 'label Crater 1 ok 50', 'undo', 'undo it', ' undo\t\r', 'branch end', 'branch drop Gone end\r',
+               'branch new B 1;value B 1 1 ; drop Crater;drop Gone branch value Water 1 1 branch value B 1 1; C = LocalSum of Lake and 1 end']
         status, answer = self.run_of_live.say([line for kind in odd for line in (kind, 'value Elevation 68 31')])
         replies = [entry['reply'] for entry in answer['entries']]
         self.assertEqual((status, replies[1::2]), (200, ['value Elevation 68 31 195'] * len(odd)))
@@ -104,6 +105,19 @@ class Requests(Case):
         replies = [entry['reply'] for entry in answer['entries']]
         self.assertEqual((status, replies), (200, ['refused number 7', '', 'value Elevation 68 31 195', 'refused syntax 1',
                                                    'ok 2 changed 6 evaluated 6 worked 0', 'refused syntax 1', 'value X 68 31 196']))
+
+    def test_edits_of_branches_are_none(self):
+        branches = 'branch new B 1; drop Elevation; value Elevation 68 31 branch paint Crater 1 1 1 1 1; new B 1; drop B end'
+        for model, edits in ((WATER + branches.encode(), 6), (b'drop Elevation\nbranch new B 1 end\n', 2)):
+            self.run_of_live.end()
+            self.run_of_live = self.live(['run', '1', self.write('branches.model', model), f'Elevation={RELIEF}'])
+            self.assertEqual(self.run_of_live.state()['edits'], edits)
+            for line in (branches, 'branch end', 'branch drop Gone end'):
+                self.assertEqual(self.run_of_live.say([line])[1]['state']['edits'], edits)
+            _, answer = self.run_of_live.say([branches, 'new B 1'])
+            self.assertEqual(answer['state']['edits'], edits + 1)
+            self.assertEqual([entry['reply'].split('\n')[0] for entry in answer['entries']],
+                             ['branch 1', f'ok {edits + 1} changed 6 evaluated 6 worked 0'])
 
     def test_bodies_that_no_page_makes_are_refused(self):
         for body in ('', '[]', 'null', '{', '{"lines": 1, "shown": {}}', '{"lines": ["list"]}', '{"lines": [1], "shown": {}}',

@@ -25,6 +25,8 @@ RESERVED = OPERATIONS | {'FocalNeighbor'} | set(
 LONGEST_LINE = 4096
 NUMBER = re.compile('[+-]?[0-9]+')
 FORM = re.compile('[A-Za-z][A-Za-z0-9_]{0,31}')
+ITEMS = ('paint', 'new', 'drop', 'value')  # first words of what a branch may do, beside statements
+MOST_BRANCHES = 16
 
 
 def is_plain(text):
@@ -192,6 +194,24 @@ def parse_mark(words, kind):
     return kind, name, value, text
 
 
+def parse_item(words):
+    return parse_words(words, is_open=False) if is_plain(words.text) or words.text in ITEMS else words.refuse()
+
+
+def parse_branches(words):
+    """-> for each branch its items, each what a line of its own would say."""
+    branches = []
+    while not words.has('end'):
+        if len(branches) == MOST_BRANCHES:
+            words.refuse()
+        words.word('branch')
+        items = [parse_item(words)]
+        while words.has(';'):
+            items.append(parse_item(words))
+        branches.append(items)
+    return branches
+
+
 def parse_words(words, is_open):
     first = words.text
     if is_plain(first):
@@ -200,6 +220,8 @@ def parse_words(words, is_open):
         return 'define', name, parse_body(words)
     if first == 'model' and is_open:
         return words.take(), words.number(1, 2)
+    if first == 'branch':
+        return first, parse_branches(words)
     if first not in ('procedure', 'paint', 'new', 'drop', 'undo', 'value', 'grid', 'show', 'legend', 'table', 'stamps', 'list', 'quit'):
         words.refuse()
     words.take()

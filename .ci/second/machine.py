@@ -297,10 +297,26 @@ class Machine:
             lines.append(f'source {name}' if written is None else f'{name} = {print_body(written)}')
         return [f'list {len(lines)}'] + lines
 
+    def branched(self, branches):
+        """What each branch tells: its items as they were lines, from this machine on, which stays as it is."""
+        lines = []
+        for number, items in enumerate(branches, 1):
+            lines.append(f'branch {number}')
+            tried = self
+            for item in items:
+                try:
+                    tried, reply = (tried, tried.asked(*item)) if item[0] == 'value' else tried.edited(*item)
+                except Refused as refused:
+                    reply = [f'refused {refused}']
+                lines += reply
+        return lines
+
     def asked(self, kind, *parts):
         """The lines of the reply to a request."""
         if kind == 'list':
             return self.list()
+        if kind == 'branch':
+            return self.branched(*parts)
         for name in parts if kind == 'table' else parts[:1]:
             if name not in self.layers:
                 return [f'undefined {name}: {self.missing(name)}']

@@ -71,7 +71,7 @@ def play(machine, lines, is_model=False):
                 continue
             if said[0] == 'model':
                 machine = machine.speaking(said[1])
-            elif said[0] in ('value', 'grid', 'show', 'legend', 'table', 'stamps', 'list'):
+            elif said[0] in ('value', 'grid', 'show', 'legend', 'table', 'stamps', 'list', 'branch'):
                 put(machine.asked(*said))
             else:
                 machine, reply = machine.edited(*said)

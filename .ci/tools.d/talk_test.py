@@ -161,7 +161,7 @@ class Refusals(Talk):
     """The caret stands under the column, and a sentence says what is wrong. The prompt takes two columns."""
 
     def test_carets(self):
-        terminal = self.begun()
+        terminal = self.begun(columns=400)
         for line, column, reply, sentence in (
                 ('Wet = LocalSum of Heights', 26, 'syntax', 'the line ends too early: LocalSum of TERM and TERM {and TERM} [ignoring nulls]'),
                 ('Wet = LocalSum of Heights and 1 ignoring nulls', 33, 'syntax',
@@ -180,6 +180,17 @@ class Refusals(Talk):
                 ('of = LocalSum of Heights and 1', 1, 'syntax', "of is a word of the language, and can't be a name"),
                 ('new list 1', 5, 'syntax', "list is a word of the language, and can't be a name"),
                 ('value Heights 1 x', 17, 'syntax', "x can't stand here: value NAME ROW COL"),
+                ('branch value Heights 1 x end', 24, 'syntax', "x can't stand here: value NAME ROW COL"),
+                ('branch Wet = LocalSum of Heights and 1; paint Heights 1 4097 1 1 1 end', 57, 'number', 'rows and columns are 1 to 4096'),
+                ('branch Wet = LocalSum of Heights end', 34, 'syntax', "end can't stand here: LocalSum of TERM and TERM {and TERM} [ignoring nulls]"),
+                ('branch Wet = end', 14, 'operation', 'end is no operation'),
+                ('branch new list 1 end', 12, 'syntax', "list is a word of the language, and can't be a name"),
+                ('branch undo end', 8, 'syntax', "undo can't stand here: " + LINES['branch']),
+                ('branch end', 8, 'syntax', "end can't stand here: " + LINES['branch']),
+                ('branch value Heights 1 1; end', 27, 'syntax', "end can't stand here: " + LINES['branch']),
+                ('branch value Heights 1 1 end now', 30, 'syntax', "now can't stand here: " + LINES['branch']),
+                ('branch value Heights 1 1', 25, 'syntax', 'the line ends too early: ' + LINES['branch']),
+                ('branch drop X ' * 17 + 'end', 225, 'syntax', 'a line has at most 16 branches'),
                 ('Wet = ZonalSum of Heights', 26, 'syntax', 'the line ends too early: ZonalSum of TERM within ZONES'),
                 ('!', 1, 'syntax', "! can't stand here: NAME = OPERATION   or   NAME = PROCEDURE(TERM, ..)"),
                 ('label Heights 1 \x16\x09é', None, 'syntax', 'lines are plain ASCII, without accents and signs beyond it')):
@@ -250,6 +261,15 @@ class Refusals(Talk):
         shown, status = self.talk('run', '1', 'my.model', 'Heights=a.asc').end()
         self.assertIn('  my.model:2: paint Height 1 1 1 1 1', shown)
 
+    def test_a_line_of_the_model_after_branches(self):
+        """Their reply is one, however many branches and items there are, and whatever these were told."""
+        branches = ['branch new B 1; drop Gone;value B 1 1 branch value Heights 1 1 end', 'model 2', 'branch drop Heights; value Heights 1 1 end']
+        for last in ('branch drop Heights', 'undo', 'C = LocalSun of Heights and 1'):
+            self.write('my.model', '\n'.join([*branches, last]))
+            shown, status = self.talk('run', '1', 'my.model', 'Heights=a.asc').end()
+            self.assertEqual(status, 3)
+            self.assertIn(f'  my.model:4: {last}', shown)
+
     def test_a_line_of_the_model_after_one_without_a_reply(self):
         for model, number, line in (('value Heights 1 1\nmodel +2\nB = LocalMean of Heights and 1 ignoring nulls\nC = LocalSun of B and 1', 4, 'C = LocalSun of B and 1'),
                                     ('new B 1\n\nmodel 2\nC = LocalSun of B and 1', 3, 'model 2'), ('model 1\nlist\nmodel 2', 3, 'model 2'),
@@ -281,6 +301,8 @@ class Keys(Talk):
                             ('grid Slope.\t', 'grid Slope.rise '), ('table S\tH\t', 'table Slope Heights '), ('Sl\t\t', 'Slope = '),
                             ('.ma\tS\t', '.map Slope '), ('.save Slope fil\t', '.save Slope filled.asc '), ('.log fo\t', '.log folder/'),
                             ('.help IncrementalDr\t', '.help IncrementalDrainage '), ('drop Zzz\t', 'drop Zzz'), ('mod\t2', 'model 2'),
+                            ('bra\tpai\tHei\t1 1 1 1 nu\t; va\tSl\t1 1 en\t', 'branch paint Heights 1 1 1 1 null ; value Slope 1 1 end '),
+                            ('branch drop Slope bra\tWet = LocalPr\to\tHeights an\t2 ; ne\tB 1', 'branch drop Slope branch Wet = LocalProduct of Heights and 2 ; new B 1'),
                             ('Wet = LocalMea\tof H\tand 1 ig\tnu\t', 'Wet = LocalMean of Heights and 1 ignoring nulls '),
                             ('procedure p(aa): bb = LocalSum of a\tand b\t', 'procedure p(aa): bb = LocalSum of aa and bb ')):
             terminal.press(keys)
@@ -365,6 +387,17 @@ class Own(Talk):
         again, _ = program(['run', '1', '-', 'Heights=a.asc'], self.read('it.session') + b'stamps Wet\nstamps Heights\n', self.folder)
         self.assertEqual(again.decode().splitlines()[-len(stamped):], stamped)
 
+    def test_log_without_what_was_tried(self):
+        """Branches change nothing: their edits aren't in it, and their reply is shown to its end."""
+        terminal = self.begun()
+        self.assertEqual(terminal.line('branch new Mask 1; drop Heights; value Heights 1 1 branch drop Gone; value Heights 1 1 end'),
+                         ['branch 1', 'ok 2 changed 1 evaluated 1 worked 0', 'ok 3 changed 0 evaluated 0 worked 0', 'undefined Heights: Heights',
+                          'branch 2', 'refused unknown Gone', 'value Heights 1 1 1'])
+        self.assertEqual(terminal.line('value Mask 1 1')[0], 'undefined Mask: Mask')
+        terminal.line('new Mask 2')
+        self.assertEqual(terminal.line('.log it.session'), ['  # it.session: accepted edits: 1'])
+        self.assertEqual(self.read('it.session'), b'new Mask 2\n')
+
     def test_log_of_language_2(self):
         terminal = self.begun()
         self.assertEqual([terminal.line(line) for line in ('value Heights 1 1', 'model 2')], [['value Heights 1 1 1'], []])
@@ -379,6 +412,7 @@ class Own(Talk):
         self.assertEqual(terminal.line('.help FocalSum'), ['  # FocalSum of TERM [at RADIUS]', '  # ' + OPERATIONS['FocalSum'][1]])
         self.assertEqual(terminal.line('.help paint'), ['  # paint NAME ROW COL ROW COL CELL'])
         self.assertEqual(terminal.line('.help undo'), ['  # undo'])
+        self.assertEqual(terminal.line('.help branch'), ['  # ' + LINES['branch']])
         self.assertEqual(terminal.line('.help qqqqqq'), ['  # qqqqqq is no line and no operation'])
         self.assertIn('  # .save LAYER FILE  writes its grid, and beside it the .prj of the first grid', terminal.line('.help'))
         self.assertEqual(terminal.line('.mpa Heights'), ['  # .mpa is no line of the talk; did you mean .map?'])
@@ -407,6 +441,19 @@ class Language(Case):
         self.assertEqual([number for number, _ in replies.answered(lines)], [3, 5, 6, 7, 8])
         self.assertEqual([number for number, _ in replies.answered([b'new B 1', b'model 2'])], [1, 2])
         self.assertEqual([number for number, _ in replies.answered([b'list', b'model=2'])], [1, 2])
+        self.assertEqual([number for number, _ in replies.answered([b'branch drop A end', b'model 2', b'list', b'model 2'])], [1, 3, 4])
+
+    def test_lengths_of_replies(self):
+        """Of branches, by the line: as many as the program writes, whether there are blanks round `;` or none."""
+        self.grid('a.asc', [[1, 2]])
+        lines = ['branch drop A end', 'branch B=LocalSum of A and 1;value B 1 1;drop C branch value A 1 1 end', 'list',
+                 '\tbranch new C 1 ; C = LocalRating of A with 1 for 2 branch P = Q(A,1);value branch_1 1 1 branch paint A 1 1 1 2 7 end ', 'branch end', 'legend A']
+        out, _ = program(['run', '1', '-', 'A=a.asc'], '\n'.join([*lines, '']).encode(), self.folder)
+        told = out.decode().splitlines()[1:]
+        pairs = list(replies.paired(enumerate(map(str.encode, lines), 1), told))
+        self.assertEqual([reply[0].split()[0] for _, _, reply in pairs], ['branch', 'branch', 'list', 'branch', 'refused', 'legend'])
+        self.assertEqual([len(reply) for _, _, reply in pairs], [2, 6, 2, 8, 1, 3])
+        self.assertEqual(sum((reply for _, _, reply in pairs), []), told)
 
     def test_every_refusal_is_explained(self):
         """Random lines, most of which the program refuses, and some for each of the other causes: each refusal has a sentence."""
@@ -416,6 +463,8 @@ class Language(Case):
         lines = [random.choice(starts) + ' '.join(random.choices(words, k=random.randint(0, 5))) for _ in range(1200)]
         lines = [line for line in lines if line.strip() and line.split()[0] not in (*REQUESTS, 'model') or line.startswith('value')]
         lines += ['model', 'model 3', 'model 2 2', 'new Bb 1', 'model 2']
+        lines += ['branch', 'branch end', 'branch undo end', 'branch X = end', 'branch value A 1 1', 'branch value A 1 1; end', 'branch value A 1 1 ' * 17 + 'end',
+                  'branch paint A 1 1 4097 1 1 end', 'branch new A 1; X = LocalSum of A and 1000000000000001 end', 'branch drop A end end', 'branch new grid 1 end']
         lines = ['undo', *lines, 'drop Zz', 'new A 1', 'paint A 2 1 2 1 1', 'B = Zz(A)', 'procedure Pp(a): result = LocalSum of a and 1', 'B = Pp(A, A)', 'x' * 4097,
                   'B = LocalProduct of A and 1000000000000000', 'D = LocalSum of E and 1', 'E = LocalSum of D and 1', 'paint D 1 1 1 1 1']
         lines += [f'new S{number} 1' for number in range(40)] + [f'T{number} = LocalSum of A and 1' for number in range(70)]

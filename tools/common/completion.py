@@ -3,7 +3,7 @@
 import os
 import re
 
-from common.language import LINES, OPERATIONS, REQUESTS, RESERVED, words_with_columns
+from common.language import ITEMS, LINES, OPERATIONS, REQUESTS, RESERVED, item_of, words_with_columns
 
 OWN_LINES = {  # the talk's own lines
     '.map': ('.map LAYER', 'draws a layer in colours'),
@@ -50,6 +50,9 @@ def after(words, names):
     if not words:
         return [*LINES, *OWN_LINES, *names.layers()]
     first = words[0]
+    if first == 'branch':
+        item = item_of(words)
+        return [*after(item, names), 'branch', 'end'] if item else [*ITEMS, *names.layers()]
     if '=' in words:
         body = words[len(words) - words[::-1].index('='):]
         if not body:

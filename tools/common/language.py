@@ -21,6 +21,7 @@ OPERATIONS['FocalSum'].append('FocalSum of VIEWERS radiating on HEIGHTS [from NU
 REQUESTS = {
     'value': 'value NAME ROW COL', 'grid': 'grid NAME', 'show': 'show NAME', 'legend': 'legend NAME',
     'table': 'table ZONES VALUES', 'stamps': 'stamps NAME', 'list': 'list', 'quit': 'quit',
+    'branch': 'branch ITEM {; ITEM} {branch ITEM {; ITEM}} end, an ITEM being a statement, paint, new, drop or value',
 }
 EDITS = {
     'paint': 'paint NAME ROW COL ROW COL CELL', 'new': 'new NAME CELL', 'drop': 'drop NAME', 'label': 'label NAME NUMBER TEXT',
@@ -29,12 +30,15 @@ EDITS = {
 LINES = {**EDITS, **REQUESTS, 'model': 'model VERSION'}
 DEFINITIONS = ('NAME = OPERATION', 'NAME = PROCEDURE(TERM, ..)')
 RESERVED = {*OPERATIONS, *LINES, 'FocalNeighbor', *'''result null of and with for to at within spreading radiating in on from carrying
-    ignoring nulls branch end'''.split()}
+    ignoring nulls end'''.split()}
+ITEMS = ('paint', 'new', 'drop', 'value')  # first words of what a branch may do, beside statements
+MOST_BRANCHES = 16
 WORD = re.compile(r'[=(),;:]|[^ \t=(),;:]+')
 NAME = re.compile('[A-Za-z][A-Za-z0-9_]{0,31}')
 
 CELLS = 'a cell is a number from -1000000000000000 to 1000000000000000, or null'
 LANGUAGES = 'the language is 1 or 2'
+TOO_MANY_BRANCHES = f'a line has at most {MOST_BRANCHES} branches'
 LATE_MODEL = 'a line that sets the language stands before the first edit, and only once'
 OF_LANGUAGE_2 = 'ignoring nulls is of language 2, for which the line model 2 stands before the first edit'
 RANGES = {'at': 'a radius is 1 to 32', 'within': 'the reach of a view is 1 to 64, the limit of a way 0 to 1000000000000000'}
@@ -118,8 +122,19 @@ def words_with_columns(line):
     return [(found[0], found.start() + 1) for found in WORD.finditer(text)]
 
 
+def item_of(words):
+    """Of words that begin a line of branches, those of the last item; else all of them."""
+    if words[:1] != ['branch']:
+        return words
+    return words[1 + max(place for place, word in enumerate(words) if word in ('branch', ';')):]
+
+
 def forms_at(words, names):
     """The forms that hold where these words of a line stand: of the operation, the procedure or the line that they are part of."""
+    is_branch, words = words[:1] == ['branch'], item_of(words)
+    is_over = 'end' in (words[:-1] or words)
+    if is_branch and (not words or is_over or words[0] in LINES and words[0] not in ITEMS):
+        return [LINES['branch']]
     called = [word for before, word in zip(words, words[1:]) if before == '=']
     if called and called[-1] in OPERATIONS:
         return OPERATIONS[called[-1]]
@@ -135,17 +150,20 @@ def explain_place(kind, at, line, names):
     words = words_with_columns(line)
     before = [word for word, column in words if column < at]
     here = next((word for word, column in words if column == at), '')
-    forms = '   or   '.join(forms_at(before + [here] if here else before, names))
+    is_branch = before[:1] == ['branch']
+    forms = '   or   '.join(forms_at(before + [here] if here else before[:1] if is_branch else before, names))
     if kind == 'operation':
         return or_nearest(f'{here} is no operation', here, [*OPERATIONS, *names.procedures])
     if kind == 'number':
-        return explain_number(before)
+        return explain_number(item_of(before))
     if at <= len(line) and not 0x20 <= line[at - 1] <= 0x7E:
         return 'lines are plain ASCII, without accents and signs beyond it'
     if not line[at - 1:].strip(b' \t'):
         return f'the line ends too early: {forms}'
     if here == 'model' and not before:
         return LATE_MODEL
+    if here == 'branch' and before.count(here) == MOST_BRANCHES:
+        return TOO_MANY_BRANCHES
     if here == 'ignoring' and before[-2:-1] == ['and'] and here in forms:
         return OF_LANGUAGE_2
     if here in RESERVED and (not before or before[-1] in ('new', 'procedure', '=', 'of', 'and', 'in', 'on', 'within', 'carrying', ',', '(')):

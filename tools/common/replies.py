@@ -2,7 +2,7 @@
 
 import re
 
-from common.language import REQUESTS
+from common.language import REQUESTS, words_with_columns
 
 WIDEST_LINE = 4096
 BLANKS = b' \t'
@@ -35,14 +35,34 @@ def answered(lines):
             is_open = is_open and line.split()[:1] in ASKING
 
 
-def length(lines, first):
-    """How many lines the reply has whose first line this is."""
+def length_of_branches(line):
+    """How many lines the reply has to a line of branches that is accepted: one for each branch, and one for each item."""
+    words = [word for word, _ in words_with_columns(line)]
+    return 2 * words.count('branch') + words.count(';')
+
+
+def length(lines, first, line=b''):
+    """How many lines the reply has whose first line this is. Those of branches are told by the line of bytes that it answers; where that isn't
+    given, each of them is taken for a reply."""
     words = lines[first].split()
+    if words[:1] == ['branch'] and line:
+        return length_of_branches(line)
     if words[:1] == ['ncols'] and first + 1 < len(lines):
         return HEADER + int(lines[first + 1].split()[1])
     if words and words[0] in COUNTED:
         return 1 + int(words[COUNTED[words[0]]])
     return 1
+
+
+def paired(answered, lines):
+    """Each answered line with its number, as above, and the lines of its reply, as long as there are any."""
+    first = 0
+    for number, line in answered:
+        if first >= len(lines):
+            return
+        after = first + length(lines, first, line)
+        yield number, line, lines[first:after]
+        first = after
 
 
 def split(lines):

@@ -7,7 +7,7 @@ import select
 import subprocess
 import time
 
-from common.replies import BLANKS, COUNTED, HEADER, WIDEST_LINE, is_answered, sets_language
+from common.replies import BLANKS, COUNTED, HEADER, WIDEST_LINE, is_answered, length_of_branches, sets_language
 
 WIDEST_PIPE = 1 << 20
 PIECE = 1 << 20
@@ -42,9 +42,11 @@ def is_mark(reply):
     return reply.startswith((b'undefined ' + MARK, b'value ' + MARK))
 
 
-def lines_after(first, second):
-    """How many lines come after the first one of a reply; `second` gives the second line where it is needed."""
+def lines_after(first, second, line):
+    """How many lines come after the first one of the reply to a line; `second` gives the second one where it is needed."""
     words = first.split()
+    if words[:1] == [b'branch']:
+        return length_of_branches(line) - 1
     if words[:1] == [b'ncols']:
         return HEADER - 1 + int(second().split()[1])
     word = words[0].decode('latin-1') if words else ''
@@ -147,18 +149,18 @@ class Program:
     def reply_to(self, line):
         if is_quit(line) or not is_answered(line.removesuffix(b'\r')):
             return None
-        reply = self.reply()
+        reply = self.reply(line)
         if not sets_language(line):
             return reply
         if is_mark(reply.text):
             return None
-        self.reply()  # the mark's
+        self.reply(ASK_FOR_MARK)
         return reply
 
-    def reply(self):
+    def reply(self, line):
         first = self.end_of_line(self.place)
         end = first
-        for _ in range(lines_after(bytes(self.unread[self.place:first]), lambda: self.unread[first:self.end_of_line(first)])):
+        for _ in range(lines_after(bytes(self.unread[self.place:first]), lambda: self.unread[first:self.end_of_line(first)], line)):
             end = self.end_of_line(end)
         return Reply(self.taken(end), self.passed())
 

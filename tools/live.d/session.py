@@ -11,7 +11,7 @@ from bisect import bisect_left
 
 from common.grid_text import TILE
 from common.language import Names, explain, refused_column
-from common.replies import HEADER, split
+from common.replies import HEADER
 from program import Ended, is_quit
 
 DEAR_AS_CELLS = 40  # asking for one cell takes about as long as printing so many of a grid
@@ -71,8 +71,8 @@ class Session:
         """Reads what is written before the first line of the session; answers it. Ended where no session comes about."""
         text = self.program.beginning()
         self.keep(text)
-        self.count_edits(reply[0] for reply in split(text.decode('latin-1').splitlines()))
         self.learn_names()
+        self.learn_edits()
         return text
 
     # What pages send
@@ -151,6 +151,13 @@ class Session:
 
     def learn_names(self):
         self.names = Names(self.ask(b'list')[0].text.decode('latin-1').splitlines()[1:])
+
+    def learn_edits(self):
+        """How many edits there were before the first line, from the number that one more would have. What was written doesn't tell it: the
+        reply to an edit of a branch looks as if there had been one."""
+        layers = self.names.layers()
+        tried = f'drop {layers[0]}' if layers else 'new Any 1'
+        self.edits = int(self.ask(f'branch {tried} end'.encode())[0].text.split()[3]) - 1
 
     # What pages ask
 

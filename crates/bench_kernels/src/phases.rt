@@ -4,7 +4,7 @@
 //! the carry past 64 bits, so that two runs that differ in the workers can be compared. `bench/phases` tells the times from such
 //! runs.
 
-ghost use Rattle.std.specs.Prelude.{ℕ, ◌^◌, ◌<◌};
+ghost use Rattle.std.specs.Prelude.{ℕ, ◌^◌, ◌<◌, ⊤};
 
 use crate::maps::number_at;
 use layer_tiles::Tally;
@@ -23,6 +23,8 @@ struct Steps {
 
 impl Work for Steps {
     type Done = u64;
+
+    ghost ready = { λ _. ⊤ };
 
     ghost jobs = { λ s. s.jobs };
 

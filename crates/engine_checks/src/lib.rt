@@ -5,6 +5,8 @@
 #[cfg(test)]
 mod alike;
 #[cfg(test)]
+mod branches;
+#[cfg(test)]
 mod calls;
 #[cfg(test)]
 mod displays;

@@ -31,3 +31,6 @@ pub mod Committed
 pub mod Settling
 pub mod Ready
 pub mod FaultNames
+pub mod CopiedNames
+pub mod CopiedSteps
+pub mod SameViews

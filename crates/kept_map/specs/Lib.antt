@@ -11,3 +11,4 @@ pub mod Planning
 pub mod Repairs
 pub mod Commits
 pub mod Asked
+pub mod Copies

@@ -5,6 +5,7 @@
 //! repairs them where the plan stays; both take all the memory that is wanted. [`put_in_place`] takes none, and can't fail.
 #![tactic(auto)]
 
+mod copying;
 mod flats;
 mod halts;
 mod maps;

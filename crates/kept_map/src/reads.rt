@@ -1,6 +1,6 @@
 //! What is told of the layers of a map.
 
-ghost use Rattle.std.specs.Prelude.{◌≡◌, IfOk};
+ghost use Rattle.std.specs.Prelude.{◌≡◌, IfOk, option_map, unwrap_or};
 ghost use Rattle.kept_map.specs.Maps.{seen};
 ghost use Rattle.kept_map.specs.Keeps.{IsKept};
 ghost use Rattle.kept_map.specs.Asked.{TellsLayer};
@@ -13,6 +13,18 @@ use map_words::Name;
 #[derive(Clone, Copy)]
 pub struct Missing<'a> {
     pub name: Option<&'a Name>,
+}
+
+impl<'a> Missing<'a> {
+    /// The first missing name, the name itself where it isn't there.
+    pub fn or(self, own: &'a Name) -> &'a Name
+        ensures { result.now ≡ unwrap_or (option_map (λ b. b.now) self.entry.name) own.now }
+    {
+        match self.name {
+            None => own,
+            Some(missing) => missing,
+        }
+    }
 }
 
 impl KeptMap {

@@ -7,7 +7,7 @@ use Rattle.std.proofs.lemmas.List.FromFn.{get_or-range_with_len, length-map-rang
 use Rattle.std.proofs.lemmas.Nat.{mul-add-lt}
 use Rattle.map_nums.specs.Grids.{Size, IsSize, Cells, cells_in, constant}
 use Rattle.layer_tiles.specs.Tiles.{Block, IsBlockOf, tile_block, tile_height, tile_width, tile_size, tile_start, tiles_in}
-use Rattle.layer_tiles.specs.Patches.{PatchState, IsPatch, HoldsAll, IsAboveLast, patch_get, numbers_of, patched}
+use Rattle.layer_tiles.specs.Patches.{PatchState, HoldsAll, IsAboveLast, patch_get, numbers_of, patched}
 use Rattle.layer_tiles.specs.Layers.{LayerState, IsLayer, layer_of}
 use Rattle.layer_tiles.specs.Wholes.{IsWhole, IsTiled, IsCut, tiles_below}
 use Rattle.layer_tiles.proofs.Found.{Contains-from_get, HoldsAll-from_numbers}
@@ -102,12 +102,6 @@ cut_whole s cells p h n i =
   where
     held : (t : ℕ) → IsSome (patch_get p.tiles t) → patch_get p.tiles t ≡ None → ⊥
     held t some none = cc
-
-pub cut_tiled : (s : Size) (cells : Cells) (p : PatchState) → IsPatch p → IsCut s cells (tiles_in s) p → IsWhole s p.tiles
-cut_tiled s cells p q i = record {
-  patch = subst (λ (z : Size). IsPatch (record { size = z; tiles = p.tiles })) i.size q;
-  all = subst (λ (z : Size). HoldsAll (record { size = z; tiles = p.tiles })) i.size (cut_all s cells p i);
-}
 
 pub cut_layer : (s : Size) (cells : Cells) (stamp : ℕ) (p : PatchState) (layer : LayerState) → IsSize s → length cells ≡ cells_in s → IsCut s cells (tiles_in s) p → layer ≡ layer_of p.size (patched p.size [] p.tiles) stamp → layer ≡ layer_of s cells stamp
 cut_layer s cells stamp p layer h n i e = rw (e, i.size, cut_whole s cells p h n i) refl

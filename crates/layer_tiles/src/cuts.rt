@@ -1,17 +1,15 @@
 //! Patches of all the tiles of a grid.
-ghost use Rattle.std.specs.Prelude.{◌≡◌, ◌<◌, [], length, IfOk};
+ghost use Rattle.std.specs.Prelude.{◌≡◌, ◌<◌, length, IfOk};
 ghost use Rattle.map_nums.specs.Grids.{IsSize, cells_in, constant};
 ghost use Rattle.layer_tiles.specs.Cells.{AreCells};
 ghost use Rattle.layer_tiles.specs.Tiles.{tiles_in, tile_block};
-ghost use Rattle.layer_tiles.specs.Patches.{patched};
-ghost use Rattle.layer_tiles.specs.Wholes.{IsWhole, IsCut};
+ghost use Rattle.layer_tiles.specs.Wholes.{IsCut};
 
 use crate::cells::Cell;
 use crate::extents::Extent;
 use crate::patches::Patch;
 use crate::tiles::Tile;
 use crate::views::TileView;
-use crate::wholes::whole_view;
 use map_nums::NoMemory;
 use std::alloc::Global;
 
@@ -57,24 +55,6 @@ pub(crate) fn constant_tiles(alloc: Global, extent: Extent, cell: Cell) -> Resul
     let mut patch = Patch::new(alloc, extent);
     for number in 0..extent.tiles() {
         let tile = Tile::new(alloc, extent, number, cell)?;
-        patch.push(number, tile)?;
-    }
-    Ok(patch)
-}
-
-/// Copies of all tiles.
-pub(crate) fn copied_tiles(
-    alloc: Global,
-    extent: Extent,
-    tiles: &[(u32, Tile)],
-) -> Result<Patch, NoMemory>
-    requires { IsWhole extent tiles.now }
-    ensures size { IsSize extent }
-    ensures cut { IfOk result (λ patch. IsCut extent (patched extent [] tiles.now) (tiles_in extent) patch) }
-{
-    let mut patch = Patch::new(alloc, extent);
-    for number in 0..extent.tiles() {
-        let tile = whole_view(extent, tiles, number).to_tile(alloc)?;
         patch.push(number, tile)?;
     }
     Ok(patch)

@@ -10,11 +10,11 @@ ghost use Rattle.layer_tiles.specs.Tallies.{looked, picked};
 ghost use Rattle.layer_tiles.specs.Runs.{run_length, IsRun};
 
 use crate::cells::{Cell, are_cells};
-use crate::cuts::{constant_tiles, copied_tiles, cut_tiles};
+use crate::cuts::{constant_tiles, cut_tiles};
 use crate::extents::Extent;
 use crate::patches::Patch;
+use crate::shared::{SharedTile, shared_tiles};
 use crate::tallies::Tally;
-use crate::tiles::Tile;
 use crate::views::TileView;
 use crate::wholes::{whole_cell, whole_run, whole_view};
 use crate::windows::{Window, span};
@@ -28,7 +28,7 @@ use std::marker::Model;
 pub struct Layer {
     extent: Extent,
     /// All tiles in order, with their numbers: the list of a patch that holds every tile.
-    tiles: Vec<(u32, Tile)>,
+    tiles: Vec<(u32, SharedTile)>,
     stamps: Vec<u64>,
 }
 
@@ -104,13 +104,13 @@ impl Layer {
         layer
     }
 
+    /// The same grid with the same stamps. The tiles are shared, and no cell is copied.
     pub fn copy(&self, alloc: Global) -> Result<Layer, NoMemory>
         ensures { IfOk result (λ layer. layer ≡ self.now) }
     {
-        let patch = copied_tiles(alloc, self.extent, &self.tiles)?;
         Ok(Layer {
             extent: self.extent,
-            tiles: patch.into_tiles(),
+            tiles: shared_tiles(alloc, &self.tiles)?,
             stamps: Vec::from_slice(alloc, &self.stamps)?,
         })
     }

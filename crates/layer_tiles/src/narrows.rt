@@ -6,11 +6,15 @@ ghost use Rattle.layer_tiles.specs.Narrowed.{is_same_tile, narrowed};
 ghost use Rattle.layer_tiles.specs.Tallies.{looked};
 
 use crate::layers::Layer;
+use crate::shared::SharedTile;
 use crate::tallies::Tally;
-use crate::tiles::Tile;
 
 /// Keeps the tiles that differ from the layer's, in order. Two looks each.
-pub(crate) fn narrow_tiles<M: Tally>(layer: &Layer, tiles: &mut Vec<(u32, Tile)>, tally: &mut M)
+pub(crate) fn narrow_tiles<M: Tally>(
+    layer: &Layer,
+    tiles: &mut Vec<(u32, SharedTile)>,
+    tally: &mut M,
+)
     requires { IsPatch (record { size = layer.now.size; tiles = tiles.old.items }) }
     ensures tiles { tiles.new.items ≡ narrowed layer.now.size layer.now.cells tiles.old.items }
     ensures looks { M.counts tally.new ≡ looked (2 * length tiles.old.items) (M.counts tally.old) }
@@ -26,7 +30,7 @@ pub(crate) fn narrow_tiles<M: Tally>(layer: &Layer, tiles: &mut Vec<(u32, Tile)>
 }
 
 /// Whether a numbered tile is the layer's. Two looks.
-fn is_layers<M: Tally>(layer: &Layer, entry: &(u32, Tile), tally: &mut M) -> bool
+fn is_layers<M: Tally>(layer: &Layer, entry: &(u32, SharedTile), tally: &mut M) -> bool
     requires within { entry.now.0 < tiles_in layer.now.size }
     requires size { IsBlockOf layer.now.size entry.now.0 entry.now.1 }
     ensures same { result ≡ is_same_tile layer.now.size layer.now.cells entry.now }
@@ -34,5 +38,5 @@ fn is_layers<M: Tally>(layer: &Layer, entry: &(u32, Tile), tally: &mut M) -> boo
 {
     tally.look();
     let old = layer.view(entry.0, tally);
-    old.same(&entry.1.view())
+    old.same(&entry.1.tile().view())
 }

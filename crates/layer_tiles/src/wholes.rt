@@ -8,21 +8,22 @@ ghost use Rattle.layer_tiles.specs.Runs.{run_length, IsRun};
 
 use crate::cells::Cell;
 use crate::extents::Extent;
+use crate::shared::SharedTile;
 use crate::tiles::Tile;
 use crate::views::TileView;
 
 /// The tile of a number.
-fn tile_at(extent: Extent, tiles: &[(u32, Tile)], number: u32) -> &Tile
+fn tile_at(extent: Extent, tiles: &[(u32, SharedTile)], number: u32) -> &Tile
     requires whole { IsWhole extent tiles.now }
     requires within { number < tiles_in extent }
     ensures { patch_get tiles.now number ≡ Some result.now }
 {
     let entry = &tiles[number as usize];
-    &entry.1
+    entry.1.tile()
 }
 
 /// A tile, lent.
-pub(crate) fn whole_view(extent: Extent, tiles: &[(u32, Tile)], number: u32) -> TileView<'_>
+pub(crate) fn whole_view(extent: Extent, tiles: &[(u32, SharedTile)], number: u32) -> TileView<'_>
     requires whole { IsWhole extent tiles.now }
     requires within { number < tiles_in extent }
     ensures { result ≡ tile_block extent (patched extent [] tiles.now) number }
@@ -31,7 +32,7 @@ pub(crate) fn whole_view(extent: Extent, tiles: &[(u32, Tile)], number: u32) -> 
 }
 
 /// One cell.
-pub(crate) fn whole_cell(extent: Extent, tiles: &[(u32, Tile)], at: u32) -> Cell
+pub(crate) fn whole_cell(extent: Extent, tiles: &[(u32, SharedTile)], at: u32) -> Cell
     requires whole { IsWhole extent tiles.now }
     requires within { at < cells_in extent }
     ensures { result ≡ cell_at (patched extent [] tiles.now) at }
@@ -42,7 +43,12 @@ pub(crate) fn whole_cell(extent: Extent, tiles: &[(u32, Tile)], at: u32) -> Cell
 }
 
 /// The cells from one on, to the end of its row within its tile.
-pub(crate) fn whole_run(extent: Extent, tiles: &[(u32, Tile)], at: u32, count: usize) -> &[Cell]
+pub(crate) fn whole_run(
+    extent: Extent,
+    tiles: &[(u32, SharedTile)],
+    at: u32,
+    count: usize,
+) -> &[Cell]
     requires whole { IsWhole extent tiles.now }
     requires within { at < cells_in extent }
     requires count { count ≡ run_length extent at }

@@ -28,6 +28,20 @@ fn refused_words(rt: HostRuntime) {
 }
 
 #[test]
+fn refused_branches(rt: HostRuntime) {
+    refused(&rt, b"branch", LineRefusal::Syntax(7));
+    refused(&rt, b"branch end", LineRefusal::Syntax(8));
+    refused(&rt, b"branch value A 1 1", LineRefusal::Syntax(19));
+    refused(&rt, b"branch X = end", LineRefusal::Operation(12));
+    refused(&rt, b"branch paint A 1 1 1 1 end", LineRefusal::Syntax(24));
+    refused(&rt, b"branch value A 1 4097 end", LineRefusal::Number(18));
+    refused(&rt, b"branch label A 1 x end", LineRefusal::Syntax(8));
+    refused(&rt, b"branch undo end", LineRefusal::Syntax(8));
+    refused(&rt, b"branch drop A; end", LineRefusal::Syntax(16));
+    refused(&rt, b"branch drop A end x", LineRefusal::Syntax(19));
+}
+
+#[test]
 fn refused_news(rt: HostRuntime) {
     refused(&rt, b"new of 1", LineRefusal::Syntax(5));
     refused(&rt, b"new C 1000000000000001", LineRefusal::Number(7));
@@ -120,6 +134,43 @@ fn rates_end_at_thirty_two(rt: HostRuntime) -> Result<(), Fail> {
     rated(&rt, 33, Some(LineRefusal::Syntax(438)))
 }
 
+/// A line of so many branches of one item.
+fn branched(alloc: Global, count: u32) -> Result<Vec<u8>, Fail> {
+    let mut line = Vec::new(alloc);
+    for _ in 0..count {
+        line.extend_from_slice(b"branch drop A ")?;
+    }
+    line.extend_from_slice(b"end")?;
+    Ok(line)
+}
+
+#[test]
+fn branches_end_at_sixteen(rt: HostRuntime) -> Result<(), Fail> {
+    let sixteen = branched(rt.alloc(), 16)?;
+    assert_eq!(rt; refusal(rt.alloc(), Table::Program, &sixteen), None);
+    let more = branched(rt.alloc(), 17)?;
+    refused(&rt, &more, LineRefusal::Syntax(225));
+    Ok(())
+}
+
+/// A line of 4,096 bytes of one branch.
+fn longest_branch(alloc: Global) -> Result<Vec<u8>, Fail> {
+    let mut line = Vec::from_slice(alloc, b"branch new A 1")?;
+    for _ in 0..582 {
+        line.extend_from_slice(b";drop A")?;
+    }
+    line.extend_from_slice(b" end    ")?;
+    Ok(line)
+}
+
+#[test]
+fn longest_branch_is_read(rt: HostRuntime) -> Result<(), Fail> {
+    let line = longest_branch(rt.alloc())?;
+    assert_eq!(rt; line.len(), 4096);
+    has_form(&rt, &line, "a branch of 583 items");
+    Ok(())
+}
+
 /// A line has this form.
 fn has_form(rt: &(impl AllocGlobal + Abort), line: &[u8], want: &str) {
     match look_at(rt.alloc(), Table::Program, line) {
@@ -137,6 +188,7 @@ fn each_form_is_read(rt: HostRuntime) {
     has_form(&rt, b"list", "list");
     has_form(&rt, b"value A.b 1 2", "value at 1 2");
     has_form(&rt, b"drop Q", "drop");
+    has_form(&rt, b"branch drop A end", "branches");
     has_form(&rt, b"paint A 1 2 3 4 null", "paint from 1 2 to 3 4");
 }
 

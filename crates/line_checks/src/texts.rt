@@ -1,7 +1,7 @@
 //! What is seen of lines that are read.
 use map_nums::{Stat, Value};
 use statement_parser::{
-    Command, Form, Language, Line, LineEdit, LineRefusal, Operation, Place, Request, Rows,
+    Command, Form, Item, Language, Line, LineEdit, LineRefusal, Operation, Place, Request, Rows,
     parse_line, print_procedure, print_written,
 };
 use std::alloc::Global;
@@ -33,7 +33,7 @@ const OPERATIONS: [Operation; 11] = [
     Operation::Drainage,
 ];
 
-const COMMANDS: [Command; 16] = [
+const COMMANDS: [Command; 17] = [
     Command::Model,
     Command::Procedure,
     Command::Paint,
@@ -42,6 +42,7 @@ const COMMANDS: [Command; 16] = [
     Command::Label,
     Command::Symbol,
     Command::Undo,
+    Command::Branch,
     Command::Value,
     Command::Grid,
     Command::Show,
@@ -107,7 +108,15 @@ fn form_of_request(request: &Request) -> &'static str {
     match request {
         Request::List => "list",
         Request::Value { r, c, .. } if *r == 1 && *c == 2 => "value at 1 2",
+        Request::Branch(branches) => form_of_branches(branches.as_slice()),
         _ => "another",
+    }
+}
+
+fn form_of_branches(branches: &[Vec<Item>]) -> &'static str {
+    match branches {
+        [only] if only.len() == 583 => "a branch of 583 items",
+        _ => "branches",
     }
 }
 

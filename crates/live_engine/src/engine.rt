@@ -31,6 +31,7 @@ use crate::reverting::revert;
 use kept_map::{Item, KeptMap, Missing};
 use layer_tiles::{Extent, Layer, Tally};
 use map_marks::Marks;
+use map_nums::NoMemory;
 use map_words::Name;
 use statement_parser::{LineEdit, Procedure, Written};
 use std::alloc::Global;
@@ -131,6 +132,14 @@ impl Engine {
         Engine {
             map: KeptMap::new(alloc, extent),
         }
+    }
+
+    /// An engine of the same state, which is edited on its own. Nothing is lent, and nothing is counted as read.
+    pub fn copy(&self, alloc: Global) -> Result<Engine, NoMemory>
+        ensures { IfOk result (λ engine. engine ≡ self.now) }
+    {
+        let map = self.map.copy(alloc)?;
+        Ok(Engine { map })
     }
 
     /// Makes an edit by so many workers, 1 to 64, and answers its number and its counts; or refuses it and changes nothing.

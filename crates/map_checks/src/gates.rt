@@ -3,6 +3,7 @@
 use map_outside::{Counts, MemoryShelf, MemorySink, MemorySource};
 use map_run::{Status, run};
 use std::alloc::{AllocError, Global};
+use std::process::Abort;
 use std::sync::atomic::{AtomicU64, Ordering};
 use std::test::Fail;
 use std::thread::Threads;
@@ -10,27 +11,59 @@ use tile_workers::Gate;
 
 const WORDS: [&str; 4] = ["run", "2", "-", "A=a"];
 
-const HEADER: &[u8] = b"ncols 33\nnrows 33\nxllcorner 0\nyllcorner 0\ncellsize 1\n";
+/// A grid, a session on it, and what is counted and held meanwhile.
+#[derive(Clone, Copy)]
+struct Case {
+    header: &'static [u8],
+    row: &'static [u8],
+    rows: u32,
+    session: &'static [u8],
+    replies: &'static [u8],
+    /// Entries with ticket 0 that are held, by their number from 0, each until so many entries with ticket 1 were made.
+    holds: [(u64, u64); 2],
+    /// How many entries there are with ticket 0, and with ticket 1.
+    entries: (u64, u64),
+}
 
-const ROW: &[u8] = b"1 1 1 1 1 1 1 1 1 1 1 1 1 1 1 1 1 1 1 1 1 1 1 1 1 1 1 1 1 1 1 1 1\n";
+/// No entry with ticket 0 has this number.
+const NONE: u64 = u64::MAX;
 
-const SESSION: &[u8] = b"B = FocalSum of A\nC = FocalProximity of A\npaint A 32 32 32 32 2\n";
+// The first definition has a job for each of four tiles, the second one job, and the paint one for each tile of the sum and one for
+// the costs, of which no repair is known.
+const REPAIRS: Case = Case {
+    header: b"ncols 33\nnrows 33\nxllcorner 0\nyllcorner 0\ncellsize 1\n",
+    row: b"1 1 1 1 1 1 1 1 1 1 1 1 1 1 1 1 1 1 1 1 1 1 1 1 1 1 1 1 1 1 1 1 1\n",
+    rows: 33,
+    session: b"B = FocalSum of A\nC = FocalProximity of A\npaint A 32 32 32 32 2\n",
+    replies: b"ok 1 changed 4 evaluated 4 worked 0\nok 2 changed 4 evaluated 4 worked 0\nok 3 changed 4 evaluated 4 worked 2178\nok 4 changed 5 evaluated 6 worked 1\n",
+    holds: [(0, 1), (2, 2)],
+    entries: (3, 2),
+};
 
-const REPLIES: &[u8] =
-    b"ok 1 changed 4 evaluated 4 worked 0\nok 2 changed 4 evaluated 4 worked 0\nok 3 changed 4 evaluated 4 worked 2178\nok 4 changed 5 evaluated 6 worked 1\n";
+// The definition has one job, and the line of branches one for each branch; of the jobs of a branch's edits no gate is told.
+const BRANCHES: Case = Case {
+    header: b"ncols 3\nnrows 3\nxllcorner 0\nyllcorner 0\ncellsize 1\n1 2 3\n4 5 6\n",
+    row: b"7 8 9\n",
+    rows: 1,
+    session: b"B = LocalSum of A and 3\nbranch paint A 1 1 1 1 5; value B 1 1 branch C = LocalSum of B and B; value C 3 3; drop Z end\n",
+    replies: b"ok 1 changed 1 evaluated 1 worked 0\nok 2 changed 1 evaluated 1 worked 0\nbranch 1\nok 3 changed 2 evaluated 2 worked 0\nvalue B 1 1 8\nbranch 2\nok 3 changed 1 evaluated 1 worked 0\nvalue C 3 3 24\nrefused unknown Z\n",
+    holds: [(1, 1), (NONE, 0)],
+    entries: (2, 1),
+};
 
-/// Counts the entries with ticket 0 and those with ticket 1. The first entry with ticket 0 is held until an entry with ticket 1
-/// was made, and the third until two were, each for so many turns at most; no other entry is held.
+/// Counts the entries with ticket 0 and those with ticket 1, and holds some of the former, each for so many turns at most.
 #[derive(Drop)]
 struct Turnstile {
+    holds: [(u64, u64); 2],
     zeros: AtomicU64,
     ones: AtomicU64,
     late: AtomicU64,
 }
 
 impl Turnstile {
-    fn new() -> Self {
+    fn new(holds: [(u64, u64); 2]) -> Self {
         Turnstile {
+            holds,
             zeros: AtomicU64::new(0),
             ones: AtomicU64::new(0),
             late: AtomicU64::new(0),
@@ -54,10 +87,11 @@ impl Gate for Turnstile {
             self.ones.fetch_add(1, Ordering::SeqCst);
         }
         if ticket == 0 {
-            match self.zeros.fetch_add(1, Ordering::SeqCst) {
-                0 => self.hold(1),
-                2 => self.hold(2),
-                _ => {}
+            let entry = self.zeros.fetch_add(1, Ordering::SeqCst);
+            for (held, ones) in self.holds {
+                if entry == held {
+                    self.hold(ones);
+                }
             }
         }
     }
@@ -71,25 +105,26 @@ fn words_of(alloc: Global) -> Result<Vec<String>, AllocError> {
     Ok(words)
 }
 
-/// A grid of 33 by 33 cells, of four tiles, in which each cell is 1.
-fn grid_of(alloc: Global) -> Result<Vec<u8>, AllocError> {
-    let mut text = HEADER.to_vec(alloc)?;
-    for _row in 0..33u32 {
-        text.extend_from_slice(ROW)?;
+/// The text of a grid.
+fn grid_of(alloc: Global, case: Case) -> Result<Vec<u8>, AllocError> {
+    let mut text = case.header.to_vec(alloc)?;
+    for _row in 0..case.rows {
+        text.extend_from_slice(case.row)?;
     }
     Ok(text)
 }
 
-/// How a run of the words and the session ends, and what it writes. The gate is told of each job.
+/// How a run of the words and a session ends, and what it writes. The gate is told of each job.
 fn play<G: Gate + Sync, R: AllocGlobal + Threads + Sync>(
     rt: &R,
     words: &[String],
+    case: Case,
     gate: &G,
 ) -> Result<(Status, Vec<u8>), AllocError> {
     let alloc = rt.alloc();
-    let files = vec![in alloc; (String::from_str(alloc, "a")?, grid_of(alloc)?)]?;
+    let files = vec![in alloc; (String::from_str(alloc, "a")?, grid_of(alloc, case)?)]?;
     let mut shelf = MemoryShelf::new(files, Vec::new(alloc));
-    let mut source = MemorySource::new(SESSION.to_vec(alloc)?, 4096, Vec::new(alloc));
+    let mut source = MemorySource::new(case.session.to_vec(alloc)?, 4096, Vec::new(alloc));
     let mut sink = MemorySink::new(alloc, Vec::new(alloc));
     let mut tally = Counts::new();
     let status = run(
@@ -105,16 +140,27 @@ fn play<G: Gate + Sync, R: AllocGlobal + Threads + Sync>(
     Ok((status, sink.bytes().to_vec(alloc)?))
 }
 
-// The first definition has a job for each of four tiles, the second one job, and the paint one for each tile of the sum and one for
-// the costs, of which no repair is known.
+/// Two workers are at work at once where a case holds an entry, and no job is done twice.
+fn is_played<R: AllocGlobal + Abort + Threads + Sync>(rt: &R, case: Case) -> Result<(), Fail> {
+    let words = words_of(rt.alloc())?;
+    let gate = Turnstile::new(case.holds);
+    let (status, wrote) = play(rt, &words, case, &gate)?;
+    let entries = (
+        gate.zeros.load(Ordering::SeqCst),
+        gate.ones.load(Ordering::SeqCst),
+    );
+    assert_eq!(rt; (status, wrote.as_slice()), (Status::Done, case.replies));
+    assert_eq!(rt; gate.late.load(Ordering::SeqCst), 0);
+    assert_eq!(rt; entries, case.entries);
+    Ok(())
+}
+
 #[test]
 fn two_workers_make_a_layer_and_repair_two(rt: HostRuntime) -> Result<(), Fail> {
-    let words = words_of(rt.alloc())?;
-    let gate = Turnstile::new();
-    let (status, wrote) = play(&rt, &words, &gate)?;
-    assert_eq!(rt; (status, wrote.as_slice()), (Status::Done, REPLIES));
-    assert_eq!(rt; gate.late.load(Ordering::SeqCst), 0);
-    assert_eq!(rt; gate.zeros.load(Ordering::SeqCst), 3);
-    assert_eq!(rt; gate.ones.load(Ordering::SeqCst), 2);
-    Ok(())
+    is_played(&rt, REPAIRS)
+}
+
+#[test]
+fn two_workers_try_two_branches(rt: HostRuntime) -> Result<(), Fail> {
+    is_played(&rt, BRANCHES)
 }

@@ -23,3 +23,7 @@ mod shelves_and_sinks;
 mod steady_forms;
 #[cfg(test)]
 mod taken_whole;
+#[cfg(test)]
+mod tried;
+#[cfg(test)]
+mod undone;

@@ -91,6 +91,51 @@ pub(crate) enum Step<'a> {
     Silent(&'a str, Kind),
     /// A grid for a name.
     Load(&'a str, &'a str, Kind, &'a str),
+    /// A line that is given so many times, each time with a reply of this kind.
+    Repeat(u32, &'a str, Kind),
+    /// An edit that is accepted, taken back, so that all that is asked is answered as before, and made again.
+    TakenBack(&'a str, &'a [&'a str]),
+}
+
+/// The replies to lines, put end to end.
+fn replies<R: AllocGlobal + Threads + Sync>(
+    rt: &R,
+    session: &mut Session,
+    lines: &[&str],
+) -> Result<Vec<u8>, Fail> {
+    let mut text = Vec::new(rt.alloc());
+    for line in lines {
+        let reply = said(rt, session, *line)?;
+        text.extend_from_slice(&reply.bytes)?;
+    }
+    Ok(text)
+}
+
+/// A line has a reply of this kind.
+fn is_of_kind<R: AllocGlobal + Abort + Threads + Sync>(
+    rt: &R,
+    session: &mut Session,
+    line: &str,
+    kind: Kind,
+) -> Result<(), Fail> {
+    let reply = said(rt, session, line)?;
+    assert!(rt; reply.kind == kind, "{line}");
+    Ok(())
+}
+
+/// An edit is taken back, and made again.
+fn is_taken_back<R: AllocGlobal + Abort + Threads + Sync>(
+    rt: &R,
+    session: &mut Session,
+    edit: &str,
+    asked: &[&str],
+) -> Result<(), Fail> {
+    let before = replies(rt, session, asked)?;
+    is_of_kind(rt, session, edit, Kind::Accepted)?;
+    is_of_kind(rt, session, "undo", Kind::Accepted)?;
+    let after = replies(rt, session, asked)?;
+    assert!(rt; before.as_slice() == after.as_slice(), "{edit}");
+    is_of_kind(rt, session, edit, Kind::Accepted)
 }
 
 /// A session replies so to this step.
@@ -116,6 +161,12 @@ fn answer<R: AllocGlobal + Abort + Threads + Sync>(
                 "{name}"
             );
         }
+        Step::Repeat(times, line, kind) => {
+            for _time in 0..times {
+                is_of_kind(rt, session, line, kind)?;
+            }
+        }
+        Step::TakenBack(edit, asked) => is_taken_back(rt, session, edit, asked)?,
     }
     Ok(())
 }

@@ -1,5 +1,5 @@
 -- How much an edit may read: looks at tiles, and picks of single cells.
-use Rattle.std.specs.Prelude.{ℕ, ◌*◌, nat_le, List, filter, Option, Some, None, Result, Ok, Err}
+use Rattle.std.specs.Prelude.{ℕ, ◌+◌, ◌*◌, nat_le, List, filter, Option, Some, None, Result, Ok, Err}
 use Rattle.map_defs.specs.Ops.{Name}
 use Rattle.map_defs.specs.Depths.{depth_in}
 use Rattle.map_edits.specs.LayerDefs.{LayerDef, nodes_of}
@@ -19,6 +19,9 @@ pub record Reads : Type 0 where
 
 abbrev pub no_reads : Reads
 no_reads = record { looks = 0; picks = 0 }
+
+abbrev pub together : Reads → Reads → Reads
+together a b = record { looks = a.looks + b.looks; picks = a.picks + b.picks }
 
 -- 64 looks for a damaged tile, and 1000 picks for a unit of work
 abbrev pub reads_for : Counts → Reads

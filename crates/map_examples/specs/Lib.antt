@@ -11,3 +11,4 @@ pub mod SampleRows
 pub mod ReadRows
 pub mod LimitRows
 pub mod UndoRows
+pub mod BranchRows

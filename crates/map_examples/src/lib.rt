@@ -2,6 +2,7 @@
 //! runs, and the check computes it. Other programs gave the values.
 #![tactic(auto)]
 
+ghost use Rattle.map_examples.specs.BranchRows.{BranchRows};
 ghost use Rattle.map_examples.specs.CutRows.{CutRows};
 ghost use Rattle.map_examples.specs.DisplayRows.{DisplayRows};
 ghost use Rattle.map_examples.specs.LimitRows.{LimitRows};
@@ -58,6 +59,11 @@ pub fn tile_rows()
 /// Runs whose edits are taken back.
 pub fn undo_rows()
     ensures { UndoRows }
+{}
+
+/// Runs with branches.
+pub fn branch_rows()
+    ensures { BranchRows }
 {}
 
 /// The grids, the lines and the text of the sample.

@@ -61,7 +61,7 @@ const OPERATIONS: [Operation; 37] = [
 ];
 
 /// The commands; all but the first are there at each place.
-const COMMANDS: [Command; 16] = [
+const COMMANDS: [Command; 17] = [
     Command::Model,
     Command::Procedure,
     Command::Paint,
@@ -70,6 +70,7 @@ const COMMANDS: [Command; 16] = [
     Command::Label,
     Command::Symbol,
     Command::Undo,
+    Command::Branch,
     Command::Value,
     Command::Grid,
     Command::Show,

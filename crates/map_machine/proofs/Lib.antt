@@ -7,4 +7,5 @@ pub mod PairsLemmas
 pub mod WorkersLemmas
 pub mod ReadsLemmas
 pub mod Undoing
+pub mod Branching
 pub mod SampleLemmas

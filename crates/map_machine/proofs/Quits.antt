@@ -1,5 +1,5 @@
 -- A line that ends the session ends it wherever it stands.
-use Rattle.std.proofs.Common.{◌≡◌, ℕ, Bool, true, false, List, Result, Ok, Err, refl, ap, ◌∙◌, sym}
+use Rattle.std.proofs.Common.{◌≡◌, ℕ, Bool, true, false, List, Result, Ok, Err, refl, ap, sym}
 use Rattle.map_lines.specs.Present.{rows_at}
 use Rattle.statement_parser.specs.Lines.{Line, blank, edit, undo, ask, model, quit}
 use Rattle.statement_parser.specs.Texts.{Refusal}

@@ -8,13 +8,13 @@ use Rattle.map_lines.specs.Present.{first_place, rows_at}
 use Rattle.statement_parser.specs.Lines.{Line, blank, edit, undo, ask, model, quit}
 use Rattle.statement_parser.specs.Texts.{Refusal as LineRefusal}
 use Rattle.statement_parser.specs.LineOf.{line_of}
-use Rattle.map_edits.specs.Allowances.{Reads, no_reads}
+use Rattle.map_edits.specs.Allowances.{Reads, no_reads, together}
 use Rattle.map_edits.specs.CountLaws.{IsWithin}
 use Rattle.map_machine.specs.States.{MapState}
 use Rattle.map_machine.specs.Steps.{ends, is_quit}
 use Rattle.map_machine.specs.Text.{reply_to, state_to, replies_to, state_after}
 use Rattle.map_machine.specs.LineReads.{reads_by, line_reads}
-use Rattle.map_machine.specs.SessionReads.{together, and_then, lines_reads}
+use Rattle.map_machine.specs.SessionReads.{and_then, lines_reads}
 use Rattle.map_machine.proofs.Quits.{quit_anywhere}
 
 -- ---- sums

@@ -1,13 +1,11 @@
 -- As many undos as there were edits lead back.
 use Rattle.std.proofs.Common.{◌≡◌, ℕ, zero, suc, ◌≤◌, ◌-◌, List, [], ◌∷◌, length, take, Ok, refl, sym, ap, subst, ◌∙◌, arith}
 use Rattle.std.proofs.lemmas.List.{take_all, take-take, length-take}
-use Rattle.map_edits.specs.Counted.{Accepted}
 use Rattle.map_edits.specs.Pasts.{Past, parts_of}
 use Rattle.map_edits.specs.Touches.{touch_of}
-use Rattle.map_edits.specs.WholeEdits.{WholeEdit}
 use Rattle.map_machine.specs.States.{MapState}
 use Rattle.map_machine.specs.Steps.{edited, undone}
-use Rattle.map_machine.specs.UndoLaws.{LeadTo, after_undos, LeadsBack, UndosLeadBack}
+use Rattle.map_machine.specs.UndoLaws.{after_undos, LeadsBack, UndosLeadBack}
 
 -- one more undo
 abbrev one_back : MapState → MapState

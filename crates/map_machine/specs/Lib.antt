@@ -6,6 +6,8 @@ pub mod Replies
 pub mod Signs
 pub mod Displays
 pub mod Listing
+pub mod LayerAnswers
+pub mod Branches
 pub mod Answers
 pub mod Steps
 pub mod Loads
@@ -22,6 +24,7 @@ pub mod Play
 pub mod RequestReads
 pub mod LineReads
 pub mod UndoLaws
+pub mod BranchLaws
 pub mod LoadReads
 pub mod SessionReads
 pub mod OpeningReads

@@ -20,7 +20,7 @@ abbrev pub reads_by : MapState → Result Line LineRefusal → Reads
 reads_by s (Ok blank) = no_reads
 reads_by s (Ok (edit e)) = edit_reads s.whole (line_edit e)
 reads_by s (Ok undo) = undo_reads s s.pasts
-reads_by s (Ok (ask r)) = request_reads s.whole.names r
+reads_by s (Ok (ask r)) = request_reads s.whole r
 reads_by s (Ok (model l)) = no_reads
 reads_by s (Ok quit) = no_reads
 reads_by s (Err r) = no_reads

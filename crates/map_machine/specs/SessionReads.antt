@@ -1,13 +1,10 @@
 -- How much the lines of a session may read, of whose text so many bytes are written: what the first may whose replies are whole among them, and the next one.
-use Rattle.std.specs.Prelude.{ℕ, ◌+◌, ◌-◌, nat_le, List, [], ◌∷◌, length, if◌then◌else◌}
-use Rattle.map_edits.specs.Allowances.{Reads, no_reads}
+use Rattle.std.specs.Prelude.{ℕ, ◌-◌, nat_le, List, [], ◌∷◌, length, if◌then◌else◌}
+use Rattle.map_edits.specs.Allowances.{Reads, no_reads, together}
 use Rattle.map_machine.specs.States.{MapState}
 use Rattle.map_machine.specs.Steps.{is_quit}
 use Rattle.map_machine.specs.Text.{reply_to, state_to}
 use Rattle.map_machine.specs.LineReads.{line_reads}
-
-abbrev pub together : Reads → Reads → Reads
-together a b = record { looks = a.looks + b.looks; picks = a.picks + b.picks }
 
 -- of a command with this reply. Where the reply is whole among the bytes written, `next` tells what is read after it, by the bytes left
 abbrev pub and_then : Reads → List ℕ → ℕ → (ℕ → Reads) → Reads

@@ -5,12 +5,19 @@
 //! and what a run may read (`RunReads`). The engine and the top call are proved against it; nothing here runs.
 #![tactic(auto)]
 
+ghost use Rattle.map_machine.specs.BranchLaws.{ReplyAsLines, LeaveTheState};
 ghost use Rattle.map_machine.specs.UndoLaws.{UndosLeadBack};
 
 /// After at most 64 accepted edits as many undos lead back to the sources, statements, procedures, labels and symbols that there
 /// were.
 pub fn undo_law()
     ensures { UndosLeadBack }
+{}
+
+/// A branch replies what its items would as lines of a session from the state that stands, and the line leaves this state as it is.
+pub fn branch_law()
+    ensures replies { ReplyAsLines }
+    ensures leaves { LeaveTheState }
 {}
 
 /// What became of a line.

@@ -15,5 +15,6 @@ pub mod ChangeRows
 pub mod TileRows
 pub mod Samples
 pub mod NearRows
+pub mod NearestRows
 pub mod WholeRows
 pub mod WorkRows

@@ -1,9 +1,8 @@
 -- What was written and read of a whole run, by its stages and its lines.
 use Rattle.std.proofs.Common.{◌+◌, ℕ, List, [], ◌++◌, length, sym, ap, ◌∙◌, subst, append_assoc, Ok, Err}
 use Rattle.std.proofs.lemmas.List.{append-nil, length-append}
-use Rattle.map_edits.specs.Allowances.{Reads}
+use Rattle.map_edits.specs.Allowances.{Reads, together}
 use Rattle.map_machine.specs.States.{MapState}
-use Rattle.map_machine.specs.SessionReads.{together}
 use Rattle.map_outside.specs.Contents.{Grows}
 use Rattle.map_outside.proofs.Tellings.{grows_then}
 use Rattle.map_run.specs.Front.{ReadsAsWritten}

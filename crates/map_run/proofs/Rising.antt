@@ -3,9 +3,9 @@ use Rattle.std.proofs.Common.{◌≡◌, ◌+◌, ◌-◌, ℕ, true, false, con
 use Rattle.std.specs.Prelude.{nat_le}
 use Rattle.std.proofs.lemmas.Bool.{le-leb}
 use Rattle.layer_tiles.specs.Tallies.{TallyState, KeepsParts, RisesBy}
-use Rattle.map_edits.specs.Allowances.{Reads}
+use Rattle.map_edits.specs.Allowances.{Reads, together}
 use Rattle.map_edits.specs.CountLaws.{IsWithin}
-use Rattle.map_machine.specs.SessionReads.{together, and_then}
+use Rattle.map_machine.specs.SessionReads.{and_then}
 use Rattle.map_machine.proofs.ReadsLemmas.{within_same}
 use Rattle.map_run.specs.Progress.{Rises}
 

@@ -2,13 +2,13 @@
 use Rattle.std.proofs.Common.{◌≡◌, ◌+◌, ℕ, List, [], ◌++◌, length, take, drop, refl, sym, ap, ◌∙◌, subst, append_assoc, Option, Some, None, Result, Ok, Err, arith}
 use Rattle.std.proofs.lemmas.List.{append-nil, take-append-drop, length-append}
 use Rattle.layer_tiles.specs.Tallies.{TallyState}
-use Rattle.map_edits.specs.Allowances.{Reads, no_reads}
+use Rattle.map_edits.specs.Allowances.{Reads, no_reads, together}
 use Rattle.map_edits.specs.CountLaws.{IsWithin}
 use Rattle.map_machine.specs.States.{MapState}
 use Rattle.map_machine.specs.Loads.{Opened, ready, turned_away}
 use Rattle.map_machine.specs.LoadTexts.{opened_text}
 use Rattle.map_machine.specs.Openings.{Opening}
-use Rattle.map_machine.specs.SessionReads.{together, and_then}
+use Rattle.map_machine.specs.SessionReads.{and_then}
 use Rattle.map_machine.proofs.ReadsLemmas.{within_same}
 use Rattle.map_outside.specs.Contents.{Files, Grows}
 use Rattle.map_outside.proofs.Tellings.{grows_nil, grows_then}

@@ -1,11 +1,10 @@
 -- The stages of a run before its session: loads, the model file, the sample's grids.
 use Rattle.std.specs.Prelude.{ℕ, ◌+◌, ◌≡◌, ⊤, List, ◌++◌, length, Result, Ok, Err}
 use Rattle.layer_tiles.specs.Tallies.{TallyState}
-use Rattle.map_edits.specs.Allowances.{Reads}
+use Rattle.map_edits.specs.Allowances.{Reads, together}
 use Rattle.map_edits.specs.CountLaws.{IsWithin}
 use Rattle.map_machine.specs.States.{MapState}
 use Rattle.map_machine.specs.Openings.{Opening, turned_back}
-use Rattle.map_machine.specs.SessionReads.{together}
 use Rattle.map_outside.specs.Contents.{Grows}
 use Rattle.map_run.specs.Progress.{Progress, Rises}
 use Rattle.map_run.specs.declared.stop.Stop.{Stop}

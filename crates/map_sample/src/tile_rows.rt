@@ -90,11 +90,13 @@ impl TileRows {
 }
 
 impl Work for TileRows {
-    ghost use Rattle.std.specs.Prelude.{◌≡◌, IfOk};
+    ghost use Rattle.std.specs.Prelude.{◌≡◌, IfOk, ⊤};
     ghost use Rattle.layer_tiles.specs.Tiles.{tiles_down};
     ghost use Rattle.map_sample.specs.Grids.{tiles_of_row};
 
     type Done = Result<Vec<Tile>, NoMemory>;
+
+    ghost ready = { λ _. ⊤ };
 
     ghost jobs = { λ w. tiles_down w.extent };
 

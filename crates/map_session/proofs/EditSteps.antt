@@ -52,13 +52,13 @@ edit_done h p old new before after s e a reply w accepts number kept says =
     (ap (state h (later p.language) new) kept, says.0 ∙ ap (λ k. counted_reply k (counts_view a.counts)) number, says.1))
 
 -- what an edit that is refused leaves, and what is told of it
-record Turned (old new : WholeState) (e : WholeEdit) (text : List ℕ) : Type 0 where
-  cause : edits.Refusal
-  is : accept_counted old e ≡ Err cause
-  told : edit_cause cause ≡ text
-  kept : new ≡ old
+pub record Turned (old new : WholeState) (e : WholeEdit) (text : List ℕ) : Type 0 where
+  pub cause : edits.Refusal
+  pub is : accept_counted old e ≡ Err cause
+  pub told : edit_cause cause ≡ text
+  pub kept : new ≡ old
 
-turned : (old new : WholeState) (e : WholeEdit) (r : Refusal) (text : List ℕ) → Refuses old new e r → edit_told r ≡ Some text → Turned old new e text
+pub turned : (old new : WholeState) (e : WholeEdit) (r : Refusal) (text : List ℕ) → Refuses old new e r → edit_told r ≡ Some text → Turned old new e text
 turned old new e (an_edit.Unknown n) text a t = record { cause = edits.unknown n; is = a.0; told = some_same _ _ t; kept = a.1 }
 turned old new e (an_edit.Derived n) text a t = record { cause = edits.is_derived n; is = a.0; told = some_same _ _ t; kept = a.1 }
 turned old new e (an_edit.Exists n) text a t = record { cause = edits.exists_already n; is = a.0; told = some_same _ _ t; kept = a.1 }

@@ -1,6 +1,7 @@
 pub mod Listing
-pub mod Places
+pub mod Pairs
 pub mod EditSteps
 pub mod UndoSteps
 pub mod LoadSteps
 pub mod LineSteps
+pub mod BranchSteps

@@ -56,21 +56,6 @@ stepped_model h p set whole pasts s line l reply same e is says =
     let new = ap (λ (q : Place). state h q whole pasts) e ∙ ap (λ (u : MapState). let t : MapState = record u { place = later l } in t) same in
     stepped s (state h set whole pasts) line (lines.model l) (Ok reply) is (new, says.0, says.1)
 
--- no answer goes by earlier states
-answer_same : (h : Header) (p : Place) (whole : WholeState) (a b : List Past) (q : lines.Request) → answer_to (state h p whole a) q ≡ answer_to (state h p whole b) q
-answer_same h p whole a b (lines.ask_value n r c) = refl
-answer_same h p whole a b (lines.ask_grid n) = refl
-answer_same h p whole a b (lines.ask_show n) = refl
-answer_same h p whole a b (lines.ask_legend n) = refl
-answer_same h p whole a b (lines.ask_table n m) = refl
-answer_same h p whole a b (lines.ask_stamps n) = refl
-answer_same h p whole a b lines.ask_list = refl
-
-pub asked_says : (h : Header) (p : Place) (whole : WholeState) (pasts : List Past) (s : MapState) (q : lines.Request) (r : Result Reply NoMemory) → state h p whole pasts ≡ s → IfOk r (Says (answer_to (state h p whole []) q) Shown)
-    → IfOk r (Says (answer_to s q) Shown)
-asked_says h p whole pasts s q (Ok reply) same says = (says.0 ∙ answer_same h p whole [] pasts q ∙ ap (λ (u : MapState). answer_to u q) same, says.1)
-asked_says h p whole pasts s q (Err e) same says = says
-
 ask_done : (s : MapState) (q : lines.Request) (r : Result Reply NoMemory) → IfOk r (Says (answer_to s q) Shown) → Does s s (step_by s (Ok (lines.ask q))) r
 ask_done s q (Ok reply) says = (refl, says.0, says.1)
 ask_done s q (Err e) says = refl

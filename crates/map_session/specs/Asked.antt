@@ -17,4 +17,4 @@ IsRead reads before after = RisesBy reads.looks reads.picks before after
 
 -- no more is read than the answer may read
 abbrev pub ReadsFor : MapState → Request → TallyState → TallyState → Type 0
-ReadsFor s r before after = IsRead (request_reads s.whole.names r) before after
+ReadsFor s r before after = IsRead (request_reads s.whole r) before after

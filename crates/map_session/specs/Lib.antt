@@ -1,5 +1,6 @@
 pub mod Said
 pub mod Causes
+pub mod BranchTexts
 pub mod Rooms
 pub mod Asked
 pub mod Lines

@@ -5,6 +5,7 @@
 #![tactic(auto)]
 
 mod answers;
+mod branches;
 mod causes;
 mod displays;
 mod lists;

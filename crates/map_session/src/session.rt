@@ -1,7 +1,7 @@
 //! A session over the layers of an engine.
 ghost use Rattle.std.specs.Prelude.{◌≡◌, ◌≢◌, ◌≤◌, ◌<◌, false, None, Ok, IfOk};
 ghost use Rattle.layer_tiles.specs.Tallies.{RisesBy, IsUndivided};
-ghost use Rattle.statement_parser.specs.Formed.{IsEdit};
+ghost use Rattle.statement_parser.specs.Formed.{IsEdit, IsRequest};
 ghost use Rattle.statement_parser.specs.Views.{edit_view, request_view};
 ghost use Rattle.map_edits.specs.Faults.{fault_of};
 ghost use Rattle.map_edits.specs.GroupLaws.{IsLawful};
@@ -102,7 +102,7 @@ impl Session {
             Ok(Line::Blank) => Ok(Reply::empty(alloc, Kind::Silent)),
             Ok(Line::Edit(edit)) => self.edit(&crew, edit, tally),
             Ok(Line::Undo) => self.undo(&crew, tally),
-            Ok(Line::Ask(request)) => self.answer(alloc, &request, tally),
+            Ok(Line::Ask(request)) => self.answer(&crew, &request, tally),
             Ok(Line::Model(language)) => {
                 self.place = later(language);
                 Ok(Reply::empty(alloc, Kind::Model))
@@ -161,12 +161,14 @@ impl Session {
         }
     }
 
-    fn answer<M: Tally>(
+    fn answer<M: Tally + Send, G: Gate + Sync, R: Threads + Sync>(
         &self,
-        alloc: Global,
+        crew: &Crew<'_, R, G>,
         request: &Request,
         tally: &mut M,
     ) -> Result<Reply, NoMemory>
+        requires formed { IsRequest (request_view request.now) }
+        requires whole { 1 < crew.now.workers → IsUndivided (M.counts tally.old) }
         ensures says { IfOk result (Says (answer_to self.now (request_view request.now)) Kind.Shown) }
         ensures reads { ReadsFor self.now (request_view request.now) (M.counts tally.old) (M.counts tally.new) }
     {
@@ -175,7 +177,7 @@ impl Session {
             place: self.place,
             engine: &self.engine,
         };
-        asked.answer(alloc, request, tally)
+        asked.answer(crew, request, tally)
     }
 }
 

@@ -2,20 +2,21 @@
 ghost use Rattle.std.specs.Prelude.{◌≡◌, IfOk};
 ghost use Rattle.statement_parser.specs.Canonical.{cell_text};
 ghost use Rattle.statement_parser.specs.Lines.{ask_value};
-ghost use Rattle.layer_tiles.specs.Tallies.{RisesBy};
-ghost use Rattle.kept_map.specs.Maps.{grid_of};
-ghost use Rattle.map_machine.specs.Answers.{is_on, cell_told, answer_to};
+ghost use Rattle.map_machine.specs.Answers.{answer_to};
+ghost use Rattle.map_machine.specs.LayerAnswers.{look_reply};
 ghost use Rattle.map_session.specs.Said.{Says};
 ghost use Rattle.map_session.specs.Asked.{state_asked, ReadsFor};
+ghost use Rattle.what_if.specs.Tried.{look_view};
 
 use crate::answers::Asked;
 use crate::replies::Reply;
 use itoa::Buffer;
-use layer_tiles::{Cell, Extent, Layer, Tally};
+use layer_tiles::{Cell, Tally};
 use map_machine::Kind;
 use map_nums::NoMemory;
 use map_words::Name;
 use std::alloc::Global;
+use what_if::{Seen, look};
 
 impl Asked<'_> {
     /// To `value`. One pick of a cell of the map.
@@ -30,39 +31,29 @@ impl Asked<'_> {
         ensures says { IfOk result (Says (answer_to (state_asked self.now) (ask_value name.now r c)) Kind.Shown) }
         ensures reads { ReadsFor (state_asked self.now) (ask_value name.now r c) (M.counts tally.old) (M.counts tally.new) }
     {
-        match self.engine.layer(name) {
-            Err(missing) => self.undefined(alloc, name, missing),
-            Ok(layer) => {
-                let cell = cell_told(alloc, layer, r, c, tally)?;
-                Reply::value(alloc, name, r, c, &cell)
-            }
-        }
+        let seen = look(self.engine, alloc, name, r, c, tally)?;
+        seen_reply(alloc, name, r, c, &seen)
     }
 }
 
-/// The cell in a row and a column, in words. One pick, none off the map.
-fn cell_told<M: Tally>(
+/// To a look at the cell in row `r` and column `c`.
+pub(crate) fn seen_reply(
     alloc: Global,
-    layer: &Layer,
+    name: &Name,
     r: u32,
     c: u32,
-    tally: &mut M,
-) -> Result<Vec<u8>, NoMemory>
-    ensures told { IfOk result (λ text. text.items ≡ cell_told (grid_of layer.now) r c) }
-    ensures pick { RisesBy 0 1 (M.counts tally.old) (M.counts tally.new) }
+    seen: &Seen,
+) -> Result<Reply, NoMemory>
+    ensures { IfOk result (Says (look_reply name.now r c (look_view seen.now)) Kind.Shown) }
 {
-    let extent = layer.extent();
-    if !is_on(extent, r, c) {
-        return Ok(Vec::from_slice(alloc, b"outside")?);
+    match seen {
+        Seen::Cell(cell) => {
+            let text = cell_text(alloc, *cell)?;
+            Reply::value(alloc, name, r, c, &text)
+        }
+        Seen::Outside => Reply::value(alloc, name, r, c, b"outside"),
+        Seen::Undefined(missing) => Reply::undefined(alloc, name, missing),
     }
-    let at = (r - 1) * extent.columns() + (c - 1);
-    cell_text(alloc, layer.cell(at, tally))
-}
-
-fn is_on(extent: Extent, r: u32, c: u32) -> bool
-    ensures { result ≡ is_on extent r c }
-{
-    1 <= r && r <= extent.rows() && 1 <= c && c <= extent.columns()
 }
 
 fn cell_text(alloc: Global, cell: Cell) -> Result<Vec<u8>, NoMemory>

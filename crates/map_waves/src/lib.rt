@@ -29,6 +29,7 @@ pub use halts::{NoJobs, Stop};
 pub use jobs::{Jobs, Maker};
 pub use keeping::{Kept, Made};
 pub use laws::{kept_law, placed_law, values_law};
+pub use parts::all_found;
 pub use phases::repair_all;
 pub use placing::{place, place_all, renew_all};
 pub use plans::{Base, Ref, Shift, Step};

@@ -29,9 +29,11 @@ struct Parts<'p, 'a, K: Maker> {
 }
 
 impl<'p, 'a, K: Maker> Work for Parts<'p, 'a, K> {
-    ghost use Rattle.std.specs.Prelude.{IfOk};
+    ghost use Rattle.std.specs.Prelude.{IfOk, ⊤};
 
     type Done = Result<K::Part, NoMemory>;
+
+    ghost ready = { λ _. ⊤ };
 
     ghost jobs = { λ w. w.count };
 
@@ -60,8 +62,15 @@ impl<'p, 'a, K: Maker> Work for Parts<'p, 'a, K> {
     }
 }
 
-/// What was found of all parts, where none wanted memory.
-fn all_found<P: Drop>(alloc: Global, answers: Vec<Result<P, NoMemory>>) -> Result<Vec<P>, NoMemory>
+/// What was found of all parts, in their order.
+///
+/// # Errors
+///
+/// `NoMemory` where one of them wants memory, or where there is none for the list.
+pub fn all_found<P: Drop>(
+    alloc: Global,
+    answers: Vec<Result<P, NoMemory>>,
+) -> Result<Vec<P>, NoMemory>
     ensures count { IfOk result (λ parts. length parts.items ≡ length answers.items) }
     ensures each { IfOk result (λ parts. (k : ℕ) (p : P) → slice_get parts.items k ≡ Some p → slice_get answers.items k ≡ Some (Ok p)) }
 {

@@ -23,10 +23,12 @@ pub(crate) struct Phase<'p, 'o, 'a, K: Maker> {
 }
 
 impl<'p, 'o, 'a, K: Maker> Work for Phase<'p, 'o, 'a, K> {
-    ghost use Rattle.std.specs.Prelude.{IfSome};
+    ghost use Rattle.std.specs.Prelude.{IfSome, ⊤};
     ghost use Rattle.map_waves.specs.Seating.{all_jobs, seat_of, rise_of};
 
     type Done = Result<K::Piece, KernelRefusal>;
+
+    ghost ready = { λ _. ⊤ };
 
     ghost jobs = { λ w. all_jobs w.jobs.now };
 

@@ -1,5 +1,5 @@
 //! A work over a list that it borrows, whose jobs take memory.
-ghost use Rattle.std.specs.Prelude.{◌≡◌, ℕ, ◌*◌, ◌^◌, ◌<◌, ◌≤◌, false, IfOk, vec_len, length, slice_index, slice_index_or};
+ghost use Rattle.std.specs.Prelude.{◌≡◌, ℕ, ◌*◌, ◌^◌, ◌<◌, ◌≤◌, false, IfOk, ⊤, vec_len, length, slice_index, slice_index_or};
 ghost use Rattle.layer_tiles.specs.Tallies.{IsUndivided};
 
 use layer_tiles::Tally;
@@ -17,6 +17,8 @@ pub struct Doubles<'a> {
 
 impl<'a> Work for Doubles<'a> {
     type Done = Result<Vec<u64>, NoMemory>;
+
+    ghost ready = { λ _. ⊤ };
 
     ghost jobs = { λ s. length s.values.now };
 

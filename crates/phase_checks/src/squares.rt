@@ -1,5 +1,5 @@
 //! A work of numbers, in which every second job has no answer.
-ghost use Rattle.std.specs.Prelude.{◌≡◌, ℕ, ◌*◌, ◌%◌, ◌^◌, ◌<◌, ◌≤◌, false, IfOk, MatchResult, vec_len, slice_index_or};
+ghost use Rattle.std.specs.Prelude.{◌≡◌, ℕ, ◌*◌, ◌%◌, ◌^◌, ◌<◌, ◌≤◌, false, IfOk, MatchResult, ⊤, vec_len, slice_index_or};
 ghost use Rattle.layer_tiles.specs.Tallies.{IsUndivided};
 
 use layer_tiles::Tally;
@@ -21,6 +21,8 @@ pub struct Squares {
 
 impl Work for Squares {
     type Done = Result<u64, OddTicket>;
+
+    ghost ready = { λ _. ⊤ };
 
     ghost jobs = { λ s. s.count };
 

@@ -93,7 +93,7 @@ none_named {A} text (x ∷ xs) t each p = go (bytes_eq (text x) t) refl (none_na
 -- no word of a command is a name, computed
 commands_reserved : Each (λ c. is_plain (command_text c) ≡ false) commands
 unfolding is_plain is_reserved is_among
-commands_reserved = (refl, (refl, (refl, (refl, (refl, (refl, (refl, (refl, (refl, (refl, (refl, (refl, (refl, (refl, (refl, (refl, tt))))))))))))))))
+commands_reserved = (refl, (refl, (refl, (refl, (refl, (refl, (refl, (refl, (refl, (refl, (refl, (refl, (refl, (refl, (refl, (refl, (refl, tt)))))))))))))))))
 
 -- nor is that of an operation
 operations_reserved : Each (λ o. is_plain (operation_text o) ≡ false) operations

@@ -1,5 +1,5 @@
 -- The worked lines, computed.
-use Rattle.std.proofs.Common.{◌≡◌, true, false, None, Ok, Err, refl, sym, ◌∙◌}
+use Rattle.std.proofs.Common.{◌≡◌, true, false, ◌++◌, None, Ok, Err, refl, sym, ◌∙◌}
 use Rattle.std.specs.Prelude.{codes}
 use Rattle.map_words.specs.Bytes.{Text, first_bad, is_silent}
 use Rattle.map_words.specs.Names.{is_plain, is_dotted, is_reserved, is_among}
@@ -16,11 +16,14 @@ use Rattle.statement_parser.specs.ReadBodies.{nulls_at, ignoring_at, statistic_a
 use Rattle.statement_parser.specs.ReadParts.{term_after_at, further_at, optional_at, range_at, rate_at, with_at, friction_at}
 use Rattle.statement_parser.specs.ReadLine.{define_at, line_at, quit_at}
 use Rattle.statement_parser.specs.ReadProcedures.{names_at, parameters_at, inner_at, result_at, named_inner_at, statements_at, procedure_at}
+use Rattle.statement_parser.specs.ReadEdits.{defined_at, corners_at, painted_at, laid_at, dropped_at, looked_at}
+use Rattle.statement_parser.specs.ReadBranches.{item_at, item_behind_at, ended_at, items_at, branches_at}
+use Rattle.statement_parser.specs.BranchRules.{most_items}
 use Rattle.statement_parser.specs.ReadLabels.{bytes_at, label_at, symbol_at}
-use Rattle.statement_parser.specs.ReadCommands.{corners_at, paint_at, new_at, drop_at, value_at, any_line_at, table_at, undo_at, model_at, list_at}
+use Rattle.statement_parser.specs.ReadCommands.{paint_at, new_at, drop_at, value_at, any_line_at, table_at, undo_at, model_at, list_at}
 use Rattle.statement_parser.specs.Texts.{seen, is_short, LineText, silent, worded, refusal_of, RefusedText, bad_byte, bad_word}
 use Rattle.statement_parser.specs.Columns.{column}
-use Rattle.statement_parser.specs.Worked.{first_rows, all_rows, WorkedProcedures, WorkedLanguages, Worked}
+use Rattle.statement_parser.specs.Worked.{first_rows, all_rows, WorkedProcedures, WorkedLanguages, four_branches, WorkedBranches, Worked}
 use Rattle.statement_parser.proofs.SoundLines.{healthy_line}
 use Rattle.statement_parser.proofs.ReadsLines.{line_reads}
 
@@ -31,7 +34,7 @@ refused_row : (m : Manner) (bytes : Text) (f : Fault) → is_short bytes ≡ tru
 refused_row m bytes f s e g h = bad_word f.kind f.left s e g (refused_so (tests m) (line_rule m) (seen bytes) f (healthy_line m).sound refl (sym (line_reads m (seen bytes)) ∙ h))
 
 procedure_rows : WorkedProcedures
-unfolding line_at names_at parameters_at inner_at result_at named_inner_at statements_at procedure_at bytes_at label_at symbol_at define_at corners_at paint_at new_at drop_at undo_at value_at any_line_at table_at model_at list_at quit_at term_after_at further_at optional_at nulls_at ignoring_at statistic_at pair_at difference_at ratio_at range_at rate_at with_at rating_at radius_at sight_at reaching_at focal_at friction_at spread_at given_at call_at plain_at body_at operation_named find_operation command_named find_command is_plain is_dotted is_reserved is_among number_text
+unfolding line_at names_at parameters_at inner_at result_at named_inner_at statements_at procedure_at bytes_at label_at symbol_at define_at defined_at corners_at painted_at laid_at dropped_at looked_at paint_at new_at drop_at undo_at value_at any_line_at table_at model_at list_at quit_at term_after_at further_at optional_at nulls_at ignoring_at statistic_at pair_at difference_at ratio_at range_at rate_at with_at rating_at radius_at sight_at reaching_at focal_at friction_at spread_at given_at call_at plain_at body_at operation_named find_operation command_named find_command is_plain is_dotted is_reserved is_among number_text
 procedure_rows = record {
   made = line_row all_rows (codes "procedure Twice(P, K): x = LocalSum of P and K; result = LocalProduct of x and 2") _ refl refl refl refl;
   no_result = refused_row all_rows (codes "procedure Q(P): x = LocalSum of P and 1") (record { kind = Syntax; left = 0 }) refl refl refl refl;
@@ -43,7 +46,7 @@ procedure_rows = record {
 }
 
 language_rows : WorkedLanguages
-unfolding line_at names_at parameters_at inner_at result_at named_inner_at statements_at procedure_at bytes_at label_at symbol_at define_at corners_at paint_at new_at drop_at undo_at value_at any_line_at table_at model_at list_at quit_at term_after_at further_at optional_at nulls_at ignoring_at statistic_at pair_at difference_at ratio_at range_at rate_at with_at rating_at radius_at sight_at reaching_at focal_at friction_at spread_at given_at call_at plain_at body_at operation_named find_operation command_named find_command is_plain is_dotted is_reserved is_among number_text
+unfolding line_at names_at parameters_at inner_at result_at named_inner_at statements_at procedure_at bytes_at label_at symbol_at define_at defined_at corners_at painted_at laid_at dropped_at looked_at paint_at new_at drop_at undo_at value_at any_line_at table_at model_at list_at quit_at term_after_at further_at optional_at nulls_at ignoring_at statistic_at pair_at difference_at ratio_at range_at rate_at with_at rating_at radius_at sight_at reaching_at focal_at friction_at spread_at given_at call_at plain_at body_at operation_named find_operation command_named find_command is_plain is_dotted is_reserved is_among number_text
 language_rows = record {
   ignoring = line_row all_rows (codes "C = LocalSum of A and B ignoring nulls") _ refl refl refl refl;
   not_ignoring = refused_row first_rows (codes "C = LocalSum of A and B ignoring nulls") _ refl refl refl refl;
@@ -58,8 +61,26 @@ language_rows = record {
   closed = refused_row first_rows (codes "model 2") _ refl refl refl refl;
 }
 
+branch_rows : WorkedBranches
+unfolding line_at names_at parameters_at inner_at result_at named_inner_at statements_at procedure_at bytes_at label_at symbol_at define_at defined_at corners_at painted_at laid_at dropped_at looked_at item_at item_behind_at ended_at items_at branches_at most_items paint_at new_at drop_at undo_at value_at any_line_at table_at model_at list_at quit_at term_after_at further_at optional_at nulls_at ignoring_at statistic_at pair_at difference_at ratio_at range_at rate_at with_at rating_at radius_at sight_at reaching_at focal_at friction_at spread_at given_at call_at plain_at body_at operation_named find_operation command_named find_command is_plain is_dotted is_reserved is_among number_text
+branch_rows = record {
+  one = line_row all_rows (codes "branch drop A end") _ refl refl refl refl;
+  two = line_row all_rows (codes "branch new B null; value A.b 1 2 branch paint B 1 2 3 4 5 end") _ refl refl refl refl;
+  body_before_branch = line_row all_rows (codes "branch X = LocalSum of A and 1 branch drop X end") _ refl refl refl refl;
+  no_item = refused_row all_rows (codes "branch end") _ refl refl refl refl;
+  no_end = refused_row all_rows (codes "branch value A 1 1") _ refl refl refl refl;
+  no_body = refused_row all_rows (codes "branch X = end") _ refl refl refl refl;
+  no_row = refused_row all_rows (codes "branch value A 0 1 end") _ refl refl refl refl;
+  seventeenth = refused_row all_rows (four_branches ++ four_branches ++ four_branches ++ four_branches ++ codes "branch drop A end") _ refl refl refl refl;
+  no_label = refused_row all_rows (codes "branch label A 1 x end") _ refl refl refl refl;
+  no_undo = refused_row all_rows (codes "branch undo end") _ refl refl refl refl;
+  no_item_more = refused_row all_rows (codes "branch drop A; end") _ refl refl refl refl;
+  after_end = refused_row all_rows (codes "branch drop A end x") _ refl refl refl refl;
+  branch_not_yet = refused_row first_rows (codes "branch drop A end") _ refl refl refl refl;
+}
+
 pub rows : Worked
-unfolding line_at names_at parameters_at inner_at result_at named_inner_at statements_at procedure_at bytes_at label_at symbol_at define_at corners_at paint_at new_at drop_at undo_at value_at any_line_at table_at model_at list_at quit_at term_after_at further_at optional_at nulls_at ignoring_at statistic_at pair_at difference_at ratio_at range_at rate_at with_at rating_at radius_at sight_at reaching_at focal_at friction_at spread_at given_at call_at plain_at body_at operation_named find_operation command_named find_command is_plain is_dotted is_reserved is_among number_text
+unfolding line_at names_at parameters_at inner_at result_at named_inner_at statements_at procedure_at bytes_at label_at symbol_at define_at defined_at corners_at painted_at laid_at dropped_at looked_at paint_at new_at drop_at undo_at value_at any_line_at table_at model_at list_at quit_at term_after_at further_at optional_at nulls_at ignoring_at statistic_at pair_at difference_at ratio_at range_at rate_at with_at rating_at radius_at sight_at reaching_at focal_at friction_at spread_at given_at call_at plain_at body_at operation_named find_operation command_named find_command is_plain is_dotted is_reserved is_among number_text
 rows = record {
   empty = silent refl refl;
   note = silent refl refl;
@@ -104,6 +125,7 @@ rows = record {
   no_sign = refused_row all_rows (codes "symbol A 1") _ refl refl refl refl;
   procedures = procedure_rows;
   languages = language_rows;
+  branches = branch_rows;
   far = refused_row all_rows (codes "C = FocalMean of A at 33") _ refl refl refl refl;
   no_mean = refused_row all_rows (codes "C = FocalMean of A radiating on B") _ refl refl refl refl;
   no_product = refused_row all_rows (codes "C = FocalProduct of A") _ refl refl refl refl;

@@ -1,7 +1,8 @@
 -- Every line that is read is formed, and there.
-use Rattle.std.proofs.Common.{◌≡◌, ◌+◌, ◌≤◌, ℕ, zero, suc, ℤ, pos, negsuc, Bool, true, false, cond, not, ◌&&◌, ◌||◌, List, [], ◌∷◌, ◌++◌, length, Option, Some, None, refl, sym, subst, arith, append_assoc, length-append, find}
-use Rattle.std.specs.Prelude.{codes, bytes_eq, int_le, nat_abs, option_map, IsTrue, nat_le}
+use Rattle.std.proofs.Common.{◌≡◌, ◌+◌, ◌<◌, ◌≤◌, ℕ, zero, suc, ℤ, pos, negsuc, Bool, true, false, cond, not, ◌&&◌, ◌||◌, List, [], ◌∷◌, ◌++◌, length, Option, Some, None, refl, sym, subst, arith, append_assoc, length-append, find}
+use Rattle.std.specs.Prelude.{codes, bytes_eq, int_le, nat_abs, option_map, IsTrue, nat_le, nat_lt}
 use Rattle.std.proofs.lemmas.Bool.{leb-true}
+use Rattle.std.proofs.lemmas.Bool.Decides.{nat_tests}
 use Rattle.std.proofs.lemmas.List.{append-nil}
 use Rattle.map_nums.specs.declared.Stat.{Stat}
 use Rattle.map_nums.specs.declared.Stat.TheVariants as stats
@@ -10,15 +11,19 @@ use Rattle.map_nums.specs.Numbers.{is_value, vmin, vmax, greatest_value}
 use Rattle.map_words.specs.Bytes.{Text}
 use Rattle.map_words.specs.Names.{is_plain, is_dotted}
 use Rattle.map_words.specs.Numbers.{number_text, if_between}
-use Rattle.grammar_core.specs.Rules.{Rule, ends, on, next}
+use Rattle.grammar_core.specs.Rules.{Rule, ends, on, next, also}
 use Rattle.grammar_core.proofs.Ends.{AllEnds, each_end, ends_on, ends_next, ends_or, ends_also}
 use Rattle.map_defs.specs.Ops.{Term, layer_term, number_term, terms_of, Op, local_op, difference_op, ratio_op, rating_op, focal_op, zonal_op, form_op, direction_op, flow_op, spread_op, sight_op, region_op}
 use Rattle.map_defs.specs.Sight.{Sighting}
 use Rattle.map_defs.specs.Statements.{Written, plain, call, Inner}
-use Rattle.statement_parser.specs.Lines.{Manner, define, paint, new_layer, drop, put_label, put_symbol, ask_value, ask_grid, ask_show, ask_legend, ask_table, ask_stamps, ask_list, Line, edit, undo, ask, model, quit}
+use Rattle.statement_parser.specs.Lines.{Manner, define, paint, new_layer, drop, put_label, put_symbol, Item, make as an_item, look_at, ask_value, ask_grid, ask_show, ask_legend, ask_table, ask_stamps, ask_list, ask_branches, Line, edit, undo, ask, model, quit}
 use Rattle.statement_parser.specs.Forms.{form_of, form_row}
 use Rattle.statement_parser.specs.Scopes.{Scope, anywhere, has_name, names_before}
 use Rattle.statement_parser.specs.ProcedureRules.{fresh_of, further_names, inner_part, result_rule, statements_rule, procedure_line, procedure_rule}
+use Rattle.statement_parser.specs.BranchRules.{opening_of, opened_rule, item_rule, end_rule, items_rule, most_items}
+use Rattle.statement_parser.specs.declared.opening.Opening.{Opening}
+use Rattle.statement_parser.specs.declared.opening.Opening.TheVariants.{Named}
+use Rattle.statement_parser.specs.declared.opening.Opening.TheVariants as openings
 use Rattle.statement_parser.specs.Operations.{operations, operation_text, find_operation, has_row, operation_named}
 use Rattle.statement_parser.specs.Places.{the, maybe, name_of, any_of, value_of, count_of, side_of, disc_of, reach_of, limit_of, version_of, term_of, weights_of, cell_of, call_of}
 use Rattle.statement_parser.specs.Bodies.{term_after, further_terms, optional_part, ignoring_part, statistic_body, pair_body, rate_part, with_rates, rating_body, radius_part, sight_part, radiates, focal_body, friction_part, spread_body, drainage_op, drainage_body, operation_body, call_body, body_rule}
@@ -29,8 +34,8 @@ use Rattle.statement_parser.specs.declared.refusal.LineRefusal.{LineRefusal}
 use Rattle.statement_parser.specs.Texts.{seen, LineText, silent, worded}
 use Rattle.statement_parser.specs.Parsed.{IsParsed}
 use Rattle.layer_tiles.specs.Cells.{IsCell}
-use Rattle.statement_parser.specs.Formed.{Each, InScope, AreInScope, IsFresh, AreFresh, IsInner, AreInner, IsBody, IsTerm, IsRate, IsNoProduct, IsBetween, IsRadius, IsSighting, IsOp, IsWritten, IsSide, IsAny, IsFormed}
-use Rattle.statement_parser.specs.There.{HasRow, HasCommand, MayIgnore, IsOpThere, IsWrittenThere, AreInnerThere, IsThere}
+use Rattle.statement_parser.specs.Formed.{Each, InScope, AreInScope, IsFresh, AreFresh, IsInner, AreInner, IsBody, IsTerm, IsRate, IsNoProduct, IsBetween, IsRadius, IsSighting, IsOp, IsWritten, IsSide, IsAny, IsItem, IsBranch, IsFormed}
+use Rattle.statement_parser.specs.There.{HasRow, HasCommand, MayIgnore, IsOpThere, IsWrittenThere, AreInnerThere, IsItemThere, IsThere}
 use Rattle.statement_parser.proofs.LabelRules.{text_ends, sign_ends}
 use Rattle.std.proofs.lemmas.Slice.Eq.{bytes_eq-Decides}
 use Rattle.statement_parser.specs.declared.op.Form.{Form}
@@ -38,7 +43,7 @@ use Rattle.statement_parser.specs.declared.op.Form.TheVariants.{Linkage, Length,
 use Rattle.statement_parser.specs.declared.operation.Operation.{Operation}
 use Rattle.statement_parser.specs.declared.operation.Operation.TheVariants.{Local, Difference, Ratio, Rating, Focal, Proximity, Insularity, Zonal, Incremental, Drainage}
 use Rattle.statement_parser.specs.declared.command.Command.{Command}
-use Rattle.statement_parser.specs.declared.command.Command.TheVariants.{Model, Procedure, Paint, New, Drop, Label, Symbol, Undo, Value, Grid, Show, Legend, Table, Stamps, List as Listing, Quit}
+use Rattle.statement_parser.specs.declared.command.Command.TheVariants.{Model, Procedure, Paint, New, Drop, Label, Symbol, Undo, Branch, Value, Grid, Show, Legend, Table, Stamps, List as Listing, Quit}
 
 -- ---- what a place gives
 
@@ -81,6 +86,24 @@ count_formed low high w n e =
 
 disc_formed : (w : Text) (r : Option ℕ) → disc_of w ≡ Some r → IsRadius r
 disc_formed w r e = let h = map_some Some (count_of (pos 1) (pos 32) w) r e in subst IsRadius h.2 (count_formed 1 32 w h.0 h.1)
+
+-- the name of a statement is plain
+abbrev IsOpened : Opening → Type 0
+IsOpened (Named n) = IsTrue (is_plain n)
+IsOpened o = Unit {0}
+
+opening_formed : (w : Text) (o : Opening) → opening_of w ≡ Some o → IsOpened o
+opening_formed w o e = go (bytes_eq w (codes "paint")) (bytes_eq w (codes "new")) (bytes_eq w (codes "drop")) (bytes_eq w (codes "value")) e
+  where
+    go : (p n d v : Bool) → cond p (Some openings.Paint) (cond n (Some openings.New) (cond d (Some openings.Drop) (cond v (Some openings.Value) (option_map Named (name_of w))))) ≡ Some o → IsOpened o
+    go true n d v e = let h : openings.Paint ≡ o = cc in subst IsOpened h tt
+    go false true d v e = let h : openings.New ≡ o = cc in subst IsOpened h tt
+    go false false true v e = let h : openings.Drop ≡ o = cc in subst IsOpened h tt
+    go false false false true e = let h : openings.Value ≡ o = cc in subst IsOpened h tt
+    go false false false false e = let h = map_some Named (name_of w) o e in subst IsOpened h.2 (name_formed w h.0 h.1)
+
+is_fewer : (n : ℕ) → nat_lt n 15 ≡ true → n < 15
+is_fewer n e = grind (arith, nat_tests)
 
 -- a term that may stand in the scope
 abbrev IsTermIn : Scope → Term → Type 0
@@ -151,7 +174,7 @@ abbrev IsAnyCommand : Command → Type 0
 IsAnyCommand c = Unit {0}
 
 all_commands : Each IsAnyCommand commands
-all_commands = (tt, (tt, (tt, (tt, (tt, (tt, (tt, (tt, (tt, (tt, (tt, (tt, (tt, (tt, (tt, (tt, tt))))))))))))))))
+all_commands = (tt, (tt, (tt, (tt, (tt, (tt, (tt, (tt, (tt, (tt, (tt, (tt, (tt, (tt, (tt, (tt, (tt, tt)))))))))))))))))
 
 -- a command that is named has the word, and is in the table
 pub command_word : (m : Manner) (w : Text) (c : Command) → command_named m w ≡ Some c → (command_text c ≡ w) × (find_command w ≡ Some c)
@@ -424,6 +447,48 @@ module _ (m : Manner) where
       then_the (codes ")") _ (then_the (codes ":") _ (statements_formed (procedure_line p ps) ps (λ body few k there. (record { name = a; some = some; takes = new; few = few; body = k }, (t, there))) 15 [] (omega arith) tt tt)))
       7 (q ∷ []) (omega arith) (omega arith) ((b, refl), tt))))
 
+  -- ---- branches
+
+  -- what a branch may hold
+  abbrev IsGoodItem : Item → Type 0
+  IsGoodItem i = IsItem i × IsItemThere m i
+
+  abbrev IsGoodBranch : List Item → Type 0
+  IsGoodBranch is = IsBranch is × Each (IsItemThere m) is
+
+  opened_formed : (f : Item → Rule Text Line) → Keeps IsGoodItem f → (o : Opening) → IsOpened o → Formed (opened_rule m f o)
+  opened_formed f h openings.Paint t =
+      then_name _ (λ n p. then_side _ (λ r1 a. then_side _ (λ c1 b. then_side _ (λ r2 c. then_side _ (λ c2 d. then_cell (λ v. f (an_item (paint n r1 c1 r2 c2 v))) (λ v q. h (an_item (paint n r1 c1 r2 c2 v)) ((p, a, b, c, d, q), tt)))))))
+  opened_formed f h openings.New t = then_name _ (λ n p. then_cell (λ v. f (an_item (new_layer n v))) (λ v q. h (an_item (new_layer n v)) ((p, q), tt)))
+  opened_formed f h openings.Drop t = then_name (λ n. f (an_item (drop n))) (λ n p. h (an_item (drop n)) (p, tt))
+  opened_formed f h openings.Value t = then_any _ (λ n p. then_side _ (λ r a. then_side (λ c. f (look_at n r c)) (λ c b. h (look_at n r c) ((p, a, b), tt))))
+  opened_formed f h (Named n) t = then_the (codes "=") _ (body_formed anywhere (λ w. f (an_item (define n w))) (λ w q there k. h (an_item (define n w)) ((t, q), there)))
+
+  item_formed : (f : Item → Rule Text Line) → Keeps IsGoodItem f → Formed (item_rule m f)
+  item_formed f h = ends_next IsGood opening_of (opened_rule m f) (λ w o e. opened_formed f h o (opening_formed w o e))
+
+  branch-push : (is : List Item) (i : Item) → IsGoodBranch is → IsGoodItem i → IsGoodBranch (is ++ i ∷ [])
+  branch-push is i k p = ((omega (arith, length-append is (i ∷ [])), all-push IsItem is i k.0.1 p.0), all-push (IsItemThere m) is i k.1 p.1)
+
+  end_formed : HasCommand m Branch → (bs : List (List Item)) → IsBetween 1 16 (length bs) → Each IsGoodBranch bs → Formed (end_rule bs)
+  end_formed t bs count each = then_the (codes "end") _ (done (ask (ask_branches bs)) ((count, all_left IsBranch (Each (IsItemThere m)) bs each), (t, all_right IsBranch (Each (IsItemThere m)) bs each)))
+
+  -- the branch that is read is the last
+  last_formed : HasCommand m Branch → (bs : List (List Item)) (is : List Item) → length bs ≤ 15 → Each IsGoodBranch bs → IsGoodBranch is → Formed (end_rule (bs ++ is ∷ []))
+  last_formed t bs is few each k = end_formed t (bs ++ is ∷ []) (omega (arith, length-append bs (is ∷ [])), omega (arith, length-append bs (is ∷ []))) (all-push IsGoodBranch bs is each k)
+
+  items_formed : HasCommand m Branch → (n : ℕ) (bs : List (List Item)) (is : List Item) → length bs ≤ 15 → Each IsGoodBranch bs → IsGoodBranch is → Formed (items_rule m n bs is)
+  items_formed t zero bs is few each k = last_formed t bs is few each k
+  items_formed t (suc n) bs is few each k =
+      let longer = λ (i : Item). items_rule m n bs (is ++ i ∷ []) in
+      let further = λ (i : Item). items_rule m n (bs ++ is ∷ []) (i ∷ []) in
+      let rest = also (on (maybe (nat_lt (length bs) 15) (the (codes "branch"))) (λ _. item_rule m further)) (end_rule (bs ++ is ∷ [])) in
+      ends_also IsGood (the (codes ";")) (λ _. item_rule m longer) rest (λ w v e. item_formed longer (λ i p. items_formed t n bs (is ++ i ∷ []) few each (branch-push is i k p)))
+      (ends_also IsGood (maybe (nat_lt (length bs) 15) (the (codes "branch"))) (λ _. item_rule m further) (end_rule (bs ++ is ∷ []))
+      (λ w v e. (let fewer = is_fewer (length bs) (maybe_some (nat_lt (length bs) 15) (the (codes "branch")) w v e).0 in
+      item_formed further (λ i p. items_formed t n (bs ++ is ∷ []) (i ∷ []) (omega (arith, fewer, length-append bs (is ∷ []))) (all-push IsGoodBranch bs is each k) ((omega arith, (p.0, tt)), (p.1, tt)))))
+      (last_formed t bs is few each k))
+
   command_formed : (c : Command) → HasCommand m c → Formed (command_rule m c)
   command_formed Model t = ends_next IsGood version_of (λ l. ends (model l)) (λ w l e. done (model l) (tt, t))
   command_formed Procedure t = procedure_formed t
@@ -433,6 +498,7 @@ module _ (m : Manner) where
   command_formed Label t = then_name _ (λ n p. then_value _ (λ z q. text_ends IsGood (λ t. edit (put_label n z t)) (λ x r. ((p, q, r), t))))
   command_formed Symbol t = then_name _ (λ n p. then_value _ (λ z q. sign_ends IsGood (λ b. edit (put_symbol n z b)) (λ b r. ((p, q, r), t))))
   command_formed Undo t = done undo (tt, t)
+  command_formed Branch t = item_formed (λ i. items_rule m most_items [] (i ∷ [])) (λ i p. items_formed t most_items [] (i ∷ []) (omega arith) tt ((omega arith, (p.0, tt)), (p.1, tt)))
   command_formed Value t = then_any _ (λ n p. then_side _ (λ r a. then_side _ (λ c b. done (ask (ask_value n r c)) ((p, a, b), t))))
   command_formed Grid t = then_any _ (λ n p. done (ask (ask_grid n)) (p, t))
   command_formed Show t = then_any _ (λ n p. done (ask (ask_show n)) (p, t))

@@ -5,10 +5,15 @@ pub mod FreshNames
 pub mod ScopeFacts
 pub mod Recutting
 pub mod SoundBodies
+pub mod SoundPlaces
 pub mod ProcedureSound
+pub mod BranchSound
 pub mod SoundLines
 pub mod ReadsBodies
 pub mod ProcedureReads
+pub mod EditReads
+pub mod BranchReads
+pub mod ItemsRead
 pub mod ReadsLines
 pub mod Whole
 pub mod Adding

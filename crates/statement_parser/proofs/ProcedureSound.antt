@@ -7,14 +7,14 @@ use Rattle.map_defs.specs.Statements.{Written, Inner}
 use Rattle.grammar_core.specs.Rules.{Rule, node, on, next, after, ◌<|>◌}
 use Rattle.grammar_core.specs.Run.{is_node}
 use Rattle.grammar_core.specs.Refusals.{Begins}
-use Rattle.grammar_core.proofs.Parts.{Healthy, Tail, NoBody, through, healthy_node, healthy_next, all_on, all_or, tail_ends, tail_next, tail_also}
+use Rattle.grammar_core.proofs.Parts.{Healthy, Tail, NoBody, through, healthy_node, all_on, all_or, tail_ends, tail_next, tail_also}
 use Rattle.grammar_core.proofs.Reading.{IsPlace}
 use Rattle.statement_parser.specs.Lines.{Manner, Line}
 use Rattle.statement_parser.specs.Scopes.{has_name, names_before, anywhere}
 use Rattle.statement_parser.specs.Places.{the, name_of, tests}
 use Rattle.statement_parser.specs.ProcedureRules.{fresh_of, further_names, inner_part, result_rule, statements_rule, procedure_line, procedure_rule}
-use Rattle.statement_parser.proofs.PlaceFacts.{name_takes, name_place}
 use Rattle.statement_parser.proofs.SoundBodies.{the_tail, healthy_body}
+use Rattle.statement_parser.proofs.SoundPlaces.{healthy_name}
 use Rattle.statement_parser.proofs.FreshNames.{new_name}
 
 fresh_free : (ns : List Text) → fresh_of ns (codes "LocalSum") ≡ None
@@ -69,11 +69,8 @@ module _ (m : Manner) where
   healthy_statements make ps zero is = (the_tail m anywhere (codes "result") _ refl refl (healthy_result make ps is)).healthy
   healthy_statements make ps (suc n) is = healthy_either make ps n is (healthy_statements make ps n)
 
-  healthy_named : (r : Text → Rule Text Line) → ((n : Text) → Healthy (tests m) (r n)) → Healthy (tests m) (next name_of r)
-  healthy_named r h = healthy_next (tests m) name_of r (codes "A") _ name_takes (name_place m).free h
-
   pub healthy_procedure : Healthy (tests m) (procedure_rule m)
   healthy_procedure =
-      healthy_named _ (λ p. (the_tail m anywhere (codes "(") _ refl refl (healthy_named _ (λ a.
+      healthy_name m _ (λ p. (the_tail m anywhere (codes "(") _ refl refl (healthy_name m _ (λ a.
       (names_tail (λ ps. next (the (codes ")")) (λ _. next (the (codes ":")) (λ _. statements_rule m (procedure_line p ps) ps 15 []))) (λ ps.
       the_tail m anywhere (codes ")") (λ _. next (the (codes ":")) (λ _. statements_rule m (procedure_line p ps) ps 15 [])) refl refl (the_tail m anywhere (codes ":") (λ _. statements_rule m (procedure_line p ps) ps 15 []) refl refl (healthy_statements (procedure_line p ps) ps 15 [])).healthy) 7 (a ∷ []) (omega arith)).healthy))).healthy)

@@ -1,67 +1,61 @@
 -- Reading lines is reading by the rule of lines.
-use Rattle.std.proofs.Common.{◌≡◌, ℕ, suc, true, false, List, [], ◌∷◌, length, Option, Some, None, Ok, refl, ◌∙◌}
-use Rattle.std.specs.Prelude.{codes}
+use Rattle.std.proofs.Common.{◌≡◌, ℕ, suc, true, false, List, [], ◌∷◌, length, Option, Some, None, Result, Ok, refl, ◌∙◌}
 use Rattle.map_words.specs.Bytes.{Text}
+use Rattle.grammar_core.specs.declared.Fault.{Fault}
 use Rattle.grammar_core.specs.Rules.{ends}
 use Rattle.grammar_core.specs.Run.{run, is_node}
-use Rattle.grammar_core.specs.Readers.{◌>>=◌, one_at, end_at}
-use Rattle.grammar_core.proofs.Reading.{end_reads, ends_tail, or_else, or_refused, start_place}
-use Rattle.map_defs.specs.Statements.{Written}
-use Rattle.statement_parser.specs.Lines.{Manner, define, paint, new_layer, drop, ask_value, ask_grid, ask_show, ask_legend, ask_table, ask_stamps, ask_list, Line, blank, edit, undo, ask, model, quit}
-use Rattle.statement_parser.specs.Scopes.{anywhere}
-use Rattle.statement_parser.specs.Places.{the, name_of, any_of, side_of, cell_of, version_of, tests, reading}
+use Rattle.grammar_core.specs.Readers.{◌>>=◌, end_at}
+use Rattle.grammar_core.proofs.Reading.{IsTail, end_reads, ends_tail, or_else, or_refused, start_place}
+use Rattle.statement_parser.specs.Lines.{Manner, Edit, ask_value, ask_grid, ask_show, ask_legend, ask_table, ask_stamps, ask_list, Line, blank, edit, undo, ask, model, quit}
+use Rattle.statement_parser.specs.Places.{name_of, any_of, version_of, tests}
 use Rattle.statement_parser.specs.Commands.{command_named}
-use Rattle.statement_parser.specs.Grammar.{define_rule, paint_rule, new_rule, drop_rule, value_rule, any_rule, table_rule, model_rule, command_rule, line_rule}
-use Rattle.statement_parser.specs.ReadBodies.{body_at}
+use Rattle.statement_parser.specs.Grammar.{define_rule, any_rule, table_rule, model_rule, command_rule, line_rule}
+use Rattle.statement_parser.specs.EditRules.{paint_part, new_part, drop_part, value_part}
 use Rattle.statement_parser.specs.ReadLine.{define_at, command_at, statement_at, started_at, line_at, quit_at}
-use Rattle.statement_parser.specs.ReadCommands.{corners_at, paint_at, new_at, drop_at, value_at, any_line_at, table_at, undo_at, model_at, list_at}
+use Rattle.statement_parser.specs.ReadCommands.{paint_at, new_at, drop_at, value_at, any_line_at, table_at, undo_at, model_at, list_at}
 use Rattle.statement_parser.specs.declared.command.Command.{Command}
-use Rattle.statement_parser.specs.declared.command.Command.TheVariants.{Model, Procedure, Paint, New, Drop, Label, Symbol, Undo, Value, Grid, Show, Legend, Table, Stamps, List as Listing, Quit}
-use Rattle.statement_parser.proofs.PlaceFacts.{the_place, name_place, any_place, side_place, cell_place, version_place, command_place}
+use Rattle.statement_parser.specs.declared.command.Command.TheVariants.{Model, Procedure, Paint, New, Drop, Label, Symbol, Undo, Branch, Value, Grid, Show, Legend, Table, Stamps, List as Listing, Quit}
+use Rattle.statement_parser.proofs.PlaceFacts.{name_place, any_place, version_place, command_place}
 use Rattle.statement_parser.proofs.ProcedureReads.{procedure_reads}
 use Rattle.statement_parser.proofs.LabelRules.{label_reads, symbol_reads}
-use Rattle.statement_parser.proofs.ReadsBodies.{body_reads}
-use Rattle.statement_parser.proofs.Placing.{placed, placed_k}
+use Rattle.statement_parser.proofs.BranchReads.{branches_reads}
+use Rattle.statement_parser.proofs.EditReads.{looked_reads, defined_reads, painted_reads, laid_reads, dropped_reads}
+use Rattle.statement_parser.proofs.Placing.{placed}
 
 module _ (m : Manner) where
+  -- an edit, and then the end
+  abbrev finish : Edit → List Text → Result Line Fault
+  finish e ws = end_at ws >>= λ u. Ok (edit e)
+
+  edit_tails : (e : Edit) → IsTail (tests m) (ends (edit e))
+  edit_tails e = ends_tail (tests m) (edit e)
+
+  edit_ends : (e : Edit) (ws : List Text) → finish e ws ≡ run (tests m) (ends (edit e)) ws
+  edit_ends e = end_reads (tests m) (edit e)
+
   define_reads : (n : Text) (ws : List Text) → define_at m n ws ≡ run (tests m) (define_rule m n) ws
   unfolding define_at
-  define_reads n =
-      let done = λ (w : Written). edit (define n w) in
-      placed m (the (codes "=")) false (λ u ws. body_at anywhere m ws >>= λ w. end_at w.1 >>= λ e. Ok (done w.0)) _ (the_place m (codes "=") refl refl) (λ u. refl) (λ u.
-      body_reads m anywhere (λ w ws. end_at ws >>= λ e. Ok (done w)) (λ w. ends (done w)) (λ w. ends_tail (tests m) (done w)) (λ w. end_reads (tests m) (done w)))
+  define_reads = defined_reads m finish (λ e. ends (edit e)) edit_tails edit_ends
 
-  paint_reads : (ws : List Text) → paint_at ws ≡ run (tests m) paint_rule ws
-  unfolding paint_at corners_at
-  paint_reads =
-      let k = λ (n : Text) (c : ℕ × ℕ × ℕ × ℕ) (ws : List Text). one_at reading cell_of true ws >>= λ v. end_at v.1 >>= λ e. Ok (edit (paint n c.0 c.1 c.2 c.3 v.0)) in
-      placed m name_of false _ _ (name_place m) (λ n. refl) (λ n.
-      placed_k m side_of true _ (k n) _ (side_place m) (λ r1. refl) (λ r1.
-      placed_k m side_of true _ (k n) _ (side_place m) (λ c1. refl) (λ c1.
-      placed_k m side_of true _ (k n) _ (side_place m) (λ r2. refl) (λ r2.
-      placed_k m side_of true (λ c2 ws. Ok ((r1, c1, r2, c2), ws)) (k n) _ (side_place m) (λ c2. refl) (λ c2.
-      placed m cell_of true _ _ (cell_place m) (λ v. refl) (λ v. end_reads (tests m) (edit (paint n r1 c1 r2 c2 v))))))))
+  paint_reads : (ws : List Text) → paint_at ws ≡ run (tests m) (paint_part (λ e. ends (edit e))) ws
+  unfolding paint_at
+  paint_reads = painted_reads m finish (λ e. ends (edit e)) edit_tails edit_ends
 
-  new_reads : (ws : List Text) → new_at ws ≡ run (tests m) new_rule ws
+  new_reads : (ws : List Text) → new_at ws ≡ run (tests m) (new_part (λ e. ends (edit e))) ws
   unfolding new_at
-  new_reads =
-      placed m name_of false _ _ (name_place m) (λ n. refl) (λ n.
-      placed m cell_of true _ _ (cell_place m) (λ v. refl) (λ v. end_reads (tests m) (edit (new_layer n v))))
+  new_reads = laid_reads m finish (λ e. ends (edit e)) edit_tails edit_ends
 
-  drop_reads : (ws : List Text) → drop_at ws ≡ run (tests m) drop_rule ws
+  drop_reads : (ws : List Text) → drop_at ws ≡ run (tests m) (drop_part (λ e. ends (edit e))) ws
   unfolding drop_at
-  drop_reads = placed m name_of false (λ n us. end_at us >>= λ e. Ok (edit (drop n))) (λ n. ends (edit (drop n))) (name_place m) (λ n. refl) (λ n. end_reads (tests m) (edit (drop n)))
+  drop_reads = dropped_reads m finish (λ e. ends (edit e)) edit_tails edit_ends
 
   undo_reads : (ws : List Text) → undo_at ws ≡ run (tests m) (ends undo) ws
   unfolding undo_at
   undo_reads = end_reads (tests m) undo
 
-  value_reads : (ws : List Text) → value_at ws ≡ run (tests m) value_rule ws
+  value_reads : (ws : List Text) → value_at ws ≡ run (tests m) (value_part (λ n r c. ends (ask (ask_value n r c)))) ws
   unfolding value_at
-  value_reads =
-      placed m any_of false _ _ (any_place m) (λ n. refl) (λ n.
-      placed m side_of true _ _ (side_place m) (λ r. refl) (λ r.
-      placed m side_of true _ _ (side_place m) (λ c. refl) (λ c. end_reads (tests m) (ask (ask_value n r c)))))
+  value_reads = looked_reads m (λ l ws. end_at ws >>= λ e. Ok (ask (ask_value l.0 l.1 l.2))) (λ n r c. ends (ask (ask_value n r c))) (λ n r c. refl) (λ n r c. end_reads (tests m) (ask (ask_value n r c)))
 
   any_reads : (make : Text → Line) (ws : List Text) → any_line_at make ws ≡ run (tests m) (any_rule make) ws
   unfolding any_line_at
@@ -94,6 +88,7 @@ module _ (m : Manner) where
   command_reads Label = label_reads m
   command_reads Symbol = symbol_reads m
   command_reads Undo = undo_reads
+  command_reads Branch = branches_reads m
   command_reads Value = value_reads
   command_reads Grid = any_reads (λ n. ask (ask_grid n))
   command_reads Show = any_reads (λ n. ask (ask_show n))
@@ -112,6 +107,7 @@ module _ (m : Manner) where
   command_node Label = refl
   command_node Symbol = refl
   command_node Undo = refl
+  command_node Branch = refl
   command_node Value = refl
   command_node Grid = refl
   command_node Show = refl

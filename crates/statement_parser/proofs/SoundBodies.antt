@@ -100,7 +100,7 @@ module _ (m : Manner) (scope : Scope) where
       (tail_part (codes "from") value_of (pos 1) (pos 0) (λ from. optional_part (codes "to") value_of (pos 0) (λ to. optional_part (codes "within") reach_of 64 (λ reach. f (made surface from to reach)))) refl refl value_takes (value_place m).free (λ from. tos surface from)).healthy)
 
   -- an optional part that may be there or not
-  tail_maybe : (b : Bool) (word : Text) (q : Unit {0} → Rule Text Line) (r : Rule Text Line) → the word word ≡ Some tt → IsFree word → ((u : Unit {0}) → Tail (tests m) (q u)) → Tail (tests m) r → Tail (tests m) (also (on (maybe b (the word)) q) r)
+  pub tail_maybe : (b : Bool) (word : Text) (q : Unit {0} → Rule Text Line) (r : Rule Text Line) → the word word ≡ Some tt → IsFree word → ((u : Unit {0}) → Tail (tests m) (q u)) → Tail (tests m) r → Tail (tests m) (also (on (maybe b (the word)) q) r)
   tail_maybe true word q r same free h tail = tail_also (tests m) (the word) q r word tt same free h tail
   tail_maybe false word q r same free h tail =
       let begins : Begins (also (on (maybe false (the word)) q) r) [] = (tail.healthy.begins.0, tail.healthy.begins.1, rest_derives (maybe false (the word)) q r tail.healthy.begins.0 tail.healthy.begins.1 (λ w us e. refl) tail.healthy.begins.2) in

@@ -4,7 +4,7 @@ use Rattle.std.specs.List.{list_any}
 use Rattle.map_words.specs.Bytes.{Text}
 use Rattle.statement_parser.specs.Lines.{Manner}
 use Rattle.statement_parser.specs.declared.command.Command.{Command}
-use Rattle.statement_parser.specs.declared.command.Command.TheVariants.{Model, Procedure, Paint, New, Drop, Label, Symbol, Undo, Value, Grid, Show, Legend, Table, Stamps, List as Listing, Quit}
+use Rattle.statement_parser.specs.declared.command.Command.TheVariants.{Model, Procedure, Paint, New, Drop, Label, Symbol, Undo, Branch, Value, Grid, Show, Legend, Table, Stamps, List as Listing, Quit}
 
 abbrev pub command_text : Command → Text
 command_text Model = codes "model"
@@ -15,6 +15,7 @@ command_text Drop = codes "drop"
 command_text Label = codes "label"
 command_text Symbol = codes "symbol"
 command_text Undo = codes "undo"
+command_text Branch = codes "branch"
 command_text Value = codes "value"
 command_text Grid = codes "grid"
 command_text Show = codes "show"
@@ -26,7 +27,7 @@ command_text Quit = codes "quit"
 
 -- the commands of every place
 abbrev pub lasting_commands : List Command
-lasting_commands = Procedure ∷ Paint ∷ New ∷ Drop ∷ Label ∷ Symbol ∷ Undo ∷ Value ∷ Grid ∷ Show ∷ Legend ∷ Table ∷ Stamps ∷ Listing ∷ Quit ∷ []
+lasting_commands = Procedure ∷ Paint ∷ New ∷ Drop ∷ Label ∷ Symbol ∷ Undo ∷ Branch ∷ Value ∷ Grid ∷ Show ∷ Legend ∷ Table ∷ Stamps ∷ Listing ∷ Quit ∷ []
 
 -- all commands
 abbrev pub commands : List Command

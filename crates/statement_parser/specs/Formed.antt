@@ -12,7 +12,7 @@ use Rattle.map_defs.specs.Ops.{Term, layer_term, number_term, terms_of, Op, loca
 use Rattle.map_defs.specs.Statements.{Written, plain, call, Inner, Procedure}
 use Rattle.statement_parser.specs.Signs.{is_sign}
 use Rattle.statement_parser.specs.Scopes.{Scope, has_name, names_before}
-use Rattle.statement_parser.specs.Lines.{Edit, define, paint, new_layer, drop, define_procedure, put_label, put_symbol, Request, ask_value, ask_grid, ask_show, ask_legend, ask_table, ask_stamps, ask_list, Line, blank, edit, undo, ask, model, quit}
+use Rattle.statement_parser.specs.Lines.{Edit, define, paint, new_layer, drop, define_procedure, put_label, put_symbol, Item, make, look_at, Request, ask_value, ask_grid, ask_show, ask_legend, ask_table, ask_stamps, ask_list, ask_branches, Line, blank, edit, undo, ask, model, quit}
 
 abbrev pub Each : {A : Type 0} → (A → Type 0) → List A → Type 0
 Each P [] = Unit {0}
@@ -125,6 +125,20 @@ IsEdit (put_symbol n z b) = IsTrue (is_plain n) × IsTrue (is_value z) × IsTrue
 abbrev pub IsAny : Text → Type 0
 IsAny n = IsTrue (is_plain n || is_dotted n)
 
+-- of the edits, these may be items
+abbrev pub IsItem : Item → Type 0
+IsItem (make (define n w)) = IsEdit (define n w)
+IsItem (make (define_procedure p)) = ⊥
+IsItem (make (paint n r1 c1 r2 c2 v)) = IsEdit (paint n r1 c1 r2 c2 v)
+IsItem (make (new_layer n v)) = IsEdit (new_layer n v)
+IsItem (make (drop n)) = IsEdit (drop n)
+IsItem (make (put_label n z t)) = ⊥
+IsItem (make (put_symbol n z b)) = ⊥
+IsItem (look_at n r c) = IsAny n × IsSide r × IsSide c
+
+abbrev pub IsBranch : List Item → Type 0
+IsBranch is = (1 ≤ length is) × Each IsItem is
+
 abbrev pub IsRequest : Request → Type 0
 IsRequest (ask_value n r c) = IsAny n × IsSide r × IsSide c
 IsRequest (ask_grid n) = IsAny n
@@ -133,6 +147,7 @@ IsRequest (ask_legend n) = IsAny n
 IsRequest (ask_table n v) = IsAny n × IsAny v
 IsRequest (ask_stamps n) = IsAny n
 IsRequest ask_list = Unit {0}
+IsRequest (ask_branches bs) = IsBetween 1 16 (length bs) × Each IsBranch bs
 
 abbrev pub IsFormed : Line → Type 0
 IsFormed blank = Unit {0}

@@ -1,38 +1,19 @@
 -- The grammar of lines.
-use Rattle.std.specs.Prelude.{List, Some, codes}
+use Rattle.std.specs.Prelude.{List, Some}
 use Rattle.map_words.specs.Bytes.{Text}
 use Rattle.grammar_core.specs.Rules.{Rule, Derives, node, ends, on, next, ◌<|>◌}
-use Rattle.statement_parser.specs.Lines.{Manner, define, paint, new_layer, drop, ask_value, ask_grid, ask_show, ask_legend, ask_table, ask_stamps, ask_list, Line, blank, edit, undo, ask, model, quit}
-use Rattle.statement_parser.specs.Scopes.{anywhere}
+use Rattle.statement_parser.specs.Lines.{Manner, ask_value, ask_grid, ask_show, ask_legend, ask_table, ask_stamps, ask_list, Line, blank, edit, undo, ask, model, quit}
 use Rattle.statement_parser.specs.Commands.{command_named}
-use Rattle.statement_parser.specs.Places.{the, name_of, any_of, side_of, cell_of, version_of}
-use Rattle.statement_parser.specs.Bodies.{body_rule}
+use Rattle.statement_parser.specs.Places.{name_of, any_of, version_of}
+use Rattle.statement_parser.specs.EditRules.{define_part, paint_part, new_part, drop_part, value_part}
 use Rattle.statement_parser.specs.Labels.{label_rule, symbol_rule}
 use Rattle.statement_parser.specs.ProcedureRules.{procedure_rule}
+use Rattle.statement_parser.specs.BranchRules.{branch_rule}
 use Rattle.statement_parser.specs.declared.command.Command.{Command}
-use Rattle.statement_parser.specs.declared.command.Command.TheVariants.{Model, Procedure, Paint, New, Drop, Label, Symbol, Undo, Value, Grid, Show, Legend, Table, Stamps, List as Listing, Quit}
+use Rattle.statement_parser.specs.declared.command.Command.TheVariants.{Model, Procedure, Paint, New, Drop, Label, Symbol, Undo, Branch, Value, Grid, Show, Legend, Table, Stamps, List as Listing, Quit}
 
--- after its name: "=" body
 abbrev pub define_rule : Manner → Text → Rule Text Line
-define_rule m n = next (the (codes "=")) (λ _. body_rule anywhere m (λ w. ends (edit (define n w))))
-
--- name ROW COL ROW COL cell
-abbrev pub paint_rule : Rule Text Line
-paint_rule =
-    next name_of (λ n. next side_of (λ r1. next side_of (λ c1. next side_of (λ r2. next side_of (λ c2. next cell_of (λ v.
-    ends (edit (paint n r1 c1 r2 c2 v))))))))
-
--- name cell
-abbrev pub new_rule : Rule Text Line
-new_rule = next name_of (λ n. next cell_of (λ v. ends (edit (new_layer n v))))
-
--- name
-abbrev pub drop_rule : Rule Text Line
-drop_rule = next name_of (λ n. ends (edit (drop n)))
-
--- any ROW COL
-abbrev pub value_rule : Rule Text Line
-value_rule = next any_of (λ n. next side_of (λ r. next side_of (λ c. ends (ask (ask_value n r c)))))
+define_rule m n = define_part m n (λ e. ends (edit e))
 
 -- any
 abbrev pub any_rule : (Text → Line) → Rule Text Line
@@ -50,13 +31,14 @@ model_rule = next version_of (λ l. ends (model l))
 abbrev pub command_rule : Manner → Command → Rule Text Line
 command_rule m Model = model_rule
 command_rule m Procedure = procedure_rule m
-command_rule m Paint = paint_rule
-command_rule m New = new_rule
-command_rule m Drop = drop_rule
+command_rule m Paint = paint_part (λ e. ends (edit e))
+command_rule m New = new_part (λ e. ends (edit e))
+command_rule m Drop = drop_part (λ e. ends (edit e))
 command_rule m Label = label_rule
 command_rule m Symbol = symbol_rule
 command_rule m Undo = ends undo
-command_rule m Value = value_rule
+command_rule m Branch = branch_rule m
+command_rule m Value = value_part (λ n r c. ends (ask (ask_value n r c)))
 command_rule m Grid = any_rule (λ n. ask (ask_grid n))
 command_rule m Show = any_rule (λ n. ask (ask_show n))
 command_rule m Legend = any_rule (λ n. ask (ask_legend n))

@@ -10,6 +10,8 @@ pub mod Labels
 pub mod Columns
 pub mod Bodies
 pub mod ProcedureRules
+pub mod EditRules
+pub mod BranchRules
 pub mod Grammar
 pub mod Views
 pub mod ScopeViews
@@ -17,9 +19,11 @@ pub mod Procedures
 pub mod Gives
 pub mod ReadParts
 pub mod ReadBodies
+pub mod ReadEdits
 pub mod ReadCommands
 pub mod ReadLabels
 pub mod ReadProcedures
+pub mod ReadBranches
 pub mod ReadLine
 pub mod Texts
 pub mod Parsed

@@ -32,6 +32,11 @@ pub data Edit : Type 0 where
   -- the byte that stands for a value of a layer
   put_symbol : Text → ℤ → ℕ → Edit
 
+-- a part of a branch: an edit, or a look at the cell in a row and a column
+pub data Item : Type 0 where
+  make : Edit → Item
+  look_at : Text → ℕ → ℕ → Item
+
 -- a line that asks for something
 pub data Request : Type 0 where
   ask_value : Text → ℕ → ℕ → Request
@@ -42,6 +47,8 @@ pub data Request : Type 0 where
   ask_table : Text → Text → Request
   ask_stamps : Text → Request
   ask_list : Request
+  -- branches, each a list of items
+  ask_branches : List (List Item) → Request
 
 pub data Line : Type 0 where
   blank : Line

@@ -1,27 +1,26 @@
 -- Reading lines, on lists.
-use Rattle.std.specs.Prelude.{suc, false, List, [], ◌∷◌, length, Option, Some, None, Result, Ok, codes}
+use Rattle.std.specs.Prelude.{suc, List, [], ◌∷◌, length, Option, Some, None, Result, Ok}
 use Rattle.map_words.specs.Bytes.{Text}
 use Rattle.grammar_core.specs.declared.Kind.TheVariants.{Syntax}
 use Rattle.grammar_core.specs.declared.Fault.{Fault}
 use Rattle.grammar_core.specs.Run.{refused}
-use Rattle.grammar_core.specs.Readers.{◌>>=◌, one_at, end_at}
-use Rattle.statement_parser.specs.Lines.{Manner, Line, define, ask_grid, ask_show, ask_legend, ask_stamps, blank, edit, ask, quit}
-use Rattle.statement_parser.specs.Scopes.{anywhere}
-use Rattle.statement_parser.specs.Places.{the, name_of, reading}
+use Rattle.grammar_core.specs.Readers.{◌>>=◌, end_at}
+use Rattle.statement_parser.specs.Lines.{Manner, Line, ask_grid, ask_show, ask_legend, ask_stamps, blank, edit, ask, quit}
+use Rattle.statement_parser.specs.Places.{name_of}
 use Rattle.statement_parser.specs.Commands.{command_named}
-use Rattle.statement_parser.specs.ReadBodies.{body_at}
+use Rattle.statement_parser.specs.ReadEdits.{defined_at}
 use Rattle.statement_parser.specs.ReadLabels.{label_at, symbol_at}
 use Rattle.statement_parser.specs.ReadProcedures.{procedure_at}
+use Rattle.statement_parser.specs.ReadBranches.{branches_at}
 use Rattle.statement_parser.specs.ReadCommands.{paint_at, new_at, drop_at, value_at, any_line_at, table_at, undo_at, model_at, list_at}
 use Rattle.statement_parser.specs.declared.command.Command.{Command}
-use Rattle.statement_parser.specs.declared.command.Command.TheVariants.{Model, Procedure, Paint, New, Drop, Label, Symbol, Undo, Value, Grid, Show, Legend, Table, Stamps, List as Listing, Quit}
+use Rattle.statement_parser.specs.declared.command.Command.TheVariants.{Model, Procedure, Paint, New, Drop, Label, Symbol, Undo, Branch, Value, Grid, Show, Legend, Table, Stamps, List as Listing, Quit}
 
 unfoldable pub define_at : Manner → Text → List Text → Result Line Fault
 define_at m n ws = do
-  u ← one_at reading (the (codes "=")) false ws
-  w ← body_at anywhere m u.1
-  e ← end_at w.1
-  Ok (edit (define n w.0))
+  e ← defined_at m n ws
+  u ← end_at e.1
+  Ok (edit e.0)
 
 unfoldable pub quit_at : List Text → Result Line Fault
 quit_at ws = do
@@ -37,6 +36,7 @@ command_at m Drop ws = drop_at ws
 command_at m Label ws = label_at ws
 command_at m Symbol ws = symbol_at ws
 command_at m Undo ws = undo_at ws
+command_at m Branch ws = branches_at m ws
 command_at m Value ws = value_at ws
 command_at m Grid ws = any_line_at (λ n. ask (ask_grid n)) ws
 command_at m Show ws = any_line_at (λ n. ask (ask_show n)) ws

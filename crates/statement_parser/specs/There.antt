@@ -3,7 +3,7 @@ use Rattle.std.specs.Prelude.{Bool, true, false, ◌∷◌, List, IsTrue}
 use Rattle.map_nums.specs.declared.Stat.TheVariants.{Sum}
 use Rattle.map_defs.specs.Ops.{Op, local_op, difference_op, ratio_op, rating_op, focal_op, zonal_op, form_op, direction_op, flow_op, spread_op, sight_op, region_op}
 use Rattle.map_defs.specs.Statements.{Written, plain, call, Inner}
-use Rattle.statement_parser.specs.Lines.{Manner, Edit, define, paint, new_layer, drop, define_procedure, put_label, put_symbol, Request, ask_value, ask_grid, ask_show, ask_legend, ask_table, ask_stamps, ask_list, Line, blank, edit, undo, ask, model, quit}
+use Rattle.statement_parser.specs.Lines.{Manner, Edit, define, paint, new_layer, drop, define_procedure, put_label, put_symbol, Item, make, look_at, Request, ask_value, ask_grid, ask_show, ask_legend, ask_table, ask_stamps, ask_list, ask_branches, Line, blank, edit, undo, ask, model, quit}
 use Rattle.statement_parser.specs.Formed.{Each}
 use Rattle.statement_parser.specs.Forms.{form_row}
 use Rattle.statement_parser.specs.Operations.{operation_text, has_row}
@@ -11,7 +11,7 @@ use Rattle.statement_parser.specs.Commands.{command_text, has_command}
 use Rattle.statement_parser.specs.declared.operation.Operation.{Operation}
 use Rattle.statement_parser.specs.declared.operation.Operation.TheVariants.{Local, Difference, Ratio, Rating, Focal, Proximity, Insularity, Zonal, Incremental, Drainage}
 use Rattle.statement_parser.specs.declared.command.Command.{Command}
-use Rattle.statement_parser.specs.declared.command.Command.TheVariants.{Model, Procedure, Paint, New, Drop, Label, Symbol, Undo, Value, Grid, Show, Legend, Table, Stamps, List as Listing, Quit}
+use Rattle.statement_parser.specs.declared.command.Command.TheVariants.{Model, Procedure, Paint, New, Drop, Label, Symbol, Undo, Branch, Value, Grid, Show, Legend, Table, Stamps, List as Listing, Quit}
 
 -- the operation's row is there
 abbrev pub HasRow : Manner → Operation → Type 0
@@ -57,6 +57,11 @@ IsEditThere m (drop n) = HasCommand m Drop
 IsEditThere m (put_label n z t) = HasCommand m Label
 IsEditThere m (put_symbol n z b) = HasCommand m Symbol
 
+-- the words of an item belong to its line, and ask for no row of their own
+abbrev pub IsItemThere : Manner → Item → Type 0
+IsItemThere m (make (define n w)) = IsWrittenThere m w
+IsItemThere m i = Unit {0}
+
 abbrev pub IsRequestThere : Manner → Request → Type 0
 IsRequestThere m (ask_value n r c) = HasCommand m Value
 IsRequestThere m (ask_grid n) = HasCommand m Grid
@@ -65,6 +70,7 @@ IsRequestThere m (ask_legend n) = HasCommand m Legend
 IsRequestThere m (ask_table n v) = HasCommand m Table
 IsRequestThere m (ask_stamps n) = HasCommand m Stamps
 IsRequestThere m ask_list = HasCommand m Listing
+IsRequestThere m (ask_branches bs) = HasCommand m Branch × Each (Each (IsItemThere m)) bs
 
 abbrev pub IsThere : Manner → Line → Type 0
 IsThere m blank = Unit {0}

@@ -1,5 +1,6 @@
 -- What the parser's values are, without where they lie in memory.
-use Rattle.std.specs.Prelude.{ℕ, nat_abs, List, map, Option, Some, None}
+use Rattle.std.specs.Prelude.{ℕ, nat_abs, List, map, Option, Some, None, Vec}
+use Rattle.std.specs.declared.alloc.Global.{Global}
 use Rattle.map_words.specs.Bytes.{Text}
 use Rattle.map_words.specs.declared.cutting.Word.{Word}
 use Rattle.statement_parser.specs.declared.op.Term as terms
@@ -13,6 +14,8 @@ use Rattle.statement_parser.specs.declared.line.Written.TheVariants as a_written
 use Rattle.statement_parser.specs.declared.procedure.Procedure.{Procedure}
 use Rattle.statement_parser.specs.declared.line.LineEdit as edits
 use Rattle.statement_parser.specs.declared.line.LineEdit.TheVariants as an_edit
+use Rattle.statement_parser.specs.declared.line.Item as items
+use Rattle.statement_parser.specs.declared.line.Item.TheVariants as an_item
 use Rattle.statement_parser.specs.declared.line.Request as requests
 use Rattle.statement_parser.specs.declared.line.Request.TheVariants as a_request
 use Rattle.statement_parser.specs.declared.line.Line as lines
@@ -22,7 +25,7 @@ use Rattle.map_defs.specs.Statements as meant
 use Rattle.map_defs.specs.Statements.{Written, plain, call}
 use Rattle.statement_parser.specs.Forms.{form_of}
 use Rattle.statement_parser.specs.declared.rows.Rows.{Rows}
-use Rattle.statement_parser.specs.Lines.{Manner, Edit, define, paint, new_layer, drop, define_procedure, put_label, put_symbol, Request, ask_value, ask_grid, ask_show, ask_legend, ask_table, ask_stamps, ask_list, Line, blank, edit, undo, ask, model, quit}
+use Rattle.statement_parser.specs.Lines.{Manner, Edit, define, paint, new_layer, drop, define_procedure, put_label, put_symbol, Item, make, look_at, Request, ask_value, ask_grid, ask_show, ask_legend, ask_table, ask_stamps, ask_list, ask_branches, Line, blank, edit, undo, ask, model, quit}
 
 -- the texts of words
 abbrev pub texts_of : List Word → List Text
@@ -80,6 +83,17 @@ edit_view (an_edit.Drop n) = drop n
 edit_view (an_edit.Label n z t) = put_label n z t
 edit_view (an_edit.Symbol n z b) = put_symbol n z b
 
+abbrev pub item_view : items.Item → Item
+item_view (an_item.Edit e) = make (edit_view e)
+item_view (an_item.Value n r c) = look_at n r c
+
+-- the items of a branch
+abbrev pub items_view : List items.Item → List Item
+items_view is = map item_view is
+
+abbrev pub branches_view : List (Vec items.Item Global) → List (List Item)
+branches_view bs = map (λ (b : Vec items.Item Global). items_view b.items) bs
+
 abbrev pub request_view : requests.Request → Request
 request_view (a_request.Value n r c) = ask_value n r c
 request_view (a_request.Grid n) = ask_grid n
@@ -88,6 +102,7 @@ request_view (a_request.Legend n) = ask_legend n
 request_view (a_request.Table n v) = ask_table n v
 request_view (a_request.Stamps n) = ask_stamps n
 request_view a_request.List = ask_list
+request_view (a_request.Branch bs) = ask_branches (branches_view bs.items)
 
 abbrev pub line_view : lines.Line → Line
 line_view a_line.Blank = blank

@@ -4,7 +4,7 @@ use Rattle.map_nums.specs.declared.Stat.TheVariants as stats
 use Rattle.map_words.specs.Bytes.{Text}
 use Rattle.map_defs.specs.Ops.{layer_term, number_term, local_op, rating_op, focal_op, spread_op, sight_op}
 use Rattle.map_defs.specs.Statements.{plain, call}
-use Rattle.statement_parser.specs.Lines.{Manner, define, define_procedure, paint, new_layer, put_label, put_symbol, ask_grid, ask_table, Line, blank, edit, undo, ask, model}
+use Rattle.statement_parser.specs.Lines.{Manner, define, define_procedure, paint, new_layer, drop, put_label, put_symbol, make, look_at, ask_grid, ask_table, ask_branches, Line, blank, edit, undo, ask, model}
 use Rattle.statement_parser.specs.Operations.{operations}
 use Rattle.statement_parser.specs.Commands.{commands}
 use Rattle.statement_parser.specs.declared.operation.Operation.TheVariants.{Rating}
@@ -59,6 +59,28 @@ pub record WorkedProcedures : Type 0 where
   pub same_parameter : IsRefusedOfAll (codes "procedure Q(P, P): result = LocalSum of P and 1") (syntax 16)
   pub same_inner : IsRefusedOfAll (codes "procedure Q(P): P = LocalSum of P and 1") (syntax 17)
 
+-- four branches that go on
+abbrev pub four_branches : Text
+four_branches = codes "branch drop A branch drop A branch drop A branch drop A "
+
+-- lines of branches
+pub record WorkedBranches : Type 0 where
+  pub one : IsOfAll (codes "branch drop A end") (ask (ask_branches ((make (drop (codes "A")) ∷ []) ∷ [])))
+  pub two : IsOfAll (codes "branch new B null; value A.b 1 2 branch paint B 1 2 3 4 5 end") (ask (ask_branches (
+      (make (new_layer (codes "B") None) ∷ look_at (codes "A.b") 1 2 ∷ []) ∷ (make (paint (codes "B") 1 2 3 4 (Some (pos 5))) ∷ []) ∷ [])))
+  pub body_before_branch : IsOfAll (codes "branch X = LocalSum of A and 1 branch drop X end") (ask (ask_branches (
+      (make (define (codes "X") (plain (local_op stats.Sum false (layer_term (codes "A") ∷ number_term (pos 1) ∷ [])))) ∷ []) ∷ (make (drop (codes "X")) ∷ []) ∷ [])))
+  pub no_item : IsRefusedOfAll (codes "branch end") (syntax 8)
+  pub no_end : IsRefusedOfAll (codes "branch value A 1 1") (syntax 19)
+  pub no_body : IsRefusedOfAll (codes "branch X = end") (operation 12)
+  pub no_row : IsRefusedOfAll (codes "branch value A 0 1 end") (number 16)
+  pub seventeenth : IsRefusedOfAll (four_branches ++ four_branches ++ four_branches ++ four_branches ++ codes "branch drop A end") (syntax 225)
+  pub no_label : IsRefusedOfAll (codes "branch label A 1 x end") (syntax 8)
+  pub no_undo : IsRefusedOfAll (codes "branch undo end") (syntax 8)
+  pub no_item_more : IsRefusedOfAll (codes "branch drop A; end") (syntax 16)
+  pub after_end : IsRefusedOfAll (codes "branch drop A end x") (syntax 19)
+  pub branch_not_yet : IsRefused (codes "branch drop A end") (syntax 1)
+
 pub record Worked : Type 0 where
   pub empty : Is [] blank
   pub note : Is (codes "# note (") blank
@@ -104,6 +126,7 @@ pub record Worked : Type 0 where
   pub no_sign : IsRefusedOfAll (codes "symbol A 1") (syntax 11)
   pub procedures : WorkedProcedures
   pub languages : WorkedLanguages
+  pub branches : WorkedBranches
   pub far : IsRefusedOfAll (codes "C = FocalMean of A at 33") (number 23)
   pub no_mean : IsRefusedOfAll (codes "C = FocalMean of A radiating on B") (syntax 20)
   pub no_product : IsRefusedOfAll (codes "C = FocalProduct of A") (operation 5)

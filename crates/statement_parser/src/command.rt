@@ -17,6 +17,7 @@ pub enum Command {
     Label,
     Symbol,
     Undo,
+    Branch,
     Value,
     Grid,
     Show,
@@ -28,7 +29,7 @@ pub enum Command {
 }
 
 /// All commands.
-const COMMANDS: [Command; 16] = [
+const COMMANDS: [Command; 17] = [
     Command::Model,
     Command::Procedure,
     Command::Paint,
@@ -37,6 +38,7 @@ const COMMANDS: [Command; 16] = [
     Command::Label,
     Command::Symbol,
     Command::Undo,
+    Command::Branch,
     Command::Value,
     Command::Grid,
     Command::Show,
@@ -60,6 +62,7 @@ fn command_word(command: Command) -> &'static [u8]
         Command::Label => b"label",
         Command::Symbol => b"symbol",
         Command::Undo => b"undo",
+        Command::Branch => b"branch",
         Command::Value => b"value",
         Command::Grid => b"grid",
         Command::Show => b"show",

@@ -5,8 +5,10 @@
 #![tactic(auto)]
 
 mod bodies;
+mod branches;
 mod command;
 mod copying;
+mod edits;
 mod fault;
 mod labels;
 mod language;
@@ -14,6 +16,7 @@ mod laws;
 mod line;
 mod line_text;
 mod op;
+mod opening;
 mod operation;
 mod parsing;
 mod places;
@@ -31,7 +34,7 @@ mod tails;
 pub use command::Command;
 pub use language::{Language, Place};
 pub use laws::{lines_are_read, lines_are_settled, worked_lines};
-pub use line::{Line, LineEdit, Request, Written};
+pub use line::{Item, Line, LineEdit, Request, Written};
 pub use line_text::parse_line;
 pub use op::{Form, Op, Reach, Term};
 pub use operation::Operation;

@@ -53,8 +53,15 @@ pub enum LineEdit {
     },
 }
 
+/// A part of a branch: an edit, or a look at a cell. Rows and columns count from 1.
+#[derive(Drop)]
+pub enum Item {
+    Edit(LineEdit),
+    Value { name: Name, r: u32, c: u32 },
+}
+
 /// A line that asks for something. Rows and columns count from 1.
-#[derive(Debug, Drop)]
+#[derive(Drop)]
 pub enum Request {
     Value { name: Name, r: u32, c: u32 },
     Grid(Name),
@@ -66,6 +73,8 @@ pub enum Request {
     Table { zones: Name, values: Name },
     Stamps(Name),
     List,
+    /// Branches of edits that are tried on the state that stands.
+    Branch(Vec<Vec<Item>>),
 }
 
 #[derive(Drop)]

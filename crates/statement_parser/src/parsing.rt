@@ -6,17 +6,17 @@ ghost use Rattle.statement_parser.specs.Gives.{Gives};
 ghost use Rattle.statement_parser.specs.Lines.{ask, ask_grid, ask_show, ask_legend, ask_stamps};
 ghost use Rattle.statement_parser.specs.Parsed.{IsWordsRead};
 ghost use Rattle.statement_parser.specs.ReadLine.{define_at, command_at, line_at, quit_at};
-ghost use Rattle.statement_parser.specs.ReadCommands.{corners_at, paint_at, new_at, drop_at, value_at, any_line_at, table_at, undo_at, model_at, list_at};
+ghost use Rattle.statement_parser.specs.ReadCommands.{paint_at, new_at, drop_at, value_at, any_line_at, table_at, undo_at, model_at, list_at};
 
-use crate::bodies::body;
+use crate::branches::branch;
 use crate::command::{Command, command_named};
+use crate::edits::{defined, dropped, laid, looked, painted};
 use crate::fault::ReadError;
 use crate::labels::{label, symbol};
-use crate::line::{Line, LineEdit, Request};
-use crate::places::{any, cell, end, misfit, name, side, the, version};
+use crate::line::{Line, Request};
+use crate::places::{any, end, misfit, version};
 use crate::procedures::procedure;
 use crate::rows::Rows;
-use crate::scope::Scope;
 use map_words::{Name, NameRefusal, Word};
 use std::alloc::Global;
 
@@ -24,75 +24,36 @@ use std::alloc::Global;
 fn define(alloc: Global, rows: &Rows<'_>, name: Name, words: &[Word<'_>]) -> Result<Line, ReadError>
     ensures { Gives line_view result (define_at (manner_of rows.now) name (texts_of words.now)) }
 {
-    let rest = the(b"=", words)?;
-    let (written, rest) = body(alloc, &Scope::Anywhere, rows, rest)?;
+    let (edit, rest) = defined(alloc, rows, name, words)?;
     end(rest)?;
-    Ok(Line::Edit(LineEdit::Define { name, written }))
-}
-
-/// The rows and columns of a rectangle.
-#[derive(Clone, Copy)]
-struct Rectangle {
-    r1: u32,
-    c1: u32,
-    r2: u32,
-    c2: u32,
-}
-
-#[tactic(auto, unfolding(crate::specs::ReadCommands::corners_at))]
-fn corners<'t, 'a>(words: &'t [Word<'a>]) -> Result<(Rectangle, &'t [Word<'a>]), ReadError>
-    ensures { Gives (λ x. ((x.0.r1, x.0.c1, x.0.r2, x.0.c2), texts_of x.1.now)) result (corners_at (texts_of words.now)) }
-{
-    let (r1, rest) = side(words)?;
-    let (c1, rest) = side(rest)?;
-    let (r2, rest) = side(rest)?;
-    let (c2, rest) = side(rest)?;
-    Ok((Rectangle { r1, c1, r2, c2 }, rest))
+    Ok(Line::Edit(edit))
 }
 
 #[tactic(auto, unfolding(crate::specs::ReadCommands::paint_at))]
 fn paint(alloc: Global, words: &[Word<'_>]) -> Result<Line, ReadError>
     ensures { Gives line_view result (paint_at (texts_of words.now)) }
 {
-    let (name, rest) = name(alloc, words)?;
-    let (Rectangle { r1, c1, r2, c2 }, rest) = corners(rest)?;
-    match cell(rest) {
-        Err(error) => Err(error),
-        Ok((cell, rest)) => {
-            end(rest)?;
-            Ok(Line::Edit(LineEdit::Paint {
-                name,
-                r1,
-                c1,
-                r2,
-                c2,
-                cell,
-            }))
-        }
-    }
+    let (edit, rest) = painted(alloc, words)?;
+    end(rest)?;
+    Ok(Line::Edit(edit))
 }
 
 #[tactic(auto, unfolding(crate::specs::ReadCommands::new_at))]
 fn new_layer(alloc: Global, words: &[Word<'_>]) -> Result<Line, ReadError>
     ensures { Gives line_view result (new_at (texts_of words.now)) }
 {
-    let (name, rest) = name(alloc, words)?;
-    match cell(rest) {
-        Err(error) => Err(error),
-        Ok((cell, rest)) => {
-            end(rest)?;
-            Ok(Line::Edit(LineEdit::New { name, cell }))
-        }
-    }
+    let (edit, rest) = laid(alloc, words)?;
+    end(rest)?;
+    Ok(Line::Edit(edit))
 }
 
 #[tactic(auto, unfolding(crate::specs::ReadCommands::drop_at))]
 fn drop_line(alloc: Global, words: &[Word<'_>]) -> Result<Line, ReadError>
     ensures { Gives line_view result (drop_at (texts_of words.now)) }
 {
-    let (name, rest) = name(alloc, words)?;
+    let (edit, rest) = dropped(alloc, words)?;
     end(rest)?;
-    Ok(Line::Edit(LineEdit::Drop { name }))
+    Ok(Line::Edit(edit))
 }
 
 #[tactic(auto, unfolding(crate::specs::ReadCommands::undo_at))]
@@ -107,9 +68,7 @@ fn undo(words: &[Word<'_>]) -> Result<Line, ReadError>
 fn value(alloc: Global, words: &[Word<'_>]) -> Result<Line, ReadError>
     ensures { Gives line_view result (value_at (texts_of words.now)) }
 {
-    let (name, rest) = any(alloc, words)?;
-    let (r, rest) = side(rest)?;
-    let (c, rest) = side(rest)?;
+    let ((name, r, c), rest) = looked(alloc, words)?;
     end(rest)?;
     Ok(Line::Ask(Request::Value { name, r, c }))
 }
@@ -203,6 +162,7 @@ fn commanded(
         Command::Label => label(alloc, words),
         Command::Symbol => symbol(alloc, words),
         Command::Undo => undo(words),
+        Command::Branch => branch(alloc, rows, words),
         Command::Value => value(alloc, words),
         Command::Grid => grid(alloc, words),
         Command::Show => show(alloc, words),

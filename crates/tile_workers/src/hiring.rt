@@ -22,6 +22,7 @@ fn do_shift<W: Work, G: Gate, M: Tally + Send>(
 )
 where
     W::Done: Drop,
+    requires ready { W.ready phase.now.work.now }
     requires jobs { phase.now.jobs ≡ W.jobs phase.now.work.now }
     requires count { phase.now.jobs < 2 ^ 32 }
     requires hired { IsHired M.counts phase.now.board.now.table.shared.table_id shift.old }
@@ -40,6 +41,7 @@ pub(crate) fn do_shifts<W: Work + Sync, G: Gate + Sync, M: Tally + Send, R: Thre
 )
 where
     W::Done: Drop + Send,
+    requires ready { W.ready phase.now.work.now }
     requires jobs { phase.now.jobs ≡ W.jobs phase.now.work.now }
     requires count { phase.now.jobs < 2 ^ 32 }
     requires hired { All (IsHired M.counts phase.now.board.now.table.shared.table_id) shifts.old }
@@ -51,7 +53,7 @@ where
         rt,
         shifts,
         &|_, shift: &mut Shift<M, W::Done>|
-            requires { (phase.now.jobs ≡ W.jobs phase.now.work.now) × (phase.now.jobs < 2 ^ 32) × IsHired M.counts phase.now.board.now.table.shared.table_id shift.now }
+            requires { W.ready phase.now.work.now × (phase.now.jobs ≡ W.jobs phase.now.work.now) × (phase.now.jobs < 2 ^ 32) × IsHired M.counts phase.now.board.now.table.shared.table_id shift.now }
             ensures { IsDone M.counts phase.entry.now.board.now.table.shared.table_id phase.entry.now.jobs (W.looks phase.entry.now.work.now) (W.picks phase.entry.now.work.now) (W.answers phase.entry.now.work.now) shift.exit.now × (shift_share shift.exit.now ≡ shift_share shift.entry.now) }
         { do_shift(phase, shift) },
     );

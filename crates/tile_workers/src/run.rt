@@ -29,6 +29,7 @@ fn do_alone<W: Work, G: Gate, M: Tally + Send>(
 ) -> Gathered<W::Done>
 where
     W::Done: Drop,
+    requires ready { W.ready phase.now.work.now }
     requires own { IsSeatOf phase.now.board.now seat }
     requires jobs { phase.now.jobs ≡ W.jobs phase.now.work.now }
     requires count { phase.now.jobs < 2 ^ 32 }
@@ -53,6 +54,7 @@ fn do_beside<W: Work + Sync, G: Gate + Sync, M: Tally + Send, R: Threads + Sync>
 ) -> Gathered<W::Done>
 where
     W::Done: Drop + Send,
+    requires ready { W.ready phase.now.work.now }
     requires own { IsSeatOf phase.now.board.now seat }
     requires jobs { phase.now.jobs ≡ W.jobs phase.now.work.now }
     requires count { phase.now.jobs < 2 ^ 32 }
@@ -83,6 +85,7 @@ fn do_all<W: Work + Sync, G: Gate + Sync, M: Tally + Send, R: Threads + Sync>(
 ) -> Gathered<W::Done>
 where
     W::Done: Drop + Send,
+    requires ready { W.ready phase.now.work.now }
     requires own { IsSeatOf phase.now.board.now seat }
     requires jobs { phase.now.jobs ≡ W.jobs phase.now.work.now }
     requires count { phase.now.jobs < 2 ^ 32 }
@@ -113,6 +116,7 @@ pub fn run_by<W: Work + Sync, G: Gate + Sync, M: Tally + Send, R: Threads + Sync
 ) -> Result<Vec<W::Done>, NoMemory>
 where
     W::Done: Drop + Send,
+    requires ready { W.ready work.now }
     requires jobs { jobs ≡ W.jobs work.now }
     requires count { jobs < 2 ^ 32 }
     requires whole { 1 < crew.now.workers → IsUndivided (M.counts tally.old) }
@@ -157,6 +161,7 @@ pub fn run_phase<W: Work + Sync, G: Gate + Sync, M: Tally + Send, R: Threads + S
 ) -> Result<Vec<W::Done>, NoMemory>
 where
     W::Done: Drop + Send,
+    requires ready { W.ready work.now }
     requires jobs { jobs ≡ W.jobs work.now }
     requires count { jobs < 2 ^ 32 }
     requires workers { (0 < workers) × (workers ≤ 64) }

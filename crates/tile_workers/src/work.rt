@@ -12,6 +12,9 @@ pub trait Work {
     /// What a job answers. Where a job may fail, this is a `Result`: the others are done all the same.
     type Done;
 
+    /// What a job needs to be true of its parts: that a runtime in them may be shared, for one.
+    ghost ready: { Self → Type 0 };
+
     /// How many jobs there are.
     ghost jobs: { Self → ℕ };
 
@@ -26,6 +29,7 @@ pub trait Work {
 
     /// Does the job that the seat drew last.
     fn job<M: Tally + Send>(&self, seat: &Seat, ticket: u64, tally: &mut M) -> Self::Done
+        requires ready { ready self.now }
         requires last { EndsWith (drawn seat.now) ticket }
         requires below { ticket < jobs self.now }
         ensures answer { answers self.now ticket result }

@@ -21,6 +21,7 @@ pub(crate) fn do_jobs<W: Work, G: Gate, M: Tally + Send>(
 ) -> Result<(), NoMemory>
 where
     W::Done: Drop,
+    requires ready { W.ready phase.now.work.now }
     requires own { IsSeatOf phase.now.board.now seat.old }
     requires jobs { phase.now.jobs ≡ W.jobs phase.now.work.now }
     requires count { phase.now.jobs < 2 ^ 32 }

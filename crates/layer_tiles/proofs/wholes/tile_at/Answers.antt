@@ -12,4 +12,4 @@ returns c =
     let tiles = c.args.tiles.now in
     let n = whole_number c.args.extent tiles c.args.number c.requires.whole c.requires.within in
     let e = entry c.args.extent tiles c.args.number c.index-tiles-number.result c.requires.whole.patch n.0 c.index-tiles-number.is in
-    ap (patch_get tiles) (sym n.1 ∙ e.number) ∙ e.found
+    rw (c.tile.ensures) (ap (patch_get tiles) (sym n.1 ∙ e.number) ∙ e.found)

@@ -1,0 +1,4 @@
+pub mod Places
+pub mod Flooding
+pub mod Seeding
+pub mod Results

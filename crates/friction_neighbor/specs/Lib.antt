@@ -1,0 +1,5 @@
+pub mod Fields
+pub mod Spots
+pub mod Seeds
+pub mod Floods
+pub mod Shown

@@ -1,0 +1,191 @@
+//! What values are passed on over: sources, frictions and least costs, in lists, by place.
+ghost use Rattle.std.specs.Prelude.{◌≡◌, ◌<◌, ◌≤◌, ◌+◌, ◌^◌, suc, length};
+ghost use Rattle.map_nums.specs.Grids.{Cells, cells_in, cell_at};
+ghost use Rattle.map_nums.specs.Numbers.{greatest_value};
+ghost use Rattle.map_defs.specs.Spread.{IsSpread, friction_at, friction_of};
+ghost use Rattle.friction_spread.specs.Costs.{cost_of};
+ghost use Rattle.friction_neighbor.specs.Fields.{FieldState, IsField, cost_at, own_at, field_of};
+ghost use Rattle.friction_neighbor.specs.Spots.{IsSpot, weighed};
+
+use layer_tiles::{Cell, Extent};
+use std::marker::Model;
+
+/// The sources, frictions and least costs of a map, and the greatest cost that counts.
+#[derive(Drop)]
+pub struct CostField<'a> {
+    extent: Extent,
+    sources: &'a [Cell],
+    friction: &'a [Cell],
+    costs: &'a [Cell],
+    limit: u64,
+}
+
+/// A place with its row and column.
+#[derive(Clone, Copy)]
+pub struct Spot {
+    pub at: u32,
+    pub row: u32,
+    pub column: u32,
+}
+
+impl<'a> Model for CostField<'a> {
+    ghost use Rattle.friction_neighbor.specs.Fields.{FieldState, IsField, field_of};
+
+    ghost Value = { FieldState };
+
+    ghost view = { λ f. field_of f.extent f.sources.now f.friction.now f.limit f.costs.now };
+
+    ghost invariant = { λ f. IsField (field_of f.extent f.sources.now f.friction.now f.limit f.costs.now) };
+}
+
+impl<'a> CostField<'a> {
+    pub fn new(
+        extent: Extent,
+        sources: &'a [Cell],
+        friction: &'a [Cell],
+        limit: u64,
+        costs: &'a [Cell],
+    ) -> CostField<'a>
+        requires sources { length sources.now ≡ cells_in extent }
+        requires friction { length friction.now ≡ cells_in extent }
+        requires limit { limit ≤ greatest_value }
+        requires costs { IsSpread extent sources.now friction.now limit costs.now }
+        ensures { result ≡ field_of extent sources.now friction.now limit costs.now }
+    {
+        let _rows = extent.rows();
+        CostField {
+            extent,
+            sources,
+            friction,
+            costs,
+            limit,
+        }
+    }
+
+    pub fn extent(&self) -> Extent
+        ensures extent { result ≡ self.now.ground.size }
+        ensures field { IsField self.now }
+    {
+        self.extent
+    }
+
+    /// The greatest cost that counts.
+    pub fn limit(&self) -> u64
+        ensures limit { result ≡ self.now.ground.limit }
+        ensures low { result ≤ greatest_value }
+    {
+        self.limit
+    }
+
+    /// A place with its row and column.
+    pub fn spot(&self, at: u32) -> Spot
+        requires { at < cells_in self.now.ground.size }
+        ensures spot { IsSpot self.now.ground.size result }
+        ensures at { result.at ≡ at }
+    {
+        spot_in(self.extent(), at)
+    }
+
+    /// The place of a row and a column.
+    pub fn spot_at(&self, row: u32, column: u32) -> Spot
+        requires row { row < self.now.ground.size.rows }
+        requires column { column < self.now.ground.size.columns }
+        ensures spot { IsSpot self.now.ground.size result }
+        ensures row { result.row ≡ row }
+        ensures column { result.column ≡ column }
+    {
+        spot_at_in(self.extent(), row, column)
+    }
+
+    /// The cell of a place among the sources.
+    pub fn source(&self, at: u32) -> Cell
+        requires { at < cells_in self.now.ground.size }
+        ensures { result ≡ own_at self.now at }
+    {
+        self.sources[at as usize]
+    }
+
+    /// The friction of a place, 0 for a barrier.
+    pub fn friction(&self, at: u32) -> u64
+        requires { at < cells_in self.now.ground.size }
+        ensures value { result ≡ friction_at self.now.ground.friction at }
+        ensures low { result < 2 ^ 50 }
+    {
+        friction_of(self.friction[at as usize])
+    }
+
+    /// The least cost of a place; one above the limit where it has none.
+    pub fn cost(&self, at: u32) -> u64
+        requires { at < cells_in self.now.ground.size }
+        ensures value { result ≡ cost_at self.now at }
+        ensures low { result ≤ 2 ^ 50 }
+    {
+        cost_of(self.costs[at as usize], self.limit + 1)
+    }
+}
+
+/// What a step between neighbours of two frictions costs.
+pub fn weigh(from: Spot, to: Spot, friction: u64, own: u64) -> u64
+    requires { (friction < 2 ^ 50) × (own < 2 ^ 50) }
+    ensures value { result ≡ weighed from to friction own }
+    ensures low { result < 2 ^ 54 }
+{
+    let both = friction + own;
+    if from.row == to.row || from.column == to.column {
+        5 * both
+    } else {
+        7 * both
+    }
+}
+
+/// A place of an extent with its row and column.
+fn spot_in(extent: Extent, at: u32) -> Spot
+    requires { at < cells_in extent }
+    ensures spot { IsSpot extent result }
+    ensures at { result.at ≡ at }
+{
+    Spot {
+        at,
+        row: extent.row_of(at),
+        column: extent.column_of(at),
+    }
+}
+
+/// The place of a row and a column of an extent.
+fn spot_at_in(extent: Extent, row: u32, column: u32) -> Spot
+    requires row { row < extent.rows }
+    requires column { column < extent.columns }
+    ensures spot { IsSpot extent result }
+    ensures row { result.row ≡ row }
+    ensures column { result.column ≡ column }
+{
+    Spot {
+        at: row * extent.columns() + column,
+        row,
+        column,
+    }
+}
+
+/// The friction of a cell, 0 for a barrier.
+fn friction_of(cell: Cell) -> u64
+    ensures value { result ≡ friction_of cell }
+    ensures low { result < 2 ^ 50 }
+{
+    match cell.get() {
+        Some(value) if value > 0 => value as u64,
+        _ => 0,
+    }
+}
+
+/// The number of a cell; `top` where it is null.
+fn cost_of(cell: Cell, top: u64) -> u64
+    requires { top ≤ 2 ^ 50 }
+    ensures value { result ≡ cost_of top cell }
+    ensures low { result ≤ 2 ^ 50 }
+{
+    match cell.get() {
+        Some(value) if value >= 0 => value as u64,
+        Some(_) => 0,
+        None => top,
+    }
+}
