@@ -124,6 +124,14 @@ def zone_percent(yes, zones):
     return mapped(yes, lambda r, c: share.get(zones[r][c]))
 
 
+def nearest(found, friction):
+    """The number of the places, each number by itself, from which the way is shortest; of several the least."""
+    numbers = sorted({cell for row in found for cell in row} - {None})
+    far = {number: costs(mapped(found, lambda r, c: number if found[r][c] == number else None), friction) for number in numbers}
+    ways = mapped(found, lambda r, c: [(far[number][r][c], number) for number in numbers if far[number][r][c] is not None])
+    return mapped(ways, lambda r, c: min(ways[r][c])[1] if ways[r][c] else None)
+
+
 def near_places(found, reach):
     far = costs(found, mapped(found, lambda r, c: 1))
     return mapped(far, lambda r, c: None if far[r][c] is None or reach[r][c] is None else int(far[r][c] <= reach[r][c]))

@@ -17,9 +17,10 @@ LOCAL = {'Local' + s for s in STATISTICS} | {'LocalProduct'}
 FOCAL = {'Focal' + s for s in STATISTICS}
 ZONAL = {'Zonal' + s for s in STATISTICS}
 FORMS = {'Incremental' + s for s in ('Linkage', 'Length', 'Partition', 'Frontage', 'Gradient', 'Aspect')}
-OPERATIONS = LOCAL | FOCAL | ZONAL | FORMS | {'LocalDifference', 'LocalRatio', 'LocalRating', 'FocalProximity',
-                                              'FocalInsularity', 'IncrementalDrainage'}
-RESERVED = OPERATIONS | {'FocalNeighbor'} | set(
+SPREADING = {'FocalProximity', 'FocalNeighbor'}
+OPERATIONS = LOCAL | FOCAL | ZONAL | FORMS | SPREADING | {'LocalDifference', 'LocalRatio', 'LocalRating', 'FocalInsularity',
+                                                          'IncrementalDrainage'}
+RESERVED = OPERATIONS | set(
     'procedure paint new drop label symbol value grid show legend table stamps list quit result null of and with for to '
     'at within spreading radiating in on from carrying ignoring nulls model undo branch end'.split())
 LONGEST_LINE = 4096
@@ -139,7 +140,7 @@ def parse_operation(words, fits):
                  words.number(1, 64) if words.has('within') else 64)
     elif kind in FOCAL:
         extra = words.number(1, 32) if words.has('at') else None
-    elif kind == 'FocalProximity':
+    elif kind in SPREADING:
         terms.append(words.word('in') and words.term(fits) if words.has('spreading') else 1)
         extra = words.number(0) if words.has('within') else GREATEST
     elif kind in ZONAL:
@@ -271,7 +272,7 @@ def print_body(written):
         parts = [f' {word} {value}' for word, value, default in zip(('from', 'to', 'within'), extra, (0, 0, 64))
                  if value != default]
         return f"FocalSum of {first} radiating on {last}{''.join(parts)}"
-    if kind == 'FocalProximity':
+    if kind in SPREADING:
         spreading = f' spreading in {last}' if last != 1 else ''
         return f'{kind} of {first}{spreading}' + (f' within {extra}' if extra != GREATEST else '')
     if kind == 'Flow':

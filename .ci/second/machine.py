@@ -4,9 +4,9 @@ from collections import Counter, namedtuple
 
 from grids import GREATEST, Refused, print_grid
 from lines import Call, Op, ZONAL, print_body, print_procedure
-from operations import MOST_VIEWERS, damage, differing, layer_of, work
+from operations import MOST_VIEWERS, damage, differing, layer_of, remade, work
 
-MOST = {'sources': 32, 'statements': 64, 'zonals': 12, 'labels': 4096, 'symbols': 4096, 'procedures': 32}
+MOST = {'sources': 32, 'statements': 64, 'zonals': 12, 'neighbors': 8, 'labels': 4096, 'symbols': 4096, 'procedures': 32}
 MOST_KEPT = 64
 LAST_NUMBER = 2 ** 64 - 1
 PARTS = ('procedures', 'names', 'sources', 'labels', 'symbols')  # what edits change; layers and stamps follow from it
@@ -192,6 +192,7 @@ class Machine:
         self.names[name] = written
         flats = self.flats()
         self.limit('zonals', sum(op.kind in ZONAL for _, op in flats))
+        self.limit('neighbors', sum(op.kind == 'FocalNeighbor' for _, op in flats))
         if self.is_cycle(name):
             raise Refused(f'cycle {name}')
         return Touch(name, None)
@@ -241,6 +242,7 @@ class Machine:
             else:
                 was = before.operands(op)
                 touched = set().union(*map(differing, was, now))
+                changed = remade(extent, op, changed, was, now)
                 tiles = damage(extent, op, touched, changed, was, now)
             total['evaluated'] += len(tiles)
             total['worked'] += work(extent, op, touched, changed, layer)

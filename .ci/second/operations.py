@@ -5,7 +5,7 @@ from collections import Counter
 from functools import lru_cache
 from math import isqrt
 
-from lines import FOCAL, FORMS, ZONAL
+from lines import FOCAL, FORMS, SPREADING, ZONAL
 
 EIGHT = ((-1, 0), (-1, 1), (0, 1), (1, 1), (1, 0), (1, -1), (0, -1), (-1, -1))  # N, NE and so on to NW
 MOST_VIEWERS = 64
@@ -132,21 +132,23 @@ def flow(extent, grid, weights):
     return carried
 
 
+@lru_cache(maxsize=64)
 def spread(extent, sources, friction, limit):
-    """The least costs, found from the least on."""
+    """The least cost of each place, and the least number of a source from which a way costs no more; None where no way leads.
+    Found from the least pair of them on: a step adds to the cost and keeps the number."""
     free = [rough is not None and rough >= 1 for rough in friction]
-    costs = [None] * extent.count
-    queue = [(0, at) for at, cell in enumerate(sources) if cell is not None and free[at]]
+    pairs = [None] * extent.count
+    queue = sorted((0, cell, at) for at, cell in enumerate(sources) if cell is not None and free[at])
     while queue:
-        cost, at = heapq.heappop(queue)
-        if costs[at] is not None or cost > limit:
+        cost, number, at = heapq.heappop(queue)
+        if pairs[at] is not None or cost > limit:
             continue
-        costs[at] = cost
+        pairs[at] = cost, number
         for k, place in enumerate(neighbours(extent, at)):
-            if place is not None and free[place] and costs[place] is None:
+            if place is not None and free[place] and pairs[place] is None:
                 step = (7 if k % 2 else 5) * (friction[at] + friction[place])
-                heapq.heappush(queue, (cost + step, place))
-    return costs
+                heapq.heappush(queue, (cost + step, number, place))
+    return tuple(pairs)
 
 
 def regions(extent, grid):
@@ -207,8 +209,9 @@ def layer_of(extent, op, operands):
         return tuple(directions(extent, operands[0]))
     if kind == 'Flow':
         return tuple(flow(extent, *operands))
-    if kind == 'FocalProximity':
-        return tuple(spread(extent, *operands, extra))
+    if kind in SPREADING:
+        part = 0 if kind == 'FocalProximity' else 1
+        return tuple(pair and pair[part] for pair in spread(extent, *operands, extra))
     if kind == 'Sight':
         return tuple(sight(extent, *operands, *extra))
     return tuple(regions(extent, operands[0]))
@@ -219,9 +222,16 @@ def differing(old, new):
     return set() if old is new else {at for at, (before, after) in enumerate(zip(old, new)) if before != after}
 
 
+def remade(extent, op, changed, before, after):
+    """The places with a changed result cell; of the nearest sources, those with another cost too."""
+    if op.kind != 'FocalNeighbor':
+        return changed
+    return differing(spread(extent, *before, op.extra), spread(extent, *after, op.extra))
+
+
 def damage(extent, op, touched, changed, before, after):
-    """The tiles that an edit damages. Given are the places with a changed operand cell and those with a changed result
-    cell, and the operands' grids before and after."""
+    """The tiles that an edit damages. Given are the places with a changed operand cell and those that are remade, and
+    the operands' grids before and after."""
     if op.kind.startswith('Local'):
         return extent.tiles_near(touched, 0)
     if op.kind in ZONAL:
@@ -238,7 +248,7 @@ def damage(extent, op, touched, changed, before, after):
 
 
 def work(extent, op, touched, changed, layer):
-    if op.kind in ('FocalProximity', 'Flow'):
+    if op.kind in SPREADING | {'Flow'}:
         return len(touched) + len(changed)
     if op.kind == 'FocalInsularity':
         near = touched.union(*(neighbours(extent, at) for at in touched)) - {None}

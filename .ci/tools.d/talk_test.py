@@ -298,6 +298,7 @@ class Keys(Talk):
         for keys, typed in (('val\tHei\t1 1', 'value Heights 1 1'), ('paint H\t1 1 1 1 n\t', 'paint Heights 1 1 1 1 null '),
                             ('Wet = LocalPr\to\tHeights an\t2', 'Wet = LocalProduct of Heights and 2'), ('Wet = ste\tHe\t)', 'Wet = steepness(Heights )'),
                             ('Wet = FocalProximity of Heights sp\ti\tSl\twith\t9', 'Wet = FocalProximity of Heights spreading in Slope within 9'),
+                            ('Wet = FocalN\tof Hei\tspr\tin Sl\t', 'Wet = FocalNeighbor of Heights spreading in Slope '),
                             ('grid Slope.\t', 'grid Slope.rise '), ('table S\tH\t', 'table Slope Heights '), ('Sl\t\t', 'Slope = '),
                             ('.ma\tS\t', '.map Slope '), ('.save Slope fil\t', '.save Slope filled.asc '), ('.log fo\t', '.log folder/'),
                             ('.help IncrementalDr\t', '.help IncrementalDrainage '), ('drop Zzz\t', 'drop Zzz'), ('mod\t2', 'model 2'),
@@ -467,7 +468,8 @@ class Language(Case):
                   'branch paint A 1 1 4097 1 1 end', 'branch new A 1; X = LocalSum of A and 1000000000000001 end', 'branch drop A end end', 'branch new grid 1 end']
         lines = ['undo', *lines, 'drop Zz', 'new A 1', 'paint A 2 1 2 1 1', 'B = Zz(A)', 'procedure Pp(a): result = LocalSum of a and 1', 'B = Pp(A, A)', 'x' * 4097,
                   'B = LocalProduct of A and 1000000000000000', 'D = LocalSum of E and 1', 'E = LocalSum of D and 1', 'paint D 1 1 1 1 1']
-        lines += [f'new S{number} 1' for number in range(40)] + [f'T{number} = LocalSum of A and 1' for number in range(70)]
+        lines += [f'new S{number} 1' for number in range(40)] + [f'R{number} = FocalNeighbor of A' for number in range(9)]
+        lines += [f'T{number} = LocalSum of A and 1' for number in range(70)]
         out, status = program(['run', '1', '-', 'A=a.asc'], '\n'.join(lines + ['']).encode(), self.folder)
         replies = out.decode().splitlines()[1:]
         self.assertEqual((status, len(replies)), (0, len(lines)))

@@ -12,6 +12,7 @@ OPERATIONS = {
     'LocalRating': ['LocalRating of TERM with CELL for NUMBER [to NUMBER] {with CELL for NUMBER [to NUMBER]}'],
     **{f'Focal{it}': [f'Focal{it} of TERM [at RADIUS]'] for it in STATISTICS},
     'FocalProximity': ['FocalProximity of PLACES [spreading in FRICTION] [within LIMIT]'],
+    'FocalNeighbor': ['FocalNeighbor of PLACES [spreading in FRICTION] [within LIMIT]'],
     'FocalInsularity': ['FocalInsularity of TERM'],
     **{f'Zonal{it}': [f'Zonal{it} of TERM within ZONES'] for it in STATISTICS},
     **{f'Incremental{it}': [f'Incremental{it} of TERM'] for it in SHAPES},
@@ -29,7 +30,7 @@ EDITS = {
 }
 LINES = {**EDITS, **REQUESTS, 'model': 'model VERSION'}
 DEFINITIONS = ('NAME = OPERATION', 'NAME = PROCEDURE(TERM, ..)')
-RESERVED = {*OPERATIONS, *LINES, 'FocalNeighbor', *'''result null of and with for to at within spreading radiating in on from carrying
+RESERVED = {*OPERATIONS, *LINES, *'''result null of and with for to at within spreading radiating in on from carrying
     ignoring nulls end'''.split()}
 ITEMS = ('paint', 'new', 'drop', 'value')  # first words of what a branch may do, beside statements
 MOST_BRANCHES = 16
@@ -44,7 +45,8 @@ OF_LANGUAGE_2 = 'ignoring nulls is of language 2, for which the line model 2 sta
 RANGES = {'at': 'a radius is 1 to 32', 'within': 'the reach of a view is 1 to 64, the limit of a way 0 to 1000000000000000'}
 LIMITS = {
     'sources': '32 layers that are loaded or made by new', 'statements': '64 statements, those of calls included',
-    'zonals': '12 Zonal statements', 'procedures': '32 procedures', 'labels': '4096 labels', 'symbols': '4096 symbols',
+    'zonals': '12 Zonal statements', 'neighbors': '8 statements of FocalNeighbor', 'procedures': '32 procedures',
+    'labels': '4096 labels', 'symbols': '4096 symbols',
 }
 SENTENCES = {
     'long': 'the line has {0} bytes, and at most 4096 can be',

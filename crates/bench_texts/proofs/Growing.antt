@@ -9,7 +9,7 @@ use Rattle.std.proofs.lemmas.List.{map-append, append-nil, length_push, length-m
 use Rattle.std.proofs.lemmas.List.Folds.{list_any-append}
 use Rattle.std.proofs.lemmas.Map.Made.{lookup-map_values}
 use Rattle.std.proofs.lemmas.Option.{none-some, same_Some}
-use Rattle.map_defs.specs.Ops.{Name, Term, layer_term, terms_of, term_names}
+use Rattle.map_defs.specs.Ops.{Name, Term, layer_term, term_names}
 use Rattle.map_defs.specs.Nodes.{Node, find_node, needs_in}
 use Rattle.map_defs.specs.Depths.{depth_in, depth_of, is_looped}
 use Rattle.map_defs.specs.FlatNames.{IsIn, AreApart}
@@ -92,7 +92,7 @@ layers_valued [] k u e = absurd (none-some u e)
 layers_valued (n ∷ ns) zero u e = subst HasValue (same_Some (layer_term n) u e) tt
 layers_valued (n ∷ ns) (suc k) u e = layers_valued ns k u e
 
-has_operands : (op : Op) (ns : List Name) → terms_of (op_view op) ≡ map (λ n. layer_term n) ns → length ns ≤ 8 → HasOperands (op_view op)
+has_operands : (op : Op) (ns : List Name) → (op_view op).terms ≡ map (λ n. layer_term n) ns → length ns ≤ 8 → HasOperands (op_view op)
 has_operands op ns are few = record {
   few = let count = length-map ns (λ n. layer_term n) in let same = ap length are in omega arith;
   values = λ k u at. layers_valued ns k u (ap (λ us. slice_get us k) (sym are) ∙ at);
@@ -211,7 +211,7 @@ module _ (groups : List Group) (sources : List Name) (ops : List (List ℕ × Op
   -- a sum
   module _ (n : Name) (reads : List Name) (few : length reads ≤ 8) (new : find_node (nodes_in groups) n ≡ None) (after : List Group)
       (is : after ≡ groups ++ record { name = n; nodes = record { name = n; needs = Some reads } ∷ [] } ∷ []) (alone : is_looped (nodes_in after) n ≡ false)
-      (op : Op) (terms : terms_of (op_view op) ≡ map (λ m. layer_term m) reads) (more : List (List ℕ × Op)) (own : lookup (bytes_eq n) more ≡ Some op)
+      (op : Op) (terms : (op_view op).terms ≡ map (λ m. layer_term m) reads) (more : List (List ℕ × Op)) (own : lookup (bytes_eq n) more ≡ Some op)
       (others : (q : Name) → bytes_eq n q ≡ false → lookup (bytes_eq q) more ≡ lookup (bytes_eq q) ops) where
     abbrev x : Node
     x = record { name = n; needs = Some reads }

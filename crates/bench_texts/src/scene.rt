@@ -1,7 +1,7 @@
 //! What a plan is made of: a graph of names, its sources, and its flat statements, which are sums.
 
 ghost use Rattle.std.specs.Prelude.{◌≡◌, ◌+◌, ◌<◌, ◌≤◌, ◌∷◌, [], length, map, Some, IfSome};
-ghost use Rattle.map_defs.specs.Ops.{layer_term, terms_of};
+ghost use Rattle.map_defs.specs.Ops.{layer_term};
 ghost use Rattle.statement_graph.specs.Groups.{nodes_in};
 ghost use Rattle.statement_graph.specs.Puts.{flat_nodes};
 ghost use Rattle.statement_parser.specs.Views.{op_view};
@@ -45,7 +45,7 @@ fn copy_of(alloc: Global, name: &Name) -> Option<Name>
 
 // The sum of some layers.
 fn sum_of(alloc: Global, names: &[Name]) -> Option<Op>
-    ensures { IfSome result (λ op. terms_of (op_view op) ≡ map (λ n. layer_term n) names.now) }
+    ensures { IfSome result (λ op. (op_view op).terms ≡ map (λ n. layer_term n) names.now) }
 {
     let mut terms = Vec::new(alloc);
     for name in names {

@@ -9,7 +9,7 @@ ghost use Rattle.changed_cells.specs.Changed.{AreChanged, AreChangedTo, AddsRowT
 use layer_tiles::{Cell, Change, Extent, NoMemory, Tally, TileView, same_cells};
 use std::alloc::Global;
 
-/// The places at which an operand changed, each once, tile by tile and row by row. Two looks for each touched tile.
+/// The places at which an operand changed, each once. Two looks for each touched tile.
 pub fn changed_places<M: Tally>(
     alloc: Global,
     of: &Change<'_>,

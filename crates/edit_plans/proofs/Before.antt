@@ -4,7 +4,7 @@ use Rattle.std.specs.List.{All}
 use Rattle.std.proofs.lemmas.Option.{none-some}
 use Rattle.map_nums.specs.Grids.{Cells, Grid, constant}
 use Rattle.map_nums.specs.Options.{all_some}
-use Rattle.map_defs.specs.Ops.{Name, Term, layer_term, number_term, Op, terms_of}
+use Rattle.map_defs.specs.Ops.{Name, Term, layer_term, number_term, Op}
 use Rattle.map_defs.specs.Operate.{operate}
 use Rattle.layer_tiles.specs.Changes.{ChangeState, constant_change}
 use Rattle.map_edits.specs.LayerDefs.{by_op, layers, find_making, nodes_of}
@@ -39,7 +39,7 @@ was_some c was e = subst IsSome (sym e) refl
 -- a statement that stood before: the cells of its operands, and its own
 pub record StoodOn (s : EngineState) (p : Plan) (k : ℕ) (w : List (Option ℤ)) : Type 0 where
   pub cells : List (List (Option ℤ))
-  pub all : all_some (map (term_cells s.size (value_of s)) (terms_of (p.step k).op)) ≡ Some cells
+  pub all : all_some (map (term_cells s.size (value_of s)) (p.step k).op.terms) ≡ Some cells
   pub made_is : w ≡ made p.size (p.step k).op cells
   pub there : WereThere (operands_at p k) cells
 
@@ -84,7 +84,7 @@ module _ (touch : Touch) (s t : EngineState) (p : Plan) (sources names : List Na
 
   -- a statement that isn't written and was defined
   pub stood_on : (k : ℕ) (n : Name) (w : Cells) → slice_get names k ≡ Some n → (p.step k).written ≡ false → (p.step k).was ≡ Some w → StoodOn s p k w
-  stood_on k n w at unwritten was = go (all_some (map (term_cells s.size (value_of s)) (terms_of op))) refl
+  stood_on k n w at unwritten was = go (all_some (map (term_cells s.size (value_of s)) op.terms)) refl
     where
       op : Op
       op = (p.step k).op
@@ -92,10 +92,10 @@ module _ (touch : Touch) (s t : EngineState) (p : Plan) (sources names : List Na
       making : find_making (layers s.entries) n ≡ Some (by_op op)
       making = let step = plan.steps k n at in changes.statements n op (sym step.written ∙ unwritten) step.making
 
-      own : option_map (λ (g : Grid). g.cells) (option_map (operate s.size op) (all_some (map (term_cells s.size (value_of s)) (terms_of op)))) ≡ Some w
+      own : option_map (λ (g : Grid). g.cells) (option_map (operate s.size op) (all_some (map (term_cells s.size (value_of s)) op.terms))) ≡ Some w
       own = ap (option_map (λ (g : Grid). g.cells)) (sym (value_unfolds s old n ∙ ap (states.made s.size (value_of s)) making)) ∙ sym (plan.steps k n at).was ∙ was
 
-      go : (o : Option (List Cells)) → all_some (map (term_cells s.size (value_of s)) (terms_of op)) ≡ o → StoodOn s p k w
+      go : (o : Option (List Cells)) → all_some (map (term_cells s.size (value_of s)) op.terms) ≡ o → StoodOn s p k w
       go None e = absurd (none-some w (sym (ap (λ o. option_map (λ (g : Grid). g.cells) (option_map (operate s.size op) o)) e) ∙ own))
       go (Some cells) e =
           let both : Some (made s.size op cells) ≡ Some w = sym (ap (λ o. option_map (λ (g : Grid). g.cells) (option_map (operate s.size op) o)) e) ∙ own in
@@ -104,7 +104,7 @@ module _ (touch : Touch) (s t : EngineState) (p : Plan) (sources names : List Na
             cells = cells;
             all = e;
             made_is = sym same ∙ ap (λ q. made q op cells) (sym same_size);
-            there = terms_before k (terms_of op) (p.step k).refs cells (plan.steps k n at).refs e;
+            there = terms_before k op.terms (p.step k).refs cells (plan.steps k n at).refs e;
           }
 
 -- what is reckoned from stood, and wasn't written

@@ -3,7 +3,7 @@ use Rattle.std.proofs.Common.{◌≡◌, ℕ, suc, Bool, List, [], ◌∷◌, ma
 use Rattle.std.proofs.lemmas.Option.{none-some}
 use Rattle.map_nums.specs.Grids.{Size, Cells}
 use Rattle.map_nums.specs.Options.{all_some}
-use Rattle.map_defs.specs.Ops.{Name, Term, Op, terms_of}
+use Rattle.map_defs.specs.Ops.{Name, Term, Op}
 use Rattle.map_defs.specs.Damage.{op_damage, changed_tiles}
 use Rattle.map_defs.specs.Work.{op_work}
 use Rattle.layer_tiles.specs.Operands.{cells_after}
@@ -52,7 +52,7 @@ module _ (touch : Touch) (s t : EngineState) (p : Plan) (sources names : List Na
   layer = record { name = n; making = by_op op }
 
   after_is : operands_in t op ≡ cells_after (operands_at p k)
-  after_is = all_each (term_cells t.size (value_of t)) (terms_of op) (cells_after (operands_at p k))
+  after_is = all_each (term_cells t.size (value_of t)) op.terms (cells_after (operands_at p k))
       (operands_made touch s t p sources names plan none k n at)
 
   now_is : now_of t n ≡ (change_at p k).cells
@@ -65,7 +65,7 @@ module _ (touch : Touch) (s t : EngineState) (p : Plan) (sources names : List Na
   before_is w e =
       let r = reckoned_stood (p.step k).written (p.step k).was w e in
       let stood = stood_on touch s t p sources names plan changes old k n w at r.0 r.1 in
-      all_each (term_cells s.size (value_of s)) (terms_of op) stood.cells stood.all ∙ sym stood.there.before
+      all_each (term_cells s.size (value_of s)) op.terms stood.cells stood.all ∙ sym stood.there.before
 
   -- what is reckoned from the operands before, where that doesn't matter for a new statement
   by_parts : {X : Type 0} (f : Size → List Cells → List Cells → Option Cells → Cells → X) → ((q : Size) (a b after : List Cells) (now : Cells) → f q a after None now ≡ f q b after None now)

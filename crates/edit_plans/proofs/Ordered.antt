@@ -5,7 +5,7 @@ use Rattle.std.specs.List.{All}
 use Rattle.std.proofs.lemmas.Bool.{cases_lt, or_left, or_right}
 use Rattle.std.proofs.lemmas.List.Quantifiers.{position-Some}
 use Rattle.std.proofs.lemmas.Option.{none-some, same_Some, slice_get_within, slice_get-get_or}
-use Rattle.map_defs.specs.Ops.{Name, Op, Term, layer_term, number_term, terms_of, term_names, needs_of}
+use Rattle.map_defs.specs.Ops.{Name, Op, Term, layer_term, number_term, term_names, needs_of}
 use Rattle.map_defs.specs.Nodes.{Node, lacks, needs_in}
 use Rattle.map_defs.specs.Depths.{depth_in, by_depth}
 use Rattle.map_edits.specs.LayerDefs.{layers, nodes_of}
@@ -154,13 +154,13 @@ planned_is_in_order {B} formed touch s t base sources flats old names steps none
     let y_depth = (planned.each first (get_or names first []) y top at_first).depth in
     let form = are n step.flat step.from in
     let needs : needs_in nodes n ≡ needs_of (op_view x.op) = needs_in-layers (layers t.entries) n ∙ ap making_needs (made.statements n step.flat step.from) ∙ ap needs_of (sym step.op) in
-    let terms : length (terms_of (op_view x.op)) ≡ length (terms_of (op_view step.flat.op)) = ap (λ o. length (terms_of o)) step.op in
-    let count = refs_length sources names k (terms_of (op_view x.op)) x.refs.items step.refs in
-    let low : (m : Name) (j : ℕ) → is_among m (flat_map term_names (terms_of (op_view x.op))) ≡ true → slice_get names j ≡ Some m → j < first = λ m j a stands.
+    let terms : length (op_view x.op).terms ≡ length (op_view step.flat.op).terms = ap (λ o. length o.terms) step.op in
+    let count = refs_length sources names k (op_view x.op).terms x.refs.items step.refs in
+    let low : (m : Name) (j : ℕ) → is_among m (flat_map term_names (op_view x.op).terms) ≡ true → slice_get names j ≡ Some m → j < first = λ m j a stands.
     by_cases first j m n (depth_in nodes) (needed_is_less_deep nodes none n m (ap (is_among m) needs ∙ a)) (sym (sym y_depth ∙ sym same ∙ step.depth)) (λ q. names_rise nodes sources flats old names steps planned first j (get_or names first []) m q top stands) in
     record {
       op = subst formed (sym step.op) form.0;
-      refs = refs_before base sources old names counted k first (terms_of (op_view x.op)) x.refs.items step.refs low;
+      refs = refs_before base sources old names counted k first (op_view x.op).terms x.refs.items step.refs low;
       terms = count;
       few = omega (arith, form.1, count, terms);
       kept = λ i is. kept_below n i (sym step.kept ∙ is);

@@ -4,7 +4,7 @@ use Rattle.std.proofs.lemmas.Bool.{false≢true}
 use Rattle.std.proofs.lemmas.Option.{none-some}
 use Rattle.map_nums.specs.Grids.{Size, Cells}
 use Rattle.map_nums.specs.Options.{first_some}
-use Rattle.map_defs.specs.Ops.{Name, Op, terms_of, needs_of}
+use Rattle.map_defs.specs.Ops.{Name, Op, needs_of}
 use Rattle.map_defs.specs.Nodes.{Node, find_node}
 use Rattle.map_defs.specs.Depths.{by_depth}
 use Rattle.map_edits.specs.LayerDefs.{by_op, layers, find_making, nodes_of}
@@ -52,7 +52,7 @@ module _ {B : Type 0} (suits : Size → Op → List Cells → B → Type 0) wher
       let making = changes.statements n op (sym step.written ∙ unwritten) step.making in
       let same : s.size ≡ p.size = changes.size ∙ sym plan.size in
       let none : option_map (fault_told s.size n) (fault_in s.size op stood.cells) ≡ None = sym (layer_fault s old n op stood.cells making stood.all) ∙ statement_faultless s n op old fault making in
-      let before : operands_in s op ≡ cells_were (operands_at p k) = all_each (term_cells s.size (value_of s)) (terms_of op) stood.cells stood.all ∙ sym stood.there.before in
+      let before : operands_in s op ≡ cells_were (operands_at p k) = all_each (term_cells s.size (value_of s)) op.terms stood.cells stood.all ∙ sym stood.there.before in
       record {
         size = size ∙ same;
         there = stood.there.there;

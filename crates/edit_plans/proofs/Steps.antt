@@ -4,7 +4,7 @@ use Rattle.std.specs.List.{list_any, All}
 use Rattle.std.proofs.lemmas.Bool.{false≢true}
 use Rattle.std.proofs.lemmas.List.{take_all, map-append, length_push}
 use Rattle.std.proofs.lemmas.Option.{none-some, same_Some, slice_get_within, slice_get-get_or, slice_get-map, slice_get_read}
-use Rattle.map_defs.specs.Ops.{Name, terms_of, needs_of}
+use Rattle.map_defs.specs.Ops.{Name, needs_of}
 use Rattle.map_defs.specs.Nodes.{Node, find_node, needs_in, lacks}
 use Rattle.map_defs.specs.Depths.{depth_in, by_depth}
 use Rattle.map_edits.specs.Laws.{is_among, is_named_in, HasNoCycle}
@@ -126,7 +126,7 @@ module _ (nodes : List Node) (acyclic : HasNoCycle nodes) (apart : AreNamedApart
           flat = r.2.flat;
           found = r.2.found;
           operands = r.2.operands;
-          all = terms_there sources names (terms_of (op_view r.2.flat.op)) (λ m a.
+          all = terms_there sources names (op_view r.2.flat.op).terms (λ m a.
               let needed : is_among m (needs_in nodes x.name) ≡ true = ap (is_among m) needs ∙ a in
               ap (λ ns. is_some (place_for sources ns m)) names_before
               ∙ place_there nodes acyclic sources are cut.before m (need_whole nodes acyclic sources are x.name m lacks_none needed)
@@ -141,8 +141,8 @@ module _ (nodes : List Node) (acyclic : HasNoCycle nodes) (apart : AreNamedApart
 
     -- with its step
     module _ (y : Step Given) (next : IsNextStep sources flats old names steps x.name y) where
-      own_refs : AreRefsFor sources names (length names) (terms_of (op_view next.flat.op)) y.refs.items
-      own_refs = refs_are sources names (length names) refl (terms_of (op_view next.flat.op)) y.refs.items next.refs
+      own_refs : AreRefsFor sources names (length names) (op_view next.flat.op).terms y.refs.items
+      own_refs = refs_are sources names (length names) refl (op_view next.flat.op).terms y.refs.items next.refs
 
       needs_are : x.needs ≡ Some (needs_of (op_view next.flat.op))
       needs_are =
@@ -152,7 +152,7 @@ module _ (nodes : List Node) (acyclic : HasNoCycle nodes) (apart : AreNamedApart
       own_depth : y.depth ≡ depth_in nodes x.name
       own_depth =
           next.depth
-          ∙ ap suc (depths_agree nodes acyclic sources names are steps up.count (λ j m z at there. (up.each j m z at there).depth) (length names) 0 (terms_of (op_view next.flat.op)) y.refs.items own_refs)
+          ∙ ap suc (depths_agree nodes acyclic sources names are steps up.count (λ j m z at there. (up.each j m z at there).depth) (length names) 0 (op_view next.flat.op).terms y.refs.items own_refs)
           ∙ sym (depth_of_flat nodes acyclic x.name x (needs_of (op_view next.flat.op)) listed.0 needs_are)
 
       own_step : IsPlannedStep nodes sources flats old (names ++ x.name ∷ []) (length names) x.name y
@@ -161,8 +161,8 @@ module _ (nodes : List Node) (acyclic : HasNoCycle nodes) (apart : AreNamedApart
         from = next.found;
         op = next.op;
         written = next.written;
-        refs = subst (λ us. AreRefsFor sources (names ++ x.name ∷ []) (length names) us y.refs.items) (ap terms_of (sym next.op))
-            (refs_more sources names (x.name ∷ []) (length names) (terms_of (op_view next.flat.op)) y.refs.items own_refs);
+        refs = subst (λ us. AreRefsFor sources (names ++ x.name ∷ []) (length names) us y.refs.items) (ap (λ o. o.terms) (sym next.op))
+            (refs_more sources names (x.name ∷ []) (length names) (op_view next.flat.op).terms y.refs.items own_refs);
         depth = own_depth;
         kept = next.kept;
       }
@@ -173,7 +173,7 @@ module _ (nodes : List Node) (acyclic : HasNoCycle nodes) (apart : AreNamedApart
         from = step.from;
         op = step.op;
         written = step.written;
-        refs = refs_more sources names (x.name ∷ []) j (terms_of (op_view z.op)) z.refs.items step.refs;
+        refs = refs_more sources names (x.name ∷ []) j (op_view z.op).terms z.refs.items step.refs;
         depth = step.depth;
         kept = step.kept;
       }

@@ -4,7 +4,7 @@ use Rattle.std.proofs.lemmas.Bool.{false≢true, and_parts}
 use Rattle.std.proofs.lemmas.Option.{none-some, same_Some}
 use Rattle.map_nums.specs.Grids.{Cells, Grid, constant}
 use Rattle.map_nums.specs.Options.{all_some}
-use Rattle.map_defs.specs.Ops.{Name, Term, layer_term, number_term, terms_of}
+use Rattle.map_defs.specs.Ops.{Name, Term, layer_term, number_term}
 use Rattle.map_defs.specs.Operate.{operate}
 use Rattle.map_defs.specs.Nodes.{Node}
 use Rattle.map_defs.specs.Depths.{by_depth}
@@ -69,14 +69,14 @@ module _ (touch : Touch) (s t : EngineState) (p : Plan) (sources names : List Na
 
   module _ (none : HasNoCycle (nodes_of t.entries)) where
     -- a statement of the plan is defined, and so is all that it reads
-    operands_there : (k : ℕ) (n : Name) → slice_get names k ≡ Some n → is_some (all_some (map (term_cells t.size (value_of t)) (terms_of (p.step k).op))) ≡ true
+    operands_there : (k : ℕ) (n : Name) → slice_get names k ≡ Some n → is_some (all_some (map (term_cells t.size (value_of t)) (p.step k).op.terms)) ≡ true
     operands_there k n at =
-        sym (some_map (operate t.size (p.step k).op) (all_some (map (term_cells t.size (value_of t)) (terms_of (p.step k).op))))
+        sym (some_map (operate t.size (p.step k).op) (all_some (map (term_cells t.size (value_of t)) (p.step k).op.terms)))
         ∙ ap is_some (sym (value_unfolds t none n ∙ ap (made t.size (value_of t)) (plan.steps k n at).making))
         ∙ passes_at (λ m. is_some (value_of t m)) (by_depth (nodes_of t.entries)) k n (ap (λ ns. slice_get ns k) (sym plan.names_are) ∙ at)
 
-    operands_here : (k : ℕ) (n : Name) → AreMadeTo k → slice_get names k ≡ Some n → all_some (map (term_cells t.size (value_of t)) (terms_of (p.step k).op)) ≡ Some (cells_after (operands_at p k))
-    operands_here k n before at = terms_after k before (terms_of (p.step k).op) (p.step k).refs (plan.steps k n at).refs (operands_there k n at)
+    operands_here : (k : ℕ) (n : Name) → AreMadeTo k → slice_get names k ≡ Some n → all_some (map (term_cells t.size (value_of t)) (p.step k).op.terms) ≡ Some (cells_after (operands_at p k))
+    operands_here k n before at = terms_after k before (p.step k).op.terms (p.step k).refs (plan.steps k n at).refs (operands_there k n at)
 
     grid_here : (k : ℕ) (n : Name) → AreMadeTo k → slice_get names k ≡ Some n → value_of t n ≡ Some (operate t.size (p.step k).op (cells_after (operands_at p k)))
     grid_here k n before at =
@@ -97,7 +97,7 @@ module _ (touch : Touch) (s t : EngineState) (p : Plan) (sources names : List Na
     all_made k = made_to (suc k) k (omega arith)
 
     -- the operands of a statement have the values of their names
-    pub operands_made : (k : ℕ) (n : Name) → slice_get names k ≡ Some n → all_some (map (term_cells t.size (value_of t)) (terms_of (p.step k).op)) ≡ Some (cells_after (operands_at p k))
+    pub operands_made : (k : ℕ) (n : Name) → slice_get names k ≡ Some n → all_some (map (term_cells t.size (value_of t)) (p.step k).op.terms) ≡ Some (cells_after (operands_at p k))
     operands_made k n at = operands_here k n (all_made k) at
 
     pub value_is_made : (k : ℕ) (n : Name) → slice_get names k ≡ Some n → value_of t n ≡ Some (record { size = p.size; cells = (change_at p k).cells })

@@ -3,7 +3,7 @@ use Rattle.std.specs.Prelude.{◌≡◌, ℕ, Bool, false, not, List, [], ◌∷
 use Rattle.std.specs.Map.{lookup}
 use Rattle.std.specs.Option.{option_or}
 use Rattle.map_nums.specs.Numbers.{is_value}
-use Rattle.map_defs.specs.Ops.{Name, Term, layer_term, number_term, Op, terms_of, needs_of}
+use Rattle.map_defs.specs.Ops.{Name, Term, layer_term, number_term, Op, needs_of}
 use Rattle.map_defs.specs.Nodes.{Node, find_node, lacks}
 use Rattle.map_defs.specs.Depths.{depth_in, by_depth}
 use Rattle.map_defs.specs.FlatNames.{AreApart}
@@ -51,8 +51,8 @@ HasValue (number_term z) = IsTrue (is_value z)
 
 -- at most eight terms, and such numbers
 pub record HasOperands (op : Op) : Type 0 where
-  pub few : length (terms_of op) ≤ 8
-  pub values : (k : ℕ) (u : Term) → slice_get (terms_of op) k ≡ Some u → HasValue u
+  pub few : length op.terms ≤ 8
+  pub values : (k : ℕ) (u : Term) → slice_get op.terms k ≡ Some u → HasValue u
 
 -- no name stands twice
 abbrev pub AreNamedApart : List Node → Type 0
@@ -93,7 +93,7 @@ pub record IsPlannedStep (nodes : List Node) (sources : List Name) (flats : List
   pub from : lookup (bytes_eq n) flats ≡ Some flat
   pub op : op_view x.op ≡ op_view flat.op
   pub written : x.written ≡ flat.written
-  pub refs : AreRefsFor sources names k (terms_of (op_view x.op)) x.refs.items
+  pub refs : AreRefsFor sources names k (op_view x.op).terms x.refs.items
   pub depth : x.depth ≡ depth_in nodes n
   pub kept : x.kept ≡ position (bytes_eq n) old
 

@@ -1,7 +1,7 @@
 -- Laws of the steps that are planned.
 use Rattle.std.specs.Prelude.{◌≡◌, ℕ, ◌+◌, ◌≤◌, List, length, position, Some, slice_get, bytes_eq}
 use Rattle.std.specs.Map.{lookup}
-use Rattle.map_defs.specs.Ops.{Name, Op, terms_of}
+use Rattle.map_defs.specs.Ops.{Name, Op}
 use Rattle.map_defs.specs.Nodes.{Node}
 use Rattle.map_edits.specs.LayerDefs.{by_op, layers, find_making, nodes_of}
 use Rattle.map_edits.specs.EngineStates.{EngineState}
@@ -37,7 +37,7 @@ pub record IsCounted {B : Type 0} (base : Base B) (sources old : List Name) : Ty
 
 -- what the operations are like that may be planned
 abbrev pub AreFormed : (Op → Type 0) → List (List ℕ × FlatDef) → Type 0
-AreFormed formed flats = (n : Name) (f : FlatDef) → lookup (bytes_eq n) flats ≡ Some f → formed (op_view f.op) × (length (terms_of (op_view f.op)) ≤ 8)
+AreFormed formed flats = (n : Name) (f : FlatDef) → lookup (bytes_eq n) flats ≡ Some f → formed (op_view f.op) × (length (op_view f.op).terms ≤ 8)
 
 -- and the operands of each stand before the first of its depth
 abbrev pub PlannedIsInOrder : Type 0 → (Op → Type 0) → Type 0

@@ -1,6 +1,6 @@
 -- The plan that an edit makes, by the states before and after it.
 use Rattle.std.specs.Prelude.{◌≡◌, ℕ, ◌<◌, List, [], ◌∷◌, map, filter, Option, Some, is_some, slice_get, ℤ, ⊤}
-use Rattle.map_defs.specs.Ops.{Name, Term, layer_term, number_term, terms_of}
+use Rattle.map_defs.specs.Ops.{Name, Term, layer_term, number_term}
 use Rattle.map_defs.specs.Nodes.{Node}
 use Rattle.map_defs.specs.Depths.{by_depth}
 use Rattle.layer_tiles.specs.Changes.{ChangeState}
@@ -39,7 +39,7 @@ AreRefsFor sources names k (u ∷ us) (r ∷ rs) = IsRefFor sources names k u r 
 -- statement k is that of a name
 pub record IsStepFor (touch : Touch) (s t : EngineState) (x : StepDef) (sources names : List Name) (k : ℕ) (n : Name) : Type 0 where
   pub making : find_making (layers t.entries) n ≡ Some (by_op x.op)
-  pub refs : AreRefsFor sources names k (terms_of x.op) x.refs
+  pub refs : AreRefsFor sources names k x.op.terms x.refs
   pub was : x.was ≡ cells_of s n
   pub written : x.written ≡ is_whole t.entries touch n
 

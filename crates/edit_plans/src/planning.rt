@@ -3,7 +3,6 @@
 ghost use Rattle.std.specs.Prelude.{◌≡◌, ◌+◌, ◌^◌, ◌<◌, ◌++◌, ◌∷◌, [], suc, length, fold, map, max, option_map, slice_get, position, bytes_eq, IfOk, OnOk};
 ghost use Rattle.std.specs.List.{All};
 ghost use Rattle.map_nums.specs.Options.{all_some};
-ghost use Rattle.map_defs.specs.Ops.{terms_of};
 ghost use Rattle.map_edits.specs.Laws.{HasNoCycle};
 ghost use Rattle.statement_graph.specs.Groups.{nodes_in};
 ghost use Rattle.statement_parser.specs.Views.{op_view, term_view};
@@ -101,7 +100,7 @@ fn refs_of(
     op: &Op,
 ) -> Result<Option<Vec<Ref>>, NoMemory>
     requires { HasOperands (op_view op.now) }
-    ensures { IfOk result (λ refs. option_map (λ rs. rs.items) refs ≡ all_some (map (ref_for (source_names sources.entry) names.now.keys) (terms_of (op_view op.now)))) }
+    ensures { IfOk result (λ refs. option_map (λ rs. rs.items) refs ≡ all_some (map (ref_for (source_names sources.entry) names.now.keys) (op_view op.now).terms)) }
 {
     let mut refs = Vec::new(alloc);
     let mut k = 0;

@@ -28,6 +28,21 @@ fn too_many_zonal_statements(rt: HostRuntime) -> Result<(), Fail> {
 }
 
 #[test]
+fn too_many_nearest_sources(rt: HostRuntime) -> Result<(), Fail> {
+    let steps = [
+        TakesEach("N", " = FocalNeighbor of Q", 8, 0),
+        Refuses(
+            "Y = FocalNeighbor of Q within 1",
+            Said::Limit(Which::Neighbors),
+        ),
+        Takes("N0 = FocalNeighbor of Q within 1", 0, 0),
+        Takes("N0 = LocalSum of Q and 1", 0, 0),
+        Takes("Y = FocalNeighbor of Q within 1", 0, 0),
+    ];
+    tried(&rt, 1, 1, 1, &steps)
+}
+
+#[test]
 fn too_many_viewers(rt: HostRuntime) -> Result<(), Fail> {
     let steps = [
         Loads("A", 1),

@@ -2,3 +2,15 @@ pub mod Places
 pub mod Flooding
 pub mod Seeding
 pub mod Results
+pub mod Standing
+pub mod Righting
+pub mod Gathering
+pub mod Putting
+pub mod Counting
+pub mod Agreeing
+pub mod Begun
+pub mod Settling
+pub mod Damaging
+pub mod Reading
+pub mod Repairing
+pub mod Totals

@@ -33,7 +33,7 @@ pub narrow_answer : (s : Size) (cells : Cells) (t at : ℕ) → ((i : ℕ) → i
 narrow_answer s cells t at narrow w = let a : is_wide (cell_at cells at) ≡ true = w.wide in let b = narrow at in absurd (cc)
 
 -- as many places of two kinds, where each of the one is of the other
-same_number_of : (p q : ℕ → Bool) (top k n : ℕ) → k + n ≡ top → ((j : ℕ) → j < top → p j ≡ q j) → length (filter p (range_with_len k n)) ≡ length (filter q (range_with_len k n))
+pub same_number_of : (p q : ℕ → Bool) (top k n : ℕ) → k + n ≡ top → ((j : ℕ) → j < top → p j ≡ q j) → length (filter p (range_with_len k n)) ≡ length (filter q (range_with_len k n))
 same_number_of p q top k zero e h = refl
 same_number_of p q top k (suc n) e h = one (p k) (q k) (h k (omega (arith, e))) (filter p (range_with_len (k + 1) n)) (filter q (range_with_len (k + 1) n)) (same_number_of p q top (k + 1) n (omega (arith, e)) h)
   where

@@ -3,3 +3,9 @@ pub mod Spots
 pub mod Seeds
 pub mod Floods
 pub mod Shown
+pub mod Views
+pub mod Mending
+pub mod Gathers
+pub mod Puts
+pub mod Repairs
+pub mod Results

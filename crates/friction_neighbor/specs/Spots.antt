@@ -3,7 +3,7 @@ use Rattle.std.specs.Prelude.{◌≡◌, ℕ, ◌+◌, ◌*◌, ◌^◌, ◌<◌
 use Rattle.map_nums.specs.Grids.{Size, cells_in, row_of, column_of, gap}
 use Rattle.map_defs.specs.Spread.{friction_at}
 use Rattle.friction_neighbor.specs.declared.fields.Spot.{Spot}
-use Rattle.friction_neighbor.specs.declared.floods.Front.{Front}
+use Rattle.friction_neighbor.specs.declared.fields.Front.{Front}
 use Rattle.friction_neighbor.specs.Fields.{FieldState, cost_at}
 
 pub record IsSpot (s : Size) (p : Spot) : Type 0 where

@@ -1,5 +1,5 @@
 //! What values are passed on over: sources, frictions and least costs, in lists, by place.
-ghost use Rattle.std.specs.Prelude.{◌≡◌, ◌<◌, ◌≤◌, ◌+◌, ◌^◌, suc, length};
+ghost use Rattle.std.specs.Prelude.{◌≡◌, ◌<◌, ◌≤◌, ◌≤ℤ◌, ◌+◌, ◌^◌, suc, pos, nat_abs, length};
 ghost use Rattle.map_nums.specs.Grids.{Cells, cells_in, cell_at};
 ghost use Rattle.map_nums.specs.Numbers.{greatest_value};
 ghost use Rattle.map_defs.specs.Spread.{IsSpread, friction_at, friction_of};
@@ -7,7 +7,7 @@ ghost use Rattle.friction_spread.specs.Costs.{cost_of};
 ghost use Rattle.friction_neighbor.specs.Fields.{FieldState, IsField, cost_at, own_at, field_of};
 ghost use Rattle.friction_neighbor.specs.Spots.{IsSpot, weighed};
 
-use layer_tiles::{Cell, Extent};
+use layer_tiles::{Cell, Extent, Value};
 use std::marker::Model;
 
 /// The sources, frictions and least costs of a map, and the greatest cost that counts.
@@ -26,6 +26,14 @@ pub struct Spot {
     pub at: u32,
     pub row: u32,
     pub column: u32,
+}
+
+/// A place with its cost and its friction.
+#[derive(Clone, Copy)]
+pub struct Front {
+    pub spot: Spot,
+    pub cost: u64,
+    pub friction: u64,
 }
 
 impl<'a> Model for CostField<'a> {
@@ -139,7 +147,7 @@ pub fn weigh(from: Spot, to: Spot, friction: u64, own: u64) -> u64
 }
 
 /// A place of an extent with its row and column.
-fn spot_in(extent: Extent, at: u32) -> Spot
+pub fn spot_in(extent: Extent, at: u32) -> Spot
     requires { at < cells_in extent }
     ensures spot { IsSpot extent result }
     ensures at { result.at ≡ at }
@@ -152,7 +160,7 @@ fn spot_in(extent: Extent, at: u32) -> Spot
 }
 
 /// The place of a row and a column of an extent.
-fn spot_at_in(extent: Extent, row: u32, column: u32) -> Spot
+pub fn spot_at_in(extent: Extent, row: u32, column: u32) -> Spot
     requires row { row < extent.rows }
     requires column { column < extent.columns }
     ensures spot { IsSpot extent result }
@@ -167,7 +175,7 @@ fn spot_at_in(extent: Extent, row: u32, column: u32) -> Spot
 }
 
 /// The friction of a cell, 0 for a barrier.
-fn friction_of(cell: Cell) -> u64
+pub fn friction_of(cell: Cell) -> u64
     ensures value { result ≡ friction_of cell }
     ensures low { result < 2 ^ 50 }
 {
@@ -178,7 +186,7 @@ fn friction_of(cell: Cell) -> u64
 }
 
 /// The number of a cell; `top` where it is null.
-fn cost_of(cell: Cell, top: u64) -> u64
+pub fn cost_of(cell: Cell, top: u64) -> u64
     requires { top ≤ 2 ^ 50 }
     ensures value { result ≡ cost_of top cell }
     ensures low { result ≤ 2 ^ 50 }
@@ -188,4 +196,13 @@ fn cost_of(cell: Cell, top: u64) -> u64
         Some(_) => 0,
         None => top,
     }
+}
+
+/// A limit as a number of costs.
+pub fn limit_of(limit: Value) -> u64
+    requires { (pos 0 ≤ℤ limit) × (limit ≤ℤ pos greatest_value) }
+    ensures value { result ≡ nat_abs limit }
+    ensures low { result ≤ greatest_value }
+{
+    limit as u64
 }

@@ -11,7 +11,7 @@ ghost use Rattle.layer_tiles.specs.Tiles.{tiles_in};
 ghost use Rattle.friction_spread.specs.Bands.{ground_of};
 ghost use Rattle.friction_spread.specs.Lists.{IsCostList};
 
-use crate::fields::CostField;
+use crate::fields::{CostField, limit_of};
 use crate::floods::values_of;
 use crate::patches::patch_of;
 use crate::repair::NearestRepair;
@@ -20,15 +20,6 @@ use flat_cells::cells_of;
 use friction_spread::{CostList, costs_of_band, spread_of_bands};
 use layer_tiles::{Cell, Change, Extent, NoMemory, Patch, Tally, Value};
 use std::alloc::Global;
-
-/// A limit as a number of costs.
-fn limit_of(limit: Value) -> u64
-    requires { (pos 0 ≤ℤ limit) × (limit ≤ℤ pos greatest_value) }
-    ensures value { result ≡ nat_abs limit }
-    ensures low { result ≤ greatest_value }
-{
-    limit as u64
-}
 
 /// The least costs of a map, as of one band.
 fn costs_of_map(

@@ -7,18 +7,10 @@ ghost use Rattle.friction_neighbor.specs.Spots.{IsSpot, AreNear, IsFront};
 ghost use Rattle.friction_neighbor.specs.Seeds.{IsSeed, AreSeeds};
 ghost use Rattle.friction_neighbor.specs.Floods.{IsFlooding, MayGrow, IsTold, RowTold, left_to_do};
 
-use crate::fields::{CostField, Spot, weigh};
+use crate::fields::{CostField, Front, Spot, weigh};
 use crate::seeds::{Seed, seeds_of};
 use layer_tiles::{Cell, NoMemory};
 use std::alloc::Global;
-
-/// A place whose value is passed on, with its cost and its friction.
-#[derive(Clone, Copy)]
-pub struct Front {
-    pub spot: Spot,
-    pub cost: u64,
-    pub friction: u64,
-}
 
 /// Whether a place has a value.
 fn has_value(values: &[Cell], at: u32) -> bool

@@ -4,15 +4,21 @@
 //! any other place has the least of the values from where such a step leads to it. The sources pass their numbers on in
 //! ascending order, so that the first number that reaches a place is its value. All cells are kept in lists meanwhile.
 //!
-//! So far `neighbor_repair` makes the first values of a map alone: its condition is that there are no old ones.
+//! Where there were values, the places near changed operands and near new costs stand in a queue (`least_costs`), and are given their
+//! least values in the order of the costs, from those of lesser cost that are right by then.
 #![tactic(auto)]
 
 mod fields;
 mod first;
 mod floods;
+mod gathers;
 mod patches;
+mod puts;
 mod repair;
 mod seeds;
+mod settle;
 mod shows;
+mod values;
+mod views;
 
 pub use repair::{Nearest, NearestRepair, neighbor_repair};

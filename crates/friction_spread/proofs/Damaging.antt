@@ -89,7 +89,7 @@ looks_few c s test p e change there holds changes wider =
 -- ---- looks of a whole repair
 
 pub repair_looks : (s : Size) (limit : ℕ) (sources friction : ChangeState) (old now : Cells) (t u : Term) → sources.size ≡ s → friction.size ≡ s → IsChange sources → IsChange friction → IsSome sources.before → IsSome friction.before → HoldsNoUnchanged sources → HoldsNoUnchanged friction →
-    2 * length sources.touched + 2 * length friction.touched + 3 * length (filter (tile_has s (differs old now)) (tiles s)) ≤ 32 * length (op_damage (spread_op limit t u) s (cells_before sources ∷ cells_before friction ∷ []) (sources.cells ∷ friction.cells ∷ []) (Some old) now)
+    2 * length sources.touched + 2 * length friction.touched + 3 * length (filter (tile_has s (differs old now)) (tiles s)) ≤ 7 * length (op_damage (spread_op limit t u) s (cells_before sources ∷ cells_before friction ∷ []) (sources.cells ∷ friction.cells ∷ []) (Some old) now)
 unfolding op_damage
 repair_looks s limit sources friction old now t u e f a b m n holds also =
     let test : ℕ → Bool = has_changed (cells_before sources ∷ cells_before friction ∷ []) (sources.cells ∷ friction.cells ∷ []) in
@@ -101,6 +101,6 @@ repair_looks s limit sources friction old now t u e f a b m n holds also =
     omega (arith, x, y, z)
 
 -- a look at each tile of both operands
-pub first_looks : (s : Size) (limit : ℕ) (before after : List Cells) (now : Cells) (t u : Term) → 2 * tiles_in s ≤ 32 * length (op_damage (spread_op limit t u) s before after None now)
+pub first_looks : (s : Size) (limit : ℕ) (before after : List Cells) (now : Cells) (t u : Term) → 2 * tiles_in s ≤ 7 * length (op_damage (spread_op limit t u) s before after None now)
 unfolding op_damage
 first_looks s limit before after now t u = omega (arith, length-range_with_len 0 (tiles_in s))

@@ -27,21 +27,21 @@ module _ (g : GroundState) (cells old : Cells) (h : IsSize g.size) (right : IsSp
   few = copied_few g cells h right now old (ap base_of same.before ∙ begins) caused
 
   -- where memory was wanted on the way
-  pub reads_failed : HasMoved g was → ((c : ℕ → ℕ) → ((i : ℕ) → IsLeastIn (net_of g) i (c i)) → RisesBy (copies now.copied - copies was.copied + 1) (21 * q + 840 * changed (values g.limit (base_of was.before)) c (cells_in g.size)) b d) →
-      RisesBy (3 * tiles_moved) (p + (21 * q + 840 * moved)) a d
+  pub reads_failed : HasMoved g was → ((c : ℕ → ℕ) → ((i : ℕ) → IsLeastIn (net_of g) i (c i)) → RisesBy (copies now.copied - copies was.copied + 1) (21 * q + 628 * changed (values g.limit (base_of was.before)) c (cells_in g.size)) b d) →
+      RisesBy (3 * tiles_moved) (p + (21 * q + 628 * moved)) a d
   reads_failed due rest =
-      let P : Cells → Type 0 = λ xs. RisesBy (copies now.copied - copies was.copied + 1) (21 * q + 840 * changed (values g.limit xs) (values g.limit cells) (cells_in g.size)) b d in
+      let P : Cells → Type 0 = λ xs. RisesBy (copies now.copied - copies was.copied + 1) (21 * q + 628 * changed (values g.limit xs) (values g.limit cells) (cells_in g.size)) b d in
       let some = some_tile g cells h right was old begins due in
       let m = few in
-      rises_within (0 + (copies now.copied - copies was.copied + 1)) (p + (21 * q + 840 * moved)) (3 * tiles_moved) (p + (21 * q + 840 * moved)) a d (omega (arith, some, m)) (omega arith)
-      (rises_then 0 p (copies now.copied - copies was.copied + 1) (21 * q + 840 * moved) a b d first (subst P begins (rest (values g.limit cells) (least_all g cells right))))
+      rises_within (0 + (copies now.copied - copies was.copied + 1)) (p + (21 * q + 628 * moved)) (3 * tiles_moved) (p + (21 * q + 628 * moved)) a d (omega (arith, some, m)) (omega arith)
+      (rises_then 0 p (copies now.copied - copies was.copied + 1) (21 * q + 628 * moved) a b d first (subst P begins (rest (values g.limit cells) (least_all g cells right))))
 
   -- and where the patch was made after it
-  pub reads_done : (e : TallyState) → ((c : ℕ → ℕ) → ((i : ℕ) → IsLeastIn (net_of g) i (c i)) → RisesBy (copies now.copied - copies was.copied) (21 * q + 840 * changed (values g.limit (base_of was.before)) c (cells_in g.size)) b d) → RisesBy (copies now.copied) 0 d e →
-      RisesBy (3 * tiles_moved) (p + (21 * q + 840 * moved)) a e
+  pub reads_done : (e : TallyState) → ((c : ℕ → ℕ) → ((i : ℕ) → IsLeastIn (net_of g) i (c i)) → RisesBy (copies now.copied - copies was.copied) (21 * q + 628 * changed (values g.limit (base_of was.before)) c (cells_in g.size)) b d) → RisesBy (copies now.copied) 0 d e →
+      RisesBy (3 * tiles_moved) (p + (21 * q + 628 * moved)) a e
   reads_done e rest last =
-      let P : Cells → Type 0 = λ xs. RisesBy (copies now.copied - copies was.copied) (21 * q + 840 * changed (values g.limit xs) (values g.limit cells) (cells_in g.size)) b d in
+      let P : Cells → Type 0 = λ xs. RisesBy (copies now.copied - copies was.copied) (21 * q + 628 * changed (values g.limit xs) (values g.limit cells) (cells_in g.size)) b d in
       let m = few in
-      rises_within (0 + (copies now.copied - copies was.copied) + copies now.copied) (p + (21 * q + 840 * moved) + 0) (3 * tiles_moved) (p + (21 * q + 840 * moved)) a e (omega (arith, m)) (omega arith)
-      (rises_then (0 + (copies now.copied - copies was.copied)) (p + (21 * q + 840 * moved)) (copies now.copied) 0 a d e
-      (rises_then 0 p (copies now.copied - copies was.copied) (21 * q + 840 * moved) a b d first (subst P begins (rest (values g.limit cells) (least_all g cells right)))) last)
+      rises_within (0 + (copies now.copied - copies was.copied) + copies now.copied) (p + (21 * q + 628 * moved) + 0) (3 * tiles_moved) (p + (21 * q + 628 * moved)) a e (omega (arith, m)) (omega arith)
+      (rises_then (0 + (copies now.copied - copies was.copied)) (p + (21 * q + 628 * moved)) (copies now.copied) 0 a d e
+      (rises_then 0 p (copies now.copied - copies was.copied) (21 * q + 628 * moved) a b d first (subst P begins (rest (values g.limit cells) (least_all g cells right)))) last)

@@ -11,7 +11,7 @@ use Rattle.least_costs.specs.Best.{IsRepairing}
 use Rattle.least_costs.specs.Queue.{IsDue, IsQueued}
 use Rattle.least_costs.proofs.Equations.{same_or}
 use Rattle.least_costs.proofs.Queues.{key_least}
-use Rattle.least_costs.proofs.Steps.{due_moves}
+use Rattle.least_costs.proofs.Steps.{AreFewer, due_moves}
 use Rattle.friction_spread.specs.Costs.{GroundState, values, net_of}
 use Rattle.friction_spread.specs.Copied.{IsCopiedWhere, IsMoved, IsCaused}
 use Rattle.friction_spread.proofs.Grounds.{net_closed, net_costs, no_loop}
@@ -43,12 +43,17 @@ pub on_err : {T E Q : Type 0} (r : Result T E) → Q → OnErr r Q
 on_err (Ok x) q = tt
 on_err (Err e) q = q
 
--- entries in the queue are picks yet to come
-pub picks_next : (a n n' r r' m : ℕ) → n' + 1 ≤ n + 10 * m → r + m ≤ r' → 21 * n ≤ a + 420 * r → (a + 420 * r - 21 * n) + (21 + 210 * m) ≤ a + 420 * r' - 21 * n'
-picks_next a n n' r r' m l k e = omega arith
+-- ---- entries in the queue are picks yet to come
 
-pub enough_next : (a n n' r r' m : ℕ) → n' + 1 ≤ n + 10 * m → r + m ≤ r' → 21 * n ≤ a + 420 * r → 21 * n' ≤ a + 420 * r'
-enough_next a n n' r r' m l k e = omega arith
+-- the picks of all that came of a place when it left its old value, and when it arrived
+abbrev pub allowed : ℕ → ℕ → ℕ
+allowed moved arrived = 419 * moved + 209 * arrived
 
-pub picks_last : (a n r w : ℕ) → r + 1 ≤ 2 * w → 21 * n ≤ a + 420 * r → (a + 420 * r - 21 * n) + 231 ≤ a + 840 * w
-picks_last a n r w l e = omega arith
+pub picks_next : (q n n' m m' r r' fell rose : ℕ) → n' + 1 ≤ n + (9 * fell + 10 * rose) → m + rose ≤ m' → r' ≡ r + fell → 21 * n ≤ q + allowed m r → (q + allowed m r - 21 * n) + (21 + (20 * fell + 209 * rose)) ≤ q + allowed m' r' - 21 * n'
+picks_next q n n' m m' r r' fell rose l k h e = omega arith
+
+pub enough_next : (q n n' m m' r r' fell rose : ℕ) → n' + 1 ≤ n + (9 * fell + 10 * rose) → m + rose ≤ m' → r' ≡ r + fell → 21 * n ≤ q + allowed m r → 21 * n' ≤ q + allowed m' r'
+enough_next q n n' m m' r r' fell rose l k h e = omega arith
+
+pub picks_last : (q n m r w : ℕ) → 1 ≤ n → m + r + 1 ≤ 2 * w → AreFewer m r w → 21 * n ≤ q + allowed m r → (q + allowed m r - 21 * n) + 230 ≤ q + 628 * w
+picks_last q n m r w some k few e = omega (arith, some, k, few.left, e)

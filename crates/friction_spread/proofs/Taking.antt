@@ -1,9 +1,9 @@
 -- A place that is dealt with is taken.
-use Rattle.std.proofs.Common.{◌≡◌, ◌≢◌, inl, inr, ℕ, suc, ◌+◌, ◌<◌, ◌≤◌, min, List, length, sym, ◌∙◌, subst, arith}
+use Rattle.std.proofs.Common.{◌≡◌, ◌≢◌, ℕ, suc, ◌+◌, ◌<◌, ◌≤◌, min, List, length, sym, ◌∙◌, subst, arith}
 use Rattle.std.specs.List.{Contains}
 use Rattle.map_nums.specs.Grids.{cells_in}
 use Rattle.map_defs.specs.Nets.{IsWithin, equation}
-use Rattle.least_costs.specs.Queue.{IsQueued, IsKept, IsDue, IsSetTo, IsTake, IsRisen}
+use Rattle.least_costs.specs.Queue.{IsQueued, IsKept, IsDue, IsSetTo, IsFall, IsRise, IsTake, IsRisen}
 use Rattle.least_costs.proofs.Equations.{equation_kept, next_above, next_below}
 use Rattle.friction_spread.specs.Costs.{GroundState, net_of}
 use Rattle.friction_spread.specs.Rows.{RoundOffered, RoundRisen}
@@ -21,7 +21,7 @@ module _ (g : GroundState) (d d' : ℕ → ℕ) (entries entries' : List (ℕ ×
   other_at : o ≡ equation (net_of g) d at
   other_at = let P : ℕ → Type 0 = λ i. o ≡ equation (net_of g) d i in subst P here other
 
-  pub falls : length entries' ≤ length entries + 9 → o < v → IsSetTo d at o d' → RoundOffered (net_of g) g.size d' entries' spot → IsTake (net_of g) d entries key at d' entries'
+  pub falls : length entries' ≤ length entries + 9 → o < v → IsSetTo d at o d' → RoundOffered (net_of g) g.size d' entries' spot → IsTake (net_of g) d entries key at d' entries' (IsFall (net_of g) d d' entries' at) 9
   falls few l set round =
       let e = other_at in
       let a : equation (net_of g) d at < d at = omega (arith, l, e, value) in
@@ -31,8 +31,8 @@ module _ (g : GroundState) (d d' : ℕ → ℕ) (entries entries' : List (ℕ ×
         due = due_here g d key at spot v o here within value other is_key (λ x. absurd (omega (arith, x, l)));
         value = subst P (e ∙ sym (next_above (equation (net_of g) d at) (d at) (suc g.limit) a)) set;
         kept = kept;
-        queued = inr (record { above = a; fallen = offers_round g d' entries' at (subst Q here round) });
-        few = omega (arith, few);
+        queued = record { above = a; fallen = offers_round g d' entries' at (subst Q here round) };
+        few = few;
       }
 
   -- the place itself stands in the queue with what its equation gives, which its own value does not enter
@@ -46,7 +46,7 @@ module _ (g : GroundState) (d d' : ℕ → ℕ) (entries entries' : List (ℕ ×
       let q : o ≡ min (d' at) (equation (net_of g) d' at) = omega (arith, k, e, h, m) in
       subst P q (there m)
 
-  pub raises : length entries' ≤ length entries + 10 → IsWithin (net_of g) d → IsWithin (net_of g) d' → equation (net_of g) d' at ≤ suc g.limit → v ≢ o → v ≤ o → IsSetTo d at (suc g.limit) d' → (o < suc g.limit → Contains entries' (o, at)) → RoundRisen (net_of g) g.size v d' entries' spot → IsTake (net_of g) d entries key at d' entries'
+  pub raises : length entries' ≤ length entries + 10 → IsWithin (net_of g) d → IsWithin (net_of g) d' → equation (net_of g) d' at ≤ suc g.limit → v ≢ o → v ≤ o → IsSetTo d at (suc g.limit) d' → (o < suc g.limit → Contains entries' (o, at)) → RoundRisen (net_of g) g.size v d' entries' spot → IsTake (net_of g) d entries key at d' entries' (IsRise (net_of g) d d' entries' at) 10
   raises few w w' most n l set there round =
       let e = other_at in
       let a : d at ≤ equation (net_of g) d at = omega (arith, l, e, value) in
@@ -57,6 +57,6 @@ module _ (g : GroundState) (d d' : ℕ → ℕ) (entries entries' : List (ℕ ×
         due = due_here g d key at spot v o here within value other is_key n;
         value = subst P (sym (next_below (equation (net_of g) d at) (d at) (suc g.limit) a)) set;
         kept = kept;
-        queued = inl (record { below = a; here = queued_here w w' set there most; risen = subst R value (risen_round g v d' entries' at (subst Q here round)) });
+        queued = record { below = a; here = queued_here w w' set there most; risen = subst R value (risen_round g v d' entries' at (subst Q here round)) };
         few = few;
       }

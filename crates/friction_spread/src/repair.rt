@@ -5,19 +5,18 @@ ghost use Rattle.std.specs.Option.{option_copied};
 ghost use Rattle.map_nums.specs.Grids.{Cells, cells_in, places};
 ghost use Rattle.map_nums.specs.Tiles.{tiles};
 ghost use Rattle.map_nums.specs.Numbers.{greatest_value};
-ghost use Rattle.map_defs.specs.Damage.{differs, tile_has, op_damage};
+ghost use Rattle.map_defs.specs.Damage.{differs, tile_has};
 ghost use Rattle.map_defs.specs.Ops.{Term, spread_op};
 ghost use Rattle.map_defs.specs.Spread.{IsSpread};
 ghost use Rattle.map_defs.specs.Work.{op_work};
 ghost use Rattle.layer_tiles.specs.Tallies.{RisesBy};
 ghost use Rattle.layer_tiles.specs.Changes.{cells_before};
-ghost use Rattle.layer_tiles.specs.ChangeFacts.{HoldsNoUnchanged};
 ghost use Rattle.layer_tiles.specs.Patches.{patched};
 ghost use Rattle.tile_work.specs.Working.{before_of, base_of};
 ghost use Rattle.friction_spread.specs.Costs.{GroundState, values, AreCosts, net_of};
 ghost use Rattle.friction_spread.specs.Rows.{RoundQueued};
 ghost use Rattle.friction_spread.specs.Near.{AgreeFar, AreSeen};
-ghost use Rattle.friction_spread.specs.Repairs.{HoldsExactly, IsRightBefore, IsBaseFor, IsPatchFor};
+ghost use Rattle.friction_spread.specs.Repairs.{HoldsExactly, IsRightBefore, IsBaseFor, IsPatchFor, ReadsWithin};
 
 use crate::first::{Repair, first_costs};
 use crate::ground::{Ground, limit_of};
@@ -78,7 +77,7 @@ fn repaired_costs<M: Tally>(
     ensures spread { IfOk result (λ r. IsSpread ground.now.size ground.now.sources ground.now.friction ground.now.limit (patched ground.now.size base.now.cells r.patch.tiles)) }
     ensures exact { IfOk result (λ r. HoldsExactly ground.now.size base.now.cells r.patch.tiles) }
     ensures worked { IfOk result (λ r. r.worked ≡ length changed.now + length (filter (differs base.now.cells (patched ground.now.size base.now.cells r.patch.tiles)) (places ground.now.size))) }
-    ensures reads { (cells : Cells) → IsSpread ground.now.size ground.now.sources ground.now.friction ground.now.limit cells → RisesBy (3 * length (filter (tile_has ground.now.size (differs base.now.cells cells)) (tiles ground.now.size))) (378 * length changed.now + 840 * length (filter (differs base.now.cells cells) (places ground.now.size))) (M.counts tally.old) (M.counts tally.new) }
+    ensures reads { (cells : Cells) → IsSpread ground.now.size ground.now.sources ground.now.friction ground.now.limit cells → RisesBy (3 * length (filter (tile_has ground.now.size (differs base.now.cells cells)) (tiles ground.now.size))) (378 * length changed.now + 628 * length (filter (differs base.now.cells cells) (places ground.now.size))) (M.counts tally.old) (M.counts tally.new) }
 {
     let extent = ground.extent();
     let _base = base.extent();
@@ -107,7 +106,7 @@ fn repair_layer<M: Tally>(
     ensures spread { IfOk result (λ r. IsSpread sources.now.size sources.now.cells friction.now.cells limit (patched sources.now.size base.now.cells r.patch.tiles)) }
     ensures exact { IfOk result (λ r. HoldsExactly sources.now.size base.now.cells r.patch.tiles) }
     ensures worked { IfOk result (λ r. (t u : Term) → r.worked ≡ op_work (spread_op limit t u) sources.now.size (cells_before sources.now ∷ cells_before friction.now ∷ []) (sources.now.cells ∷ friction.now.cells ∷ []) (Some base.now.cells) (patched sources.now.size base.now.cells r.patch.tiles)) }
-    ensures reads { HoldsNoUnchanged sources.now → HoldsNoUnchanged friction.now → (t u : Term) (cells : Cells) → IsSpread sources.now.size sources.now.cells friction.now.cells limit cells → RisesBy (32 * length (op_damage (spread_op limit t u) sources.now.size (cells_before sources.now ∷ cells_before friction.now ∷ []) (sources.now.cells ∷ friction.now.cells ∷ []) (Some base.now.cells) cells)) (1000 * op_work (spread_op limit t u) sources.now.size (cells_before sources.now ∷ cells_before friction.now ∷ []) (sources.now.cells ∷ friction.now.cells ∷ []) (Some base.now.cells) cells) (M.counts tally.old) (M.counts tally.new) }
+    ensures reads { ReadsWithin 7 628 sources.now friction.now limit (Some base.now.cells) (M.counts tally.old) (M.counts tally.new) }
 {
     let _extent = sources.extent();
     let _friction = friction.extent();
@@ -136,7 +135,9 @@ pub fn spread_repair<M: Tally>(
     ensures exact { IfOk result (λ r. IsPatchFor sources.now.size (option_copied base.entry) r.patch.tiles) }
     ensures worked { IfOk result (λ r. (t u : Term) → r.worked ≡ op_work (spread_op (nat_abs limit) t u) sources.now.size (cells_before sources.now ∷ cells_before friction.now ∷ []) (sources.now.cells ∷ friction.now.cells ∷ []) (before_of (option_copied base.entry)) (patched sources.now.size (base_of (before_of (option_copied base.entry))) r.patch.tiles)) }
     // At most 32 looks for each tile of the damage and 1000 picks for each unit of work, also where memory is wanted.
-    ensures reads { HoldsNoUnchanged sources.now → HoldsNoUnchanged friction.now → (t u : Term) (cells : Cells) → IsSpread sources.now.size sources.now.cells friction.now.cells (nat_abs limit) cells → RisesBy (32 * length (op_damage (spread_op (nat_abs limit) t u) sources.now.size (cells_before sources.now ∷ cells_before friction.now ∷ []) (sources.now.cells ∷ friction.now.cells ∷ []) (before_of (option_copied base.entry)) cells)) (1000 * op_work (spread_op (nat_abs limit) t u) sources.now.size (cells_before sources.now ∷ cells_before friction.now ∷ []) (sources.now.cells ∷ friction.now.cells ∷ []) (before_of (option_copied base.entry)) cells) (M.counts tally.old) (M.counts tally.new) }
+    ensures reads { ReadsWithin 32 1000 sources.now friction.now (nat_abs limit) (before_of (option_copied base.entry)) (M.counts tally.old) (M.counts tally.new) }
+    // Of these at most 7 looks and 628 picks are spent: the others are left to a caller that reads more.
+    ensures inner { ReadsWithin 7 628 sources.now friction.now (nat_abs limit) (before_of (option_copied base.entry)) (M.counts tally.old) (M.counts tally.new) }
 {
     let limit = limit_of(limit);
     match base {

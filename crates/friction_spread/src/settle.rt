@@ -32,8 +32,8 @@ pub fn settle<M: Tally>(
     ensures moved { IfOk result (λ moved. moved ≡ changed (values ground.now.limit (base_of labels.old.before)) (values ground.now.limit labels.new.cells) (cells_in ground.now.size)) }
     ensures caused { IsCaused ground.now labels.new }
     ensures more { copies labels.old.copied ≤ copies labels.new.copied }
-    ensures tally { OnOk result ((c : ℕ → ℕ) → ((i : ℕ) → IsLeastIn (net_of ground.now) i (c i)) → RisesBy (copies labels.new.copied - copies labels.old.copied) (21 * length queue.old + 840 * changed (values ground.now.limit (base_of labels.old.before)) c (cells_in ground.now.size)) (M.counts tally.old) (M.counts tally.new)) }
-    ensures wanted { OnErr result ((c : ℕ → ℕ) → ((i : ℕ) → IsLeastIn (net_of ground.now) i (c i)) → RisesBy (copies labels.new.copied - copies labels.old.copied + 1) (21 * length queue.old + 840 * changed (values ground.now.limit (base_of labels.old.before)) c (cells_in ground.now.size)) (M.counts tally.old) (M.counts tally.new)) }
+    ensures tally { OnOk result ((c : ℕ → ℕ) → ((i : ℕ) → IsLeastIn (net_of ground.now) i (c i)) → RisesBy (copies labels.new.copied - copies labels.old.copied) (21 * length queue.old + 628 * changed (values ground.now.limit (base_of labels.old.before)) c (cells_in ground.now.size)) (M.counts tally.old) (M.counts tally.new)) }
+    ensures wanted { OnErr result ((c : ℕ → ℕ) → ((i : ℕ) → IsLeastIn (net_of ground.now) i (c i)) → RisesBy (copies labels.new.copied - copies labels.old.copied + 1) (21 * length queue.old + 628 * changed (values ground.now.limit (base_of labels.old.before)) c (cells_in ground.now.size)) (M.counts tally.old) (M.counts tally.new)) }
     ensures due { OnErr result (HasMoved ground.now labels.old) }
 {
     let _extent = ground.extent();

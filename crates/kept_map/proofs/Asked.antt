@@ -6,7 +6,7 @@ use Rattle.std.proofs.lemmas.Bool.{false≢true, true≢false}
 use Rattle.std.proofs.lemmas.Option.{none-some, same_Some}
 use Rattle.map_nums.specs.Grids.{Cells, Grid}
 use Rattle.map_nums.specs.Options.{all_some}
-use Rattle.map_defs.specs.Ops.{Name, Op, terms_of}
+use Rattle.map_defs.specs.Ops.{Name, Op}
 use Rattle.map_defs.specs.Nodes.{Node, find_node, needs_in, lacks, first_some}
 use Rattle.map_defs.specs.Depths.{by_depth}
 use Rattle.map_defs.specs.Operate.{operate}
@@ -42,7 +42,7 @@ none_where (Some x) e = absurd (true≢false e)
 
 -- a statement's grid has the size of the map
 pub value_size : (s : EngineState) (n : Name) (op : Op) (cells : Cells) → HasNoCycle (nodes_of s.entries) → find_making (layers s.entries) n ≡ Some (by_op op) → cells_of s n ≡ Some cells → value_of s n ≡ Some (record { size = s.size; cells = cells })
-value_size s n op cells none making is = go (all_some (map (term_cells s.size (value_of s)) (terms_of op))) (value_unfolds s none n ∙ ap (made s.size (value_of s)) making)
+value_size s n op cells none making is = go (all_some (map (term_cells s.size (value_of s)) op.terms)) (value_unfolds s none n ∙ ap (made s.size (value_of s)) making)
   where
     go : (o : Option (List Cells)) → value_of s n ≡ option_map (operate s.size op) o → value_of s n ≡ Some (record { size = s.size; cells = cells })
     go None e = absurd (none-some cells (sym (ap (option_map (λ (g : Grid). g.cells)) e) ∙ is))

@@ -4,7 +4,7 @@ use Rattle.std.specs.List.{AllByRecursion}
 use Rattle.std.specs.Map.{lookup}
 use Rattle.std.proofs.lemmas.List.{length-map}
 use Rattle.std.proofs.lemmas.Option.{none-some, same_Some, slice_get-map}
-use Rattle.map_defs.specs.Ops.{Name, terms_of}
+use Rattle.map_defs.specs.Ops.{Name}
 use Rattle.map_defs.specs.Nodes.{Node}
 use Rattle.statement_parser.specs.Views.{op_view}
 use Rattle.statement_parser.specs.declared.op.Op.{Op as Given}
@@ -96,7 +96,7 @@ planned_alike nodes sources names old new same k n x y view is =
       from = f.found;
       op = ap (λ (v : StepView). v.op) (sym view) ∙ is.op ∙ sym f.op;
       written = ap (λ (v : StepView). v.written) (sym view) ∙ is.written ∙ sym f.written;
-      refs = subst (λ (v : StepView). AreRefsFor sources names k (terms_of v.op) v.refs) view is.refs;
+      refs = subst (λ (v : StepView). AreRefsFor sources names k v.op.terms v.refs) view is.refs;
       depth = ap (λ (v : StepView). v.depth) (sym view) ∙ is.depth;
       kept = ap (λ (v : StepView). v.kept) (sym view) ∙ is.kept;
     }

@@ -3,7 +3,7 @@ use Rattle.std.proofs.Common.{◌≡◌, ℕ, true, List, length, Option, Some, 
 use Rattle.std.proofs.lemmas.List.{length-replicate}
 use Rattle.map_nums.specs.Counts.{raised}
 use Rattle.map_nums.specs.Grids.{Size, IsSize, Cells, Grid, cells_in}
-use Rattle.map_defs.specs.Ops.{Name, Op, terms_of}
+use Rattle.map_defs.specs.Ops.{Name, Op}
 use Rattle.layer_tiles.specs.Cells.{AreCells}
 use Rattle.layer_tiles.specs.Tiles.{tiles_in}
 use Rattle.layer_tiles.specs.Changes.{ChangeState}
@@ -72,7 +72,7 @@ module _ (m : KeptMap) (kept : IsKept m) (e : WholeEdit) (t : WholeState) (shift
   making_is = step_for.making ∙ ap (λ (d : StepDef). Some (by_op d.op)) step_is
 
   operands_are : operands_in t.names (p.step k).op ≡ cells_after (operands_at p k)
-  operands_are = all_each (term_cells t.names.size (value_of t.names)) (terms_of (p.step k).op) (cells_after (operands_at p k))
+  operands_are = all_each (term_cells t.names.size (value_of t.names)) (p.step k).op.terms (cells_after (operands_at p k))
       (operands_made (touch_of e) (names_in m) t.names p sources names under.plan none k n at)
 
   -- ---- what was kept

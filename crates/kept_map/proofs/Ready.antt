@@ -2,7 +2,7 @@
 use Rattle.std.proofs.Common.{◌≡◌, ℕ, ◌<◌, zero, suc, List, [], ◌∷◌, map, filter, not, length, get_or, position, Option, Some, None, is_some, slice_get, slice_index_or, bytes_eq, refl, sym, ap, subst, ◌∙◌, arith}
 use Rattle.std.proofs.lemmas.List.Quantifiers.{position-Some}
 use Rattle.std.proofs.lemmas.Option.{same_Some, slice_get_within, slice_get-get_or}
-use Rattle.map_defs.specs.Ops.{Name, terms_of}
+use Rattle.map_defs.specs.Ops.{Name}
 use Rattle.map_defs.specs.Nodes.{Node, lacks}
 use Rattle.map_defs.specs.Depths.{by_depth}
 use Rattle.map_edits.specs.LayerDefs.{nodes_of}
@@ -83,14 +83,14 @@ module _ (m : KeptMap) (e : WholeEdit) (t : WholeState) (shift : Shift) (sources
   are_ready made are_made k x r here is = subst (λ o. IsReady m.extent o r) (sym (slot_kept m.kept.items x.kept)) (are_made k x r here is).ready
 
   -- steps at rest have their operands, where the sources have the same places after
-  pub rests_after : (new : List (Step Given)) → Rests steps new → (k : ℕ) (x y : Step Given) → slice_get steps k ≡ Some x → slice_get new k ≡ Some y → IsAtRest k x y × AreRefsFor sources names k (terms_of (op_view x.op)) y.refs.items
+  pub rests_after : (new : List (Step Given)) → Rests steps new → (k : ℕ) (x y : Step Given) → slice_get steps k ≡ Some x → slice_get new k ≡ Some y → IsAtRest k x y × AreRefsFor sources names k (op_view x.op).terms y.refs.items
   rests_after new rests k x y here there =
       let n = name_at k x here in
       let rested = rests.1 k x here in
       let same : rested.0 ≡ y = same_Some rested.0 y (sym rested.1 ∙ there) in
       let step : (plan_in m shift steps).step k ≡ step_in m (Some x) = ap (step_in m) here in
-      let refs : AreRefsFor sources names k (terms_of (op_view x.op)) x.refs.items = subst (λ (d : StepDef). AreRefsFor sources names k (terms_of d.op) d.refs) step (under.plan.steps k n.0 n.1).refs in (
+      let refs : AreRefsFor sources names k (op_view x.op).terms x.refs.items = subst (λ (d : StepDef). AreRefsFor sources names k d.op.terms d.refs) step (under.plan.steps k n.0 n.1).refs in (
         subst (λ (z : Step Given). IsAtRest k x z) same rested.2,
-        subst (λ (z : Step Given). AreRefsFor sources names k (terms_of (op_view x.op)) z.refs.items) same
-            (subst (λ (rs : List Ref). AreRefsFor sources names k (terms_of (op_view x.op)) rs) (ap (λ v. v.items) (sym rested.3)) refs),
+        subst (λ (z : Step Given). AreRefsFor sources names k (op_view x.op).terms z.refs.items) same
+            (subst (λ (rs : List Ref). AreRefsFor sources names k (op_view x.op).terms rs) (ap (λ v. v.items) (sym rested.3)) refs),
       )

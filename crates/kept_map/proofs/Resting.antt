@@ -5,7 +5,7 @@ use Rattle.std.specs.Map.{lookup}
 use Rattle.std.proofs.lemmas.Bool.{both_ways, or_left, or_right}
 use Rattle.std.proofs.lemmas.Option.{none-some, same_Some}
 use Rattle.std.proofs.lemmas.Iterator.Adapters.{position_from-zero}
-use Rattle.map_defs.specs.Ops.{Name, terms_of}
+use Rattle.map_defs.specs.Ops.{Name}
 use Rattle.map_defs.specs.Nodes.{Node, lacks}
 use Rattle.map_defs.specs.Depths.{depth_in, by_depth}
 use Rattle.map_edits.specs.Laws.{is_named_in}
@@ -65,7 +65,7 @@ own_flat (y ∷ ys) once (z ∷ zs) (suc k) n x at here = rw (not_first y ys onc
 
 module _ (nodes : List Node) (once : IsOnce nodes) (sources names : List Name) (old new : List (Step Given)) (whole : names ≡ whole_names nodes (by_depth nodes)) (old_count : length old ≡ length names) (new_count : length new ≡ length old)
     (depths : (k : ℕ) (n : Name) (x : Step Given) → slice_get names k ≡ Some n → slice_get old k ≡ Some x → x.depth ≡ depth_in nodes n)
-    (rest : (k : ℕ) (x y : Step Given) → slice_get old k ≡ Some x → slice_get new k ≡ Some y → IsAtRest k x y × AreRefsFor sources names k (terms_of (op_view x.op)) y.refs.items) where
+    (rest : (k : ℕ) (x y : Step Given) → slice_get old k ≡ Some x → slice_get new k ≡ Some y → IsAtRest k x y × AreRefsFor sources names k (op_view x.op).terms y.refs.items) where
   abbrev listed : List Node
   listed = filter (λ (node : Node). not (is_some (lacks nodes node.name))) (by_depth nodes)
 
@@ -88,7 +88,7 @@ module _ (nodes : List Node) (once : IsOnce nodes) (sources names : List Name) (
           from = ap (λ ns. lookup (bytes_eq n) (flats_of_steps ns new)) whole ∙ own_flat listed listed_once new k n y (at_listed k n at) here;
           op = refl;
           written = refl;
-          refs = subst (λ (o : Given). AreRefsFor sources names k (terms_of (op_view o)) y.refs.items) (sym rested.0.op) rested.1;
+          refs = subst (λ (o : Given). AreRefsFor sources names k (op_view o).terms y.refs.items) (sym rested.0.op) rested.1;
           depth = rested.0.depth ∙ depths k n x.0 at x.1;
           kept = rested.0.kept ∙ sym (ap (position (bytes_eq n)) whole ∙ own_place listed listed_once k n (at_listed k n at));
         };

@@ -8,7 +8,7 @@ use Rattle.std.proofs.lemmas.Option.{none-some, same_Some, slice_get_within, sli
 use Rattle.std.proofs.lemmas.List.Elements.{recursion_from_All, All-from_recursion}
 use Rattle.map_nums.specs.Grids.{Size, Grid}
 use Rattle.map_nums.specs.Options.{all_some}
-use Rattle.map_defs.specs.Ops.{Name, Term, layer_term, number_term, terms_of}
+use Rattle.map_defs.specs.Ops.{Name, Term, layer_term, number_term}
 use Rattle.layer_tiles.specs.Layers.{LayerState, IsLayer}
 use Rattle.statement_parser.specs.Views.{op_view}
 use Rattle.statement_parser.specs.declared.op.Op.{Op as Given}
@@ -141,19 +141,19 @@ module _ (m : KeptMap) (e : WholeEdit) (t : WholeState) (shift : Shift) (names :
   named : (k : ℕ) (x : Step Given) → slice_get steps k ≡ Some x → (n : Name) × (slice_get names k ≡ Some n)
   named k x here = let within = slice_get_within steps k x here in let count = under.count in (get_or names k [], slice_get-get_or names k [] (omega arith))
 
-  other_terms : (place k : ℕ) (at : slice_get m.sources.names.keys place ≡ Some gone) (x : Step Given) → slice_get steps k ≡ Some x → AreOther m.sources.names.keys names place k gone at (terms_of (op_view x.op))
+  other_terms : (place k : ℕ) (at : slice_get m.sources.names.keys place ≡ Some gone) (x : Step Given) → slice_get steps k ≡ Some x → AreOther m.sources.names.keys names place k gone at (op_view x.op).terms
   other_terms place k at x here =
       let n = named k x here in
       let made = operands_made (touch_of e) (names_in m) t.names (plan_in m shift steps) m.sources.names.keys names under.plan none k n.0 n.1 in
       let step : (plan_in m shift steps).step k ≡ step_in m (Some x) = ap (step_in m) here in
-      others_there t.names m.sources.names.keys names place k gone at absent (terms_of (op_view x.op))
-      (ap (λ (d : StepDef). is_some (all_some (map (term_cells t.names.size (value_of t.names)) (terms_of d.op)))) (sym step) ∙ ap is_some made)
+      others_there t.names m.sources.names.keys names place k gone at absent (op_view x.op).terms
+      (ap (λ (d : StepDef). is_some (all_some (map (term_cells t.names.size (value_of t.names)) d.op.terms))) (sym step) ∙ ap is_some made)
 
   -- the steps rest, and read the sources that are left
   pub rest_dropped : (o : Option ℕ) → position (bytes_eq gone) m.sources.names.keys ≡ o → IsTakenOut o m.sources new resting moved → (k : ℕ) (x y : Step Given) → slice_get steps k ≡ Some x → slice_get moved k ≡ Some y
-      → IsAtRest k x y × AreRefsFor new.names.keys names k (terms_of (op_view x.op)) y.refs.items
+      → IsAtRest k x y × AreRefsFor new.names.keys names k (op_view x.op).terms y.refs.items
   rest_dropped None at taken k x y here there =
-      subst (λ ks. IsAtRest k x y × AreRefsFor ks names k (terms_of (op_view x.op)) y.refs.items) (sym taken.0)
+      subst (λ ks. IsAtRest k x y × AreRefsFor ks names k (op_view x.op).terms y.refs.items) (sym taken.0)
       (rests_after m e t shift m.sources.names.keys names steps keeps under resting rests k x y here (ap (λ (xs : List (Step Given)). slice_get xs k) (sym taken.2) ∙ there))
   rest_dropped (Some place) at taken k x y here there =
       let z = rests.1 k x here in
@@ -163,7 +163,7 @@ module _ (m : KeptMap) (e : WholeEdit) (t : WholeState) (shift : Shift) (names :
       let is : IsLowered place z.0 y = subst (λ (q : Step Given). IsLowered place z.0 q) same low.2 in
       let keys : slice_get m.sources.names.keys place ≡ Some gone = position_at gone m.sources.names.keys place at in (
         record { op = is.op ∙ r.0.op; depth = is.depth ∙ r.0.depth; kept = is.kept ∙ r.0.kept; written = is.written ∙ r.0.written },
-        subst (λ rs. AreRefsFor new.names.keys names k (terms_of (op_view x.op)) rs) (sym is.refs)
-            (subst (λ ks. AreRefsFor ks names k (terms_of (op_view x.op)) (map (lowered place) z.0.refs.items)) (sym taken.0)
-            (refs_lowered m.sources.names.keys names place k gone keys (terms_of (op_view x.op)) z.0.refs.items (other_terms place k keys x here) r.1)),
+        subst (λ rs. AreRefsFor new.names.keys names k (op_view x.op).terms rs) (sym is.refs)
+            (subst (λ ks. AreRefsFor ks names k (op_view x.op).terms (map (lowered place) z.0.refs.items)) (sym taken.0)
+            (refs_lowered m.sources.names.keys names place k gone keys (op_view x.op).terms z.0.refs.items (other_terms place k keys x here) r.1)),
       )

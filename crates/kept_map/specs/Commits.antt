@@ -2,7 +2,7 @@
 use Rattle.std.specs.Prelude.{◌≡◌, ℕ, ◌≤◌, List, length, map, count_by, false, Option, Some, slice_get}
 use Rattle.std.specs.List.{All}
 use Rattle.map_nums.specs.Counts.{raised}
-use Rattle.map_defs.specs.Ops.{Name, terms_of}
+use Rattle.map_defs.specs.Ops.{Name}
 use Rattle.layer_tiles.specs.Layers.{LayerState}
 use Rattle.statement_parser.specs.Formed.{IsProcedure}
 use Rattle.statement_parser.specs.Views.{op_view}
@@ -47,6 +47,6 @@ pub record IsCommitted (old new : KeptMap) (t : WholeState) (names : List Name) 
   pub stamped : (n : Name) (l : LayerState) → source_in new.sources n ≡ Some l → l.stamps ≡ stamps_at (seen old) t n
   pub plan_names : new.planned.names.keys ≡ names
   pub plan_count : length new.planned.steps.items ≡ length steps
-  pub rest : (k : ℕ) (x y : Step Given) → slice_get steps k ≡ Some x → slice_get new.planned.steps.items k ≡ Some y → IsAtRest k x y × AreRefsFor new.sources.names.keys names k (terms_of (op_view x.op)) y.refs.items
+  pub rest : (k : ℕ) (x y : Step Given) → slice_get steps k ≡ Some x → slice_get new.planned.steps.items k ≡ Some y → IsAtRest k x y × AreRefsFor new.sources.names.keys names k (op_view x.op).terms y.refs.items
   pub kept_count : length new.kept.items ≡ length steps
   pub placed : ArePlaced old.extent (raised old.number 1) (map (λ k. Some k) old.kept.items) steps made new.kept.items

@@ -174,21 +174,11 @@ fn copy_plan(alloc: Global, planned: &Planned) -> Result<Planned, NoMemory>
     Ok(Planned { names, steps })
 }
 
-fn copy_beside(alloc: Global, beside: &Beside) -> Result<Beside, NoMemory>
-    ensures { IfOk result (λ copy. copy ≡ beside.now) }
-{
-    match beside {
-        Beside::Nothing => Ok(Beside::Nothing),
-        Beside::Book(book) => Ok(Beside::Book(book.copy(alloc)?)),
-        Beside::Viewers(viewers) => Ok(Beside::Viewers(viewers.copy(alloc)?)),
-    }
-}
-
 fn copy_kept(alloc: Global, kept: &Kept<Beside>) -> Result<Kept<Beside>, NoMemory>
     ensures { IfOk result (λ copy. copy ≡ kept.now) }
 {
     let layer = kept.layer.copy(alloc)?;
-    let beside = copy_beside(alloc, &kept.beside)?;
+    let beside = kept.beside.copy(alloc)?;
     Ok(Kept {
         layer,
         beside,

@@ -20,6 +20,8 @@ mod local_operations;
 #[cfg(test)]
 mod makers;
 #[cfg(test)]
+mod neighbors;
+#[cfg(test)]
 mod neighbourhoods;
 #[cfg(test)]
 mod regions;

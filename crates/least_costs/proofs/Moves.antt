@@ -24,7 +24,7 @@ one_most o v w h = elim (same_or o v) as (λ _. (if o == v then 0 else 1) ≤ (i
   | inr n ↦ (let m = h n in grind (arith, nat_tests))
 ]
 
-sum_below : (f h : ℕ → ℕ) (n : ℕ) → ((j : ℕ) → f j ≤ h j) → sum_to f n ≤ sum_to h n
+pub sum_below : (f h : ℕ → ℕ) (n : ℕ) → ((j : ℕ) → f j ≤ h j) → sum_to f n ≤ sum_to h n
 sum_below f h zero l = omega arith
 sum_below f h (suc n) l = omega (arith, l n, sum_below f h n l)
 

@@ -1,5 +1,5 @@
 -- One entry taken out of the queue keeps what the repair knows.
-use Rattle.std.proofs.Common.{◌≡◌, ◌≢◌, ℕ, ◌+◌, ◌-◌, ◌*◌, ◌<◌, ◌≤◌, min, Bool, true, false, List, [], ◌∷◌, length, sym, ◌∙◌, ap, arith, inl, inr, subst}
+use Rattle.std.proofs.Common.{◌≡◌, ◌≢◌, ℕ, ◌+◌, ◌-◌, ◌*◌, ◌<◌, ◌≤◌, min, List, [], ◌∷◌, length, sym, ◌∙◌, ap, arith, inl, inr, subst}
 use Rattle.std.specs.Prelude.{◌==◌, if◌then◌else◌}
 use Rattle.std.specs.Int.{from_bool}
 use Rattle.std.specs.List.{Contains, All}
@@ -8,11 +8,13 @@ use Rattle.std.proofs.lemmas.Bool.{cases_lt}
 use Rattle.std.proofs.lemmas.Bool.Decides.{nat_tests}
 use Rattle.map_defs.specs.Nets.{Net, HasCosts, IsClosed, IsWithin, IsLeastIn, equation}
 use Rattle.map_defs.proofs.Nets.{IsSettled, least_costs}
-use Rattle.least_costs.specs.Ranks.{ranks, changed}
-use Rattle.least_costs.specs.Queue.{IsQueued, IsKept, IsDue, next_value, IsOffered, IsSetTo, IsRaised, IsRise, IsStep, is_first}
+use Rattle.least_costs.specs.declared.outcome.Outcome.{Outcome}
+use Rattle.least_costs.specs.declared.outcome.Outcome.TheVariants.{Passed, Fell, Rose}
+use Rattle.least_costs.specs.Ranks.{changed, arrived}
+use Rattle.least_costs.specs.Queue.{IsQueued, IsKept, IsDue, next_value, IsOffered, IsSetTo, IsRaised, IsFall, IsRise, IsTake, IsStep, falls, rises, is_first}
 use Rattle.least_costs.specs.Best.{Ranked, IsRepairing}
 use Rattle.least_costs.proofs.Equations.{same_or, equation_kept, equation_fallen, equation_rises, equation_holds, outside, next_above, next_below, next_most}
-use Rattle.least_costs.proofs.Takes.{Taken, take_above, take_below, ranks_rise, ranks_most, ranks_changed, changed_moves, rank_left}
+use Rattle.least_costs.proofs.Takes.{Taken, take_above, take_below, changed_moves, changed_most, arrived_moves, arrived_most}
 use Rattle.least_costs.proofs.Moves.{moved_least, moved_most}
 use Rattle.least_costs.proofs.Queues.{popped_left, popped_length, key_least}
 
@@ -59,27 +61,42 @@ module _ (g : Net) (closed : IsClosed g) (costs : HasCosts g) (no_loop : HasNoLo
     settled_here : IsSettled g d key
     settled_here = settled_at g d key entries (omega (arith, now.most at, due.is_key)) now.queued all
 
-    taken_here : Taken g at (old at) (d at) (next_value g d at)
-    taken_here =
-        let e = equation g d at in
-        let P : ℕ → Type 0 = λ v. Taken g at (old at) (d at) v in
-        elim (cases_lt e (d at)) as (λ _. P (next_value g d at)) [
-          | inl l ↦ (let k : e ≡ key = omega (arith, due.is_key) in subst P (sym k ∙ sym (next_above e (d at) g.top l)) (take_above g costs d now.within key settled_here at (old at) k (omega arith) (now.most at) (now.old_most at) (now.ranked at)))
-          | inr l ↦ (let n = due.disagrees in let k : d at ≡ key = omega (arith, due.is_key) in subst P (sym (next_below e (d at) g.top l)) (take_below g costs d now.within key settled_here at (old at) k (omega arith) (now.ranked at)))
-        ]
+    pub fall_here : equation g d at < d at → Taken g at (old at) (d at) (next_value g d at) 1 0
+    fall_here l =
+        let P : ℕ → Type 0 = λ v. Taken g at (old at) (d at) v 1 0 in
+        let k : equation g d at ≡ key = omega (arith, due.is_key) in
+        subst P (sym k ∙ sym (next_above (equation g d at) (d at) g.top l)) (take_above g costs d now.within key settled_here at (old at) k (omega arith) (now.most at) (now.ranked at))
 
-    module _ (d' : ℕ → ℕ) (entries' : List (ℕ × ℕ)) (set : IsSetTo d at (next_value g d at) d') where
+    pub rise_here : d at ≤ equation g d at → Taken g at (old at) (d at) (next_value g d at) 0 1
+    rise_here l =
+        let P : ℕ → Type 0 = λ v. Taken g at (old at) (d at) v 0 1 in
+        let n = due.disagrees in
+        let k : d at ≡ key = omega (arith, due.is_key) in
+        subst P (sym (next_below (equation g d at) (d at) g.top l)) (take_below g costs d now.within key settled_here at (old at) k (omega arith) (now.ranked at))
+
+    taken_here : (fell : ℕ) × (rose : ℕ) × Taken g at (old at) (d at) (next_value g d at) fell rose
+    taken_here = elim (cases_lt (equation g d at) (d at)) as (λ _. (fell : ℕ) × (rose : ℕ) × Taken g at (old at) (d at) (next_value g d at) fell rose) [ inl l ↦ (1, 0, fall_here l) | inr l ↦ (0, 1, rise_here l) ]
+
+    module _ (fell rose : ℕ) (here : Taken g at (old at) (d at) (next_value g d at) fell rose) (d' : ℕ → ℕ) (entries' : List (ℕ × ℕ)) (set : IsSetTo d at (next_value g d at) d') where
       within' : IsWithin g d'
       within' j l = let n : j ≢ at = omega (arith, l, due.within) in omega (arith, set.other j n, now.within j l)
 
-      taken' : Taken g at (old at) (d at) (d' at)
-      taken' = let P : ℕ → Type 0 = λ v. Taken g at (old at) (d at) v in subst P (sym set.here) taken_here
+      taken' : Taken g at (old at) (d at) (d' at) fell rose
+      taken' = let P : ℕ → Type 0 = λ v. Taken g at (old at) (d at) v fell rose in subst P (sym set.here) here
 
-      -- the take raises the rank of its place
-      pub rises : ranks g.top old d g.size + 1 ≤ ranks g.top old d' g.size
-      rises = ranks_rise g.top old d d' g.size at due.within set.other taken'.rises
+      -- the place leaves its old value
+      moved' : moved + from_bool (old at == d at) ≡ changed old d' g.size
+      moved' = ap (λ k. k + from_bool (old at == d at)) now.moved_is ∙ sym (changed_moves old d d' g.size at due.within set.other taken'.left)
 
-      pub ranked' : (i : ℕ) → Ranked g i (old i) (d' i)
+      -- and arrives, where it falls
+      pub arrived' : arrived g.top old d' g.size ≡ arrived g.top old d g.size + fell
+      arrived' = arrived_moves g.top old d d' g.size at fell due.within set.other taken'.arrival
+
+      -- so both counts together rise
+      pub on_way : moved + arrived g.top old d g.size + 1 ≤ changed old d' g.size + arrived g.top old d' g.size
+      on_way = omega (arith, moved', arrived', taken'.one, taken'.first)
+
+      ranked' : (i : ℕ) → Ranked g i (old i) (d' i)
       ranked' i = elim (same_or i at) as (λ _. Ranked g i (old i) (d' i)) [
         | inl e ↦ (let P : ℕ → Type 0 = λ i. Ranked g i (old i) (d' i) in subst P (sym e) taken'.ranked)
         | inr n ↦ (let P : ℕ → Type 0 = λ v. Ranked g i (old i) v in subst P (sym (set.other i n)) (now.ranked i))
@@ -161,61 +178,83 @@ module _ (g : Net) (closed : IsClosed g) (costs : HasCosts g) (no_loop : HasNoLo
         most = most';
         queued = queued;
         ranked = ranked';
-        moved_is = ap (λ k. k + from_bool (old at == d at)) now.moved_is ∙ sym (changed_moves g.top old d d' g.size at due.within set.other taken'.rises);
+        moved_is = moved';
       }
 
     -- a place whose entry is due has another least cost than before
     pub due_moves : (w : ℕ) → IsLeastIn g at w → old at ≢ w
-    due_moves w m = moved_least g at (old at) (next_value g d at) w taken_here.ranked (rank_left g.top (old at) (d at) (next_value g d at) taken_here.rises) m
+    due_moves w m = let t = taken_here.2 in moved_least g at (old at) (next_value g d at) w t.ranked t.left m
 
-    -- and raises the ranks, which are at most two for each such place
-    pub due_ranks : (w : ℕ → ℕ) → ((i : ℕ) → IsLeastIn g i (w i)) → ranks g.top old d g.size + 1 ≤ 2 * changed old w g.size
-    due_ranks w are_least =
+    -- so not all places with another least cost have left and arrived
+    pub due_on_way : (w : ℕ → ℕ) → ((i : ℕ) → IsLeastIn g i (w i)) → moved + arrived g.top old d g.size + 1 ≤ 2 * changed old w g.size
+    due_on_way w are_least =
         let d' : ℕ → ℕ = one_set d at (next_value g d at) in
         let set : IsSetTo d at (next_value g d at) d' = one_is_set d at (next_value g d at) in
-        omega (arith, rises d' [] set, ranks_changed g.top old d' g.size, moved_most g old d' w g.size (ranked' d' [] set) are_least)
+        let t = taken_here in
+        omega (arith, on_way t.0 t.1 t.2 d' [] set, arrived_most g.top old d' g.size, moved_most g old d' w g.size (ranked' t.0 t.1 t.2 d' [] set) are_least)
 
--- the ranks are at most two for each place that has another least cost than before
-pub ranks_least : (g : Net) (old d : ℕ → ℕ) (entries : List (ℕ × ℕ)) (moved : ℕ) → IsRepairing g old d entries moved → (w : ℕ → ℕ) → ((i : ℕ) → IsLeastIn g i (w i)) → ranks g.top old d g.size ≤ 2 * changed old w g.size
-ranks_least g old d entries moved now w are_least = omega (arith, ranks_changed g.top old d g.size, moved_most g old d w g.size now.ranked are_least)
+-- only places that have another least cost leave, and only those arrive
+pub record AreFewer (m a w : ℕ) : Type 0 where
+  pub left : m ≤ w
+  pub arrived : a ≤ w
+
+pub fewer : (g : Net) (old d : ℕ → ℕ) (entries : List (ℕ × ℕ)) (moved : ℕ) → IsRepairing g old d entries moved → (w : ℕ → ℕ) → ((i : ℕ) → IsLeastIn g i (w i)) → AreFewer moved (arrived g.top old d g.size) (changed old w g.size)
+fewer g old d entries moved now w are_least =
+    let l : moved ≤ changed old w g.size = omega (arith, now.moved_is, moved_most g old d w g.size now.ranked are_least) in
+    record { left = l; arrived = omega (arith, l, now.moved_is, arrived_most g.top old d g.size) }
 
 -- the measure of the repair
-abbrev pub to_go : Net → (ℕ → ℕ) → (ℕ → ℕ) → List (ℕ × ℕ) → ℕ
-to_go g old d entries = 11 * (2 * g.size - ranks g.top old d g.size) + length entries
+abbrev pub to_go : Net → (ℕ → ℕ) → (ℕ → ℕ) → List (ℕ × ℕ) → ℕ → ℕ
+to_go g old d entries moved = 11 * (2 * g.size - (moved + arrived g.top old d g.size)) + length entries
 
-pub record Went (g : Net) (old d : ℕ → ℕ) (entries : List (ℕ × ℕ)) (d' : ℕ → ℕ) (entries' : List (ℕ × ℕ)) (moved more : ℕ) : Type 0 where
-  pub len : length entries' + 1 ≤ length entries + 10 * more
-  pub repairing : IsRepairing g old d' entries' moved
-  pub rises : ranks g.top old d g.size + more ≤ ranks g.top old d' g.size
-  pub smaller : to_go g old d' entries' < to_go g old d entries
+pub record Went (g : Net) (old d : ℕ → ℕ) (entries : List (ℕ × ℕ)) (moved : ℕ) (d' : ℕ → ℕ) (entries' : List (ℕ × ℕ)) (moved' fell rose : ℕ) : Type 0 where
+  pub len : length entries' + 1 ≤ length entries + (9 * fell + 10 * rose)
+  pub repairing : IsRepairing g old d' entries' moved'
+  pub leave : moved + rose ≤ moved'
+  pub arrive : arrived g.top old d' g.size ≡ arrived g.top old d g.size + fell
+  pub smaller : to_go g old d' entries' moved' < to_go g old d entries moved
 
 -- one entry
-pub went : (g : Net) → IsClosed g → HasCosts g → HasNoLoop g → (old d : ℕ → ℕ) (entries left : List (ℕ × ℕ)) (moved key at : ℕ) → IsRepairing g old d entries moved → IsPermutation entries ((key, at) ∷ left) → All (λ (y : ℕ × ℕ). key ≤ y.0) entries →
-    (d' : ℕ → ℕ) (entries' : List (ℕ × ℕ)) (is_taken : Bool) → IsStep g d left key at d' entries' is_taken → Went g old d entries d' entries' (moved + from_bool (is_first old d at is_taken)) (from_bool is_taken)
-went g closed costs no_loop old d entries left moved key at now popped all d' entries' true s =
-    let r = rises g closed costs no_loop old d entries left moved key at now popped all s.due d' entries' s.value in
-    let queued : (i : ℕ) → IsQueued g d' entries' i = elim (s.queued) as (λ _. (i : ℕ) → IsQueued g d' entries' i) [
-      | inl q ↦ risen_at g closed costs no_loop old d entries left moved key at now popped all s.due d' entries' s.value s.kept q
-      | inr q ↦ (λ i. fallen_at g closed costs no_loop old d entries left moved key at now popped all s.due d' entries' s.value s.kept q.above i (offered_all g closed costs no_loop old d entries left moved key at now popped all s.due d' entries' s.value q.fallen i))
-    ] in
-    let m = ranks_most g.top old d' g.size in
-    record {
-      len = omega (arith, s.few, popped_length (key, at) entries left popped);
-      repairing = taken g closed costs no_loop old d entries left moved key at now popped all s.due d' entries' s.value queued;
-      rises = r;
-      smaller = omega (arith, r, m, s.few, popped_length (key, at) entries left popped);
-    }
-went g closed costs no_loop old d entries left moved key at now popped all d' entries' false s =
-    let e : moved + 0 ≡ moved = omega arith in
-    let P : (ℕ → ℕ) → Type 0 = λ l. Went g old d entries l entries' (moved + 0) 0 in
-    let Q : List (ℕ × ℕ) → Type 0 = λ q. Went g old d entries d q (moved + 0) 0 in
-    let R : ℕ → Type 0 = λ n. IsRepairing g old d left n in
-    subst P (sym s.same) (subst Q (sym s.entries_same) (record {
-      len = omega (arith, popped_length (key, at) entries left popped);
-      repairing = subst R (sym e) (passed g closed costs no_loop old d entries left moved key at now popped all s.due);
-      rises = omega arith;
-      smaller = omega (arith, popped_length (key, at) entries left popped);
-    }))
+module _ (g : Net) (closed : IsClosed g) (costs : HasCosts g) (no_loop : HasNoLoop g) (old d : ℕ → ℕ) (entries left : List (ℕ × ℕ)) (moved key at : ℕ) (now : IsRepairing g old d entries moved) (popped : IsPermutation entries ((key, at) ∷ left)) (all : All (λ (y : ℕ × ℕ). key ≤ y.0) entries) (d' : ℕ → ℕ) (entries' : List (ℕ × ℕ)) where
+  -- that was taken
+  went_by : (next : Type 0) (fell rose most : ℕ) (s : IsTake g d left key at d' entries' next most) → Taken g at (old at) (d at) (next_value g d at) fell rose → most ≤ 9 * fell + 10 * rose → ((i : ℕ) → IsQueued g d' entries' i) → Went g old d entries moved d' entries' (moved + from_bool (old at == d at)) fell rose
+  went_by next fell rose most s here few are_queued =
+      let r = taken g closed costs no_loop old d entries left moved key at now popped all s.due fell rose here d' entries' s.value are_queued in
+      let o = on_way g closed costs no_loop old d entries left moved key at now popped all s.due fell rose here d' entries' s.value in
+      let l = popped_length (key, at) entries left popped in
+      let m = changed_most old d' g.size in
+      let a = arrived_most g.top old d' g.size in
+      record {
+        len = omega (arith, s.few, few, l);
+        repairing = r;
+        leave = omega (arith, here.first);
+        arrive = arrived' g closed costs no_loop old d entries left moved key at now popped all s.due fell rose here d' entries' s.value;
+        smaller = omega (arith, o, r.moved_is, m, a, s.few, few, here.one, l);
+      }
+
+  pub went : (outcome : Outcome) → IsStep g d left key at d' entries' outcome → Went g old d entries moved d' entries' (moved + from_bool (is_first old d at outcome)) (falls outcome) (rises outcome)
+  went Passed s =
+      let e : moved + 0 ≡ moved = omega arith in
+      let P : (ℕ → ℕ) → Type 0 = λ l. Went g old d entries moved l entries' (moved + 0) 0 0 in
+      let Q : List (ℕ × ℕ) → Type 0 = λ q. Went g old d entries moved d q (moved + 0) 0 0 in
+      let R : ℕ → Type 0 = λ n. IsRepairing g old d left n in
+      subst P (sym s.same) (subst Q (sym s.entries_same) (record {
+        len = omega (arith, popped_length (key, at) entries left popped);
+        repairing = subst R (sym e) (passed g closed costs no_loop old d entries left moved key at now popped all s.due);
+        leave = omega arith;
+        arrive = omega arith;
+        smaller = omega (arith, popped_length (key, at) entries left popped);
+      }))
+  went Fell s =
+      let q = s.queued in
+      let here = fall_here g closed costs no_loop old d entries left moved key at now popped all s.due q.above in
+      went_by (IsFall g d d' entries' at) 1 0 9 s here (omega arith)
+      (λ i. fallen_at g closed costs no_loop old d entries left moved key at now popped all s.due 1 0 here d' entries' s.value s.kept q.above i (offered_all g closed costs no_loop old d entries left moved key at now popped all s.due 1 0 here d' entries' s.value q.fallen i))
+  went Rose s =
+      let q = s.queued in
+      let here = rise_here g closed costs no_loop old d entries left moved key at now popped all s.due q.below in
+      went_by (IsRise g d d' entries' at) 0 1 10 s here (omega arith)
+      (risen_at g closed costs no_loop old d entries left moved key at now popped all s.due 0 1 here d' entries' s.value s.kept q)
 
 -- with no entry left the values are the least costs
 pub all_least : (g : Net) → HasCosts g → (old d : ℕ → ℕ) (entries : List (ℕ × ℕ)) (moved : ℕ) → IsRepairing g old d entries moved → entries ≡ [] → (i : ℕ) → IsLeastIn g i (d i)

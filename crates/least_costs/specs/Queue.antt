@@ -1,7 +1,9 @@
 -- What is done with the places that disagree with their equation. They stand in a queue, each under the lesser of its value and its equation's.
-use Rattle.std.specs.Prelude.{◌≡◌, ◌≢◌, ◌⊎◌, ℕ, ◌+◌, ◌<◌, ◌≤◌, ◌==◌, List, length, min, Bool, true, false, if◌then◌else◌, nat_lt}
+use Rattle.std.specs.Prelude.{◌≡◌, ◌≢◌, ℕ, ◌+◌, ◌<◌, ◌≤◌, ◌==◌, List, length, min, Bool, false, if◌then◌else◌, nat_lt}
 use Rattle.std.specs.List.{Contains}
 use Rattle.map_defs.specs.Nets.{Net, equation}
+use Rattle.least_costs.specs.declared.outcome.Outcome.{Outcome}
+use Rattle.least_costs.specs.declared.outcome.Outcome.TheVariants.{Passed, Fell, Rose}
 
 abbrev pub IsQueued : Net → (ℕ → ℕ) → List (ℕ × ℕ) → ℕ → Type 0
 IsQueued g d entries i = d i ≢ equation g d i → Contains entries (min (d i) (equation g d i), i)
@@ -56,23 +58,38 @@ pub record IsRise (g : Net) (d d' : ℕ → ℕ) (entries' : List (ℕ × ℕ)) 
   pub here : IsQueued g d' entries' at
   pub risen : (i : ℕ) → IsRisen g (d at) d' entries' at i
 
-pub record IsTake (g : Net) (d : ℕ → ℕ) (entries : List (ℕ × ℕ)) (key at : ℕ) (d' : ℕ → ℕ) (entries' : List (ℕ × ℕ)) : Type 0 where
+-- the place got its next value, with what that asks for, and at most `most` entries came into the queue
+pub record IsTake (g : Net) (d : ℕ → ℕ) (entries : List (ℕ × ℕ)) (key at : ℕ) (d' : ℕ → ℕ) (entries' : List (ℕ × ℕ)) (next : Type 0) (most : ℕ) : Type 0 where
   pub due : IsDue g d key at
   pub value : IsSetTo d at (next_value g d at) d'
   pub kept : IsKept entries entries'
-  pub queued : IsRise g d d' entries' at ⊎ IsFall g d d' entries' at
-  pub few : length entries' ≤ length entries + 10
+  pub queued : next
+  pub few : length entries' ≤ length entries + most
 
 pub record IsPassed (g : Net) (d : ℕ → ℕ) (entries : List (ℕ × ℕ)) (key at : ℕ) (d' : ℕ → ℕ) (entries' : List (ℕ × ℕ)) : Type 0 where
   pub due : IsDue g d key at → ⊥
   pub same : d' ≡ d
   pub entries_same : entries' ≡ entries
 
--- what is done with an entry
-abbrev pub IsStep : Net → (ℕ → ℕ) → List (ℕ × ℕ) → ℕ → ℕ → (ℕ → ℕ) → List (ℕ × ℕ) → Bool → Type 0
-IsStep g d entries key at d' entries' true = IsTake g d entries key at d' entries'
-IsStep g d entries key at d' entries' false = IsPassed g d entries key at d' entries'
+-- what is done with an entry: a fall offers the cost through the place to others, at most nine; a rise queues at most as many, and the place itself
+abbrev pub IsStep : Net → (ℕ → ℕ) → List (ℕ × ℕ) → ℕ → ℕ → (ℕ → ℕ) → List (ℕ × ℕ) → Outcome → Type 0
+IsStep g d entries key at d' entries' Passed = IsPassed g d entries key at d' entries'
+IsStep g d entries key at d' entries' Fell = IsTake g d entries key at d' entries' (IsFall g d d' entries' at) 9
+IsStep g d entries key at d' entries' Rose = IsTake g d entries key at d' entries' (IsRise g d d' entries' at) 10
+
+-- how many values fell, and how many rose
+abbrev pub falls : Outcome → ℕ
+falls Passed = 0
+falls Fell = 1
+falls Rose = 0
+
+abbrev pub rises : Outcome → ℕ
+rises Passed = 0
+rises Fell = 0
+rises Rose = 1
 
 -- the place left its old value
-abbrev pub is_first : (ℕ → ℕ) → (ℕ → ℕ) → ℕ → Bool → Bool
-is_first old d at taken = if taken then old at == d at else false
+abbrev pub is_first : (ℕ → ℕ) → (ℕ → ℕ) → ℕ → Outcome → Bool
+is_first old d at Passed = false
+is_first old d at Fell = old at == d at
+is_first old d at Rose = old at == d at

@@ -4,24 +4,23 @@ use Rattle.std.specs.Map.{lookup, values_of}
 use Rattle.std.proofs.lemmas.List.{length-map}
 use Rattle.std.proofs.lemmas.List.Sums.{sum_by-cons, sum_by-append}
 use Rattle.map_nums.specs.Grids.{Size}
-use Rattle.map_defs.specs.Ops.{Name, Op, local_op, difference_op, ratio_op, rating_op, focal_op, zonal_op, form_op, direction_op, flow_op, spread_op, sight_op, region_op}
+use Rattle.map_defs.specs.Ops.{Name}
 use Rattle.map_defs.specs.Statements as meant
 use Rattle.map_defs.specs.Statements.{Written}
 use Rattle.layer_tiles.specs.Layers.{LayerState}
-use Rattle.statement_parser.specs.Views.{op_view}
 use Rattle.procedure_expand.specs.declared.flat.Flat.{Flat}
 use Rattle.procedure_expand.specs.Flats.{flat_view, flats_view}
 use Rattle.map_edits.specs.Entries.{Def, statement, Entry, find_def, put_entry}
 use Rattle.map_edits.specs.LayerDefs.{Making, given_grid, by_op, LayerDef, flat_layer, layers}
-use Rattle.map_edits.specs.Limits.{is_source, is_flat, is_zonal}
+use Rattle.map_edits.specs.Limits as limits
+use Rattle.map_edits.specs.Limits.{is_source, is_flat}
 use Rattle.map_edits.proofs.Among.{same_name}
 use Rattle.map_edits.proofs.Groups.{def_layers}
 use Rattle.kept_map.specs.Maps.{def_by, entries_by}
 use Rattle.kept_map.specs.declared.maps.Item.{Item}
 use Rattle.kept_map.specs.declared.maps.Item.TheVariants.{Source, Statement}
-use Rattle.live_engine.specs.Counting.{is_zonal_op, is_of, is_layer_of, item_count, count_there}
+use Rattle.live_engine.specs.Counting.{kind_of, is_of, item_count, count_there}
 use Rattle.live_engine.specs.declared.statement_limits.Kind.{Kind}
-use Rattle.live_engine.specs.declared.statement_limits.Kind.TheVariants as kinds
 use Rattle.kept_map.proofs.SourceLayers.{find_item}
 
 pub count_first : {X : Type 0} (p : X → Bool) (x : X) (xs : List X) → count_by p (x ∷ xs) ≡ cond (p x) 1 0 + count_by p xs
@@ -68,49 +67,26 @@ module _ (p : LayerDef → Bool) where
 
 -- ---- items
 
-op_zonal : (n : Name) (op : Op) → is_zonal (record { name = n; making = by_op op }) ≡ is_zonal_op op
-op_zonal n (local_op stat ignoring ts) = refl
-op_zonal n (difference_op t u) = refl
-op_zonal n (ratio_op t u) = refl
-op_zonal n (rating_op t rates) = refl
-op_zonal n (focal_op stat r t) = refl
-op_zonal n (zonal_op stat t u) = refl
-op_zonal n (form_op form t) = refl
-op_zonal n (direction_op t) = refl
-op_zonal n (flow_op t u) = refl
-op_zonal n (spread_op limit t u) = refl
-op_zonal n (sight_op sight t u) = refl
-op_zonal n (region_op t) = refl
-
-flat_kind : (kind : Kind) (f : Flat) → is_layer_of kind (flat_layer (flat_view f)) ≡ is_of kind f
-flat_kind kinds.Any f = refl
-flat_kind kinds.Zonal f = op_zonal f.name (op_view f.op)
-
-flats_count : (kind : Kind) (fs : List Flat) → count_by (is_layer_of kind) (map flat_layer (flats_view fs)) ≡ count_by (is_of kind) fs
+flats_count : (kind : Kind) (fs : List Flat) → count_by (limits.is_of (kind_of kind)) (map flat_layer (flats_view fs)) ≡ count_by (is_of kind) fs
 flats_count kind [] = refl
 flats_count kind (f ∷ fs) =
-    count_first (is_layer_of kind) (flat_layer (flat_view f)) (map flat_layer (flats_view fs))
-    ∙ ap (λ b. cond b 1 0 + count_by (is_layer_of kind) (map flat_layer (flats_view fs))) (flat_kind kind f)
+    count_first (limits.is_of (kind_of kind)) (flat_layer (flat_view f)) (map flat_layer (flats_view fs))
     ∙ ap (λ k. cond (is_of kind f) 1 0 + k) (flats_count kind fs) ∙ sym (count_first (is_of kind) f fs)
 
-none_given : (kind : Kind) (n : Name) (l : Option LayerState) (size : Size) → count_by (is_layer_of kind) (def_layers n (def_by size l Source)) ≡ 0
-none_given kinds.Any n l size = refl
-none_given kinds.Zonal n l size = refl
-
-layers_count : (kind : Kind) (size : Size) (l : Option LayerState) (n : Name) (item : Item) → count_by (is_layer_of kind) (def_layers n (def_by size l item)) ≡ item_count kind item
-layers_count kind size l n Source = none_given kind n l size
+layers_count : (kind : Kind) (size : Size) (l : Option LayerState) (n : Name) (item : Item) → count_by (limits.is_of (kind_of kind)) (def_layers n (def_by size l item)) ≡ item_count kind item
+layers_count kind size l n Source = refl
 layers_count kind size l n (Statement written flats) = flats_count kind flats.items
 
-items_count : (kind : Kind) (size : Size) (grids : Name → Option LayerState) (items : List (List ℕ × Item)) → sum_by (item_count kind) (values_of items) ≡ count_by (is_layer_of kind) (layers (entries_by size grids items))
+items_count : (kind : Kind) (size : Size) (grids : Name → Option LayerState) (items : List (List ℕ × Item)) → sum_by (item_count kind) (values_of items) ≡ count_by (limits.is_of (kind_of kind)) (layers (entries_by size grids items))
 items_count kind size grids [] = refl
 items_count kind size grids (e ∷ es) =
     let a = sum_by-cons (item_count kind) e.1 (values_of es) in
-    let b = count_cons (is_layer_of kind) e.0 (def_by size (grids e.0) e.1) (entries_by size grids es) in
+    let b = count_cons (limits.is_of (kind_of kind)) e.0 (def_by size (grids e.0) e.1) (entries_by size grids es) in
     let c = layers_count kind size (grids e.0) e.0 e.1 in
     let rest = items_count kind size grids es in
     omega (arith, a, b, c, rest)
 
-there_count : (kind : Kind) (size : Size) (grids : Name → Option LayerState) (n : Name) (o : Option Item) → layers_there (is_layer_of kind) n (option_map (def_by size (grids n)) o) ≡ count_there kind o
+there_count : (kind : Kind) (size : Size) (grids : Name → Option LayerState) (n : Name) (o : Option Item) → layers_there (limits.is_of (kind_of kind)) n (option_map (def_by size (grids n)) o) ≡ count_there kind o
 there_count kind size grids n None = refl
 there_count kind size grids n (Some item) = layers_count kind size (grids n) n item
 
@@ -122,42 +98,40 @@ module _ (kind : Kind) (items : List (List ℕ × Item)) (n : Name) (all there t
   others_fit size =
       let grids : Name → Option LayerState = λ m. None in
       let sum = items_count kind size grids items in
-      let old = ap (layers_there (is_layer_of kind) n) (find_item size grids items n) ∙ there_count kind size grids n (lookup (bytes_eq n) items) in
-      let least = there_least (is_layer_of kind) (entries_by size grids items) n in
+      let old = ap (layers_there (limits.is_of (kind_of kind)) n) (find_item size grids items n) ∙ there_count kind size grids n (lookup (bytes_eq n) items) in
+      let least = there_least (limits.is_of (kind_of kind)) (entries_by size grids items) n in
       omega (arith, sum, old, least, all_is, there_is)
 
-  pub counted_with : (size : Size) (grids : Name → Option LayerState) (w : Written) → all - there + these ≡ count_by (is_layer_of kind) (layers (put_entry (entries_by size grids items) n (statement w (flats_view fs))))
+  pub counted_with : (size : Size) (grids : Name → Option LayerState) (w : Written) → all - there + these ≡ count_by (limits.is_of (kind_of kind)) (layers (put_entry (entries_by size grids items) n (statement w (flats_view fs))))
   counted_with size grids w =
       let sum = items_count kind size grids items in
-      let old = ap (layers_there (is_layer_of kind) n) (find_item size grids items n) ∙ there_count kind size grids n (lookup (bytes_eq n) items) in
-      let least = there_least (is_layer_of kind) (entries_by size grids items) n in
-      let put = count_put (is_layer_of kind) (entries_by size grids items) n (statement w (flats_view fs)) in
+      let old = ap (layers_there (limits.is_of (kind_of kind)) n) (find_item size grids items n) ∙ there_count kind size grids n (lookup (bytes_eq n) items) in
+      let least = there_least (limits.is_of (kind_of kind)) (entries_by size grids items) n in
+      let put = count_put (limits.is_of (kind_of kind)) (entries_by size grids items) n (statement w (flats_view fs)) in
       let new = flats_count kind fs in
       omega (arith, sum, old, least, put, new, all_is, there_is, these_are)
 
--- ---- Zonal ones are flat
+-- ---- of each kind there are no more than there are of any
 
 at_most_one : (b : Bool) → cond b 1 0 ≤ 1
 at_most_one true = omega arith
 at_most_one false = omega arith
 
-one_kind : (n : Name) (making : Making) → cond (is_zonal (record { name = n; making = making })) 1 0 ≤ cond (is_flat (record { name = n; making = making })) 1 0
-one_kind n (given_grid grid) = omega arith
-one_kind n (by_op op) = at_most_one (is_zonal (record { name = n; making = by_op op }))
+one_kind : (kind : limits.Kind) (n : Name) (making : Making) → cond (limits.is_of kind (record { name = n; making = making })) 1 0 ≤ cond (is_flat (record { name = n; making = making })) 1 0
+one_kind kind n (given_grid grid) = omega arith
+one_kind kind n (by_op op) = at_most_one (limits.is_of kind (record { name = n; making = by_op op }))
 
-zonals_flat : (ls : List LayerDef) → count_by is_zonal ls ≤ count_by is_flat ls
-zonals_flat [] = omega arith
-zonals_flat (l ∷ ls) =
-    let a = count_first is_zonal l ls in
+kind_flat : (kind : limits.Kind) (ls : List LayerDef) → count_by (limits.is_of kind) ls ≤ count_by is_flat ls
+kind_flat kind [] = omega arith
+kind_flat kind (l ∷ ls) =
+    let a = count_first (limits.is_of kind) l ls in
     let b = count_first is_flat l ls in
-    let one = one_kind l.name l.making in
-    let rest = zonals_flat ls in
+    let one = one_kind kind l.name l.making in
+    let rest = kind_flat kind ls in
     omega (arith, a, b, one, rest)
 
--- of each kind there are no more than there are of any
 pub few_of : (kind : Kind) (size : Size) (grids : Name → Option LayerState) (items : List (List ℕ × Item)) → sum_by (item_count kind) (values_of items) ≤ count_by is_flat (layers (entries_by size grids items))
-few_of kinds.Any size grids items = let e = items_count kinds.Any size grids items in omega (arith, e)
-few_of kinds.Zonal size grids items = let e = items_count kinds.Zonal size grids items in let less = zonals_flat (layers (entries_by size grids items)) in omega (arith, e, less)
+few_of kind size grids items = let e = items_count kind size grids items in let less = kind_flat (kind_of kind) (layers (entries_by size grids items)) in omega (arith, e, less)
 
 -- ---- all flat statements, and sources
 

@@ -7,7 +7,7 @@ use Rattle.std.specs.declared.alloc.Global.{Global}
 use Rattle.indexmap.specs.IndexMap.{spare}
 use Rattle.map_nums.specs.Counts.{raised}
 use Rattle.map_nums.specs.Grids.{Size}
-use Rattle.map_defs.specs.Ops.{Name, terms_of}
+use Rattle.map_defs.specs.Ops.{Name}
 use Rattle.layer_tiles.specs.Layers.{LayerState, IsLayer, layer_of}
 use Rattle.layer_tiles.specs.Tiles.{tiles_in}
 use Rattle.statement_parser.specs.Formed.{IsProcedure}
@@ -177,7 +177,7 @@ module _ (m : KeptMap) (keeps : IsKept m) (e : WholeEdit) (n : Name) (graph : Li
 
   -- the steps at rest, over sources with these names
   abbrev Rest : List Name → List (Step Given) → Type 0
-  Rest names steps = (k : ℕ) (x y : Step Given) → slice_get planned.steps.items k ≡ Some x → slice_get steps k ≡ Some y → IsAtRest k x y × AreRefsFor names planned.names.keys k (terms_of (op_view x.op)) y.refs.items
+  Rest names steps = (k : ℕ) (x y : Step Given) → slice_get planned.steps.items k ≡ Some x → slice_get steps k ≡ Some y → IsAtRest k x y × AreRefsFor names planned.names.keys k (op_view x.op).terms y.refs.items
 
   rested : (t : WholeState) (shift : Shift) (sources : List Name) → IsUnder m e t shift sources planned.names.keys planned.steps.items → entered.planned.steps.items ≡ old.planned.steps.items → entered.sources.names.keys ≡ sources → Rest entered.sources.names.keys entered.planned.steps.items
   rested t shift sources under steps names =

@@ -9,7 +9,7 @@ use Rattle.std.proofs.lemmas.List.Elements.{All-push, All-take}
 use Rattle.std.proofs.lemmas.List.Sums.{sum_by-cons}
 use Rattle.map_nums.specs.Counts.{raised}
 use Rattle.map_nums.specs.Grids.{Grid, Cells}
-use Rattle.map_defs.specs.Ops.{Name, Op, terms_of}
+use Rattle.map_defs.specs.Ops.{Name, Op}
 use Rattle.map_defs.specs.Statements.{Procedure}
 use Rattle.map_defs.specs.Calls.{wrong_call}
 use Rattle.map_defs.proofs.Unchanged.{changed_none}
@@ -158,7 +158,7 @@ module _ (m : KeptMap) (e : WholeEdit) (p : Parts) (kept : IsKept m) (is : IsBes
   same_cells n = ap (λ (v : Name → Option Grid). option_map (λ (g : Grid). g.cells) (v n)) same_values
 
   same_operands : (op : Op) → operands_in (names_in m) op ≡ operands_in after.names op
-  same_operands op = sym (ap (λ (v : Name → Option Grid). map (λ u. unwrap_or (term_cells m.extent v u) []) (terms_of op)) same_values)
+  same_operands op = sym (ap (λ (v : Name → Option Grid). map (λ u. unwrap_or (term_cells m.extent v u) []) op.terms) same_values)
 
   orderly : IsOrderly after.names
   orderly = record { groups = kept.lawful.groups; apart = kept.lawful.apart; none_looped = kept.lawful.none_looped }

@@ -5,12 +5,13 @@ use Rattle.std.specs.List.{AllByRecursion as ByRecursion}
 use Rattle.std.proofs.lemmas.List.{length-map}
 use Rattle.std.proofs.lemmas.List.Elements.{All-from_recursion, recursion_from_All}
 use Rattle.map_words.specs.Bytes.{Text}
-use Rattle.map_defs.specs.Ops.{Name, Term, layer_term, number_term, Op, local_op, difference_op, ratio_op, rating_op, focal_op, zonal_op, form_op, direction_op, flow_op, spread_op, sight_op, region_op}
+use Rattle.map_defs.specs.Ops.{Name, Term, layer_term, number_term, Op}
+use Rattle.map_defs.specs.Facts.{facts}
 use Rattle.map_defs.specs.Statements.{Written, plain, call, Flat, Inner, Procedure}
 use Rattle.map_defs.specs.Bindings.{Binding, named_term, term_with, op_with, given_for}
 use Rattle.map_defs.specs.Expansion.{WrongCall, wrong_count, find_procedure, Expands, inner_flats, inner_name, dotted, body_flats, called, called_flats, call_flats, expansion_of}
 use Rattle.map_defs.proofs.Naming.{both_are}
-use Rattle.statement_parser.specs.Formed.{Each, IsWritten, AreInner, IsBody, IsProcedure}
+use Rattle.statement_parser.specs.Formed.{Each, IsBetween, IsWritten, AreInner, IsBody, IsProcedure}
 use Rattle.statement_parser.specs.Views.{op_view}
 use Rattle.procedure_expand.specs.declared.flat.Flat as held
 use Rattle.procedure_expand.specs.Flats.{flats_view}
@@ -59,22 +60,9 @@ module _ (bs : List Binding) (bound : BoundInRange bs) where
   with_terms (t ∷ ts) h = (with_term t h.0, with_terms ts h.1)
 
   with_op : (op : Op) → HasRanges op → HasRanges (op_with bs op)
-  with_op (local_op s ignoring ts) h =
-      let same : length (map (term_with bs) ts) ≡ length ts = length-map ts (term_with bs) in
-      let least : 2 ≤ length ts = h.0 in
-      let most : length ts ≤ 8 = h.1 in
-      (omega (arith, same, least), omega (arith, same, most), with_terms ts h.2)
-  with_op (difference_op t u) h = (with_term t h.0, with_term u h.1)
-  with_op (ratio_op t u) h = (with_term t h.0, with_term u h.1)
-  with_op (rating_op t rs) h = (with_term t h.0, h.1, h.2, h.3)
-  with_op (focal_op s r t) h = (h.0, h.1, with_term t h.2)
-  with_op (zonal_op s t u) h = (h.0, with_term t h.1, with_term u h.2)
-  with_op (form_op f t) h = with_term t h
-  with_op (direction_op t) h = with_term t h
-  with_op (flow_op t u) h = (with_term t h.0, with_term u h.1)
-  with_op (spread_op limit t u) h = (h.0, with_term t h.1, with_term u h.2)
-  with_op (sight_op s t u) h = (h.0, with_term t h.1, with_term u h.2)
-  with_op (region_op t) h = with_term t h
+  with_op op h =
+      let same : length (map (term_with bs) op.terms) ≡ length op.terms = length-map op.terms (term_with bs) in
+      (h.0, subst (λ n. IsBetween (facts op.head).least (facts op.head).most n) (sym same) h.1, with_terms op.terms h.2)
 
 -- ---- an expansion
 

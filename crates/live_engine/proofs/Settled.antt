@@ -4,7 +4,7 @@ use Rattle.std.proofs.lemmas.Option.{slice_get_within, slice_get-get_or}
 use Rattle.std.specs.List.{All, IsDistinct}
 use Rattle.map_nums.specs.Counts.{raised}
 use Rattle.map_nums.specs.Grids.{Size}
-use Rattle.map_defs.specs.Ops.{Name, terms_of}
+use Rattle.map_defs.specs.Ops.{Name}
 use Rattle.map_defs.specs.Nodes.{Node, find_node}
 use Rattle.layer_tiles.specs.Layers.{LayerState, IsLayer}
 use Rattle.statement_parser.specs.Formed.{IsProcedure}
@@ -177,7 +177,7 @@ module _ (m : KeptMap) (e : WholeEdit) (t : WholeState) (shift : Shift) (prepare
       plan_count = leaves.statements.rests.0;
       rest = λ k x y here there.
           let r = rests_after m e t shift m.sources.names.keys m.planned.names.keys m.planned.steps.items kept is.under m'.planned.steps.items leaves.statements.rests k x y here there in
-          (r.0, subst (λ ks. AreRefsFor ks m.planned.names.keys k (terms_of (op_view x.op)) y.refs.items) (sym leaves.source_names) r.1);
+          (r.0, subst (λ ks. AreRefsFor ks m.planned.names.keys k (op_view x.op).terms y.refs.items) (sym leaves.source_names) r.1);
       kept_count = leaves.statements.kept_count;
       placed = leaves.statements.placed;
     }

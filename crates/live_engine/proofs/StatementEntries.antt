@@ -1,8 +1,8 @@
 -- What a statement makes of the entries of a map, or why it is refused.
-use Rattle.std.proofs.Common.{◌≡◌, ◌<◌, ◌≤◌, Bool, true, false, cond, nat_lt, List, [], ◌∷◌, ◌++◌, map, length, count_by, Option, Some, None, Result, Ok, Err, Vec, IsTrue, IsFalse, refl, sym, ap, ◌∙◌, arith}
+use Rattle.std.proofs.Common.{◌≡◌, ◌<◌, ◌≤◌, Bool, true, false, cond, nat_lt, List, [], ◌∷◌, ◌++◌, map, length, count_by, Option, Some, None, option_map, Result, Ok, Err, Vec, IsTrue, IsFalse, refl, sym, ap, ◌∙◌, arith}
 use Rattle.std.specs.List.{All}
 use Rattle.std.specs.declared.alloc.Global.{Global}
-use Rattle.std.proofs.lemmas.Bool.{lt-ltb, le-ltb}
+use Rattle.std.proofs.lemmas.Bool.{lt-ltb}
 use Rattle.std.proofs.lemmas.List.{map-append}
 use Rattle.map_words.specs.Names.{is_plain}
 use Rattle.map_nums.specs.Grids.{Grid}
@@ -21,15 +21,17 @@ use Rattle.statement_graph.specs.Groups.{Group, nodes_in, put_group}
 use Rattle.statement_graph.specs.Puts.{own_name, FitsAs}
 use Rattle.map_edits.specs.Entries.{Def, source, statement, Entry, find_def, put_entry}
 use Rattle.map_edits.specs.LayerDefs.{flat_layer, layers, node_of_layer, nodes_of}
-use Rattle.map_edits.specs.Limits.{is_source, is_flat, is_zonal}
+use Rattle.map_edits.specs.Limits as limits
+use Rattle.map_edits.specs.Limits.{is_source, is_flat, most_flats, any_kind, zonal_kind, nearest_kind, first_beyond}
 use Rattle.map_edits.specs.EditForms.{define}
-use Rattle.map_edits.specs.EntriesAfter.{bounded, put_statement, define_with, entries_with}
+use Rattle.map_edits.specs.EntriesAfter.{unless_beyond, bounded, put_statement, define_with, entries_with}
 use Rattle.map_edits.specs.Edits.{with_entries}
 use Rattle.map_edits.specs.Attempts.{with_names, attempted}
 use Rattle.map_edits.specs.Counted.{of_attempt, accept_counted}
 use Rattle.map_edits.specs.GroupLaws.{IsSaid}
-use Rattle.map_edits.specs.Refusals.{Refusal, exists_already, beyond, statements, zonals, cycle, no_procedure, wrong_terms}
+use Rattle.map_edits.specs.Refusals.{Refusal, exists_already, beyond, statements, which_kind, cycle, no_procedure, wrong_terms}
 use Rattle.procedure_expand.proofs.Plain.{plain_undotted}
+use Rattle.map_edits.proofs.Accepted.{none_beyond}
 use Rattle.map_edits.proofs.LawfulEdits.{entries_good, good_of}
 use Rattle.op_jobs.specs.Ranges.{HasRanges}
 use Rattle.kept_map.specs.Groups.{statement_nodes}
@@ -56,26 +58,29 @@ use Rattle.live_engine.proofs.Counted.{count_put, there_least, flats_all, source
 
 -- ---- limits and cycles
 
-bounded_by : (n : Name) (es : List Entry) (many zonal looped : Bool) → nat_lt 64 (count_by is_flat (layers es)) ≡ many → nat_lt 12 (count_by is_zonal (layers es)) ≡ zonal → is_looped (nodes_of es) n ≡ looped
-    → bounded n es ≡ cond many (Err (beyond statements)) (cond zonal (Err (beyond zonals)) (cond looped (Err (cycle n)) (Ok es)))
-bounded_by n es many zonal looped p q r =
-    ap (λ b. cond b (Err (beyond statements)) (cond (nat_lt 12 (count_by is_zonal (layers es))) (Err (beyond zonals)) (cond (is_looped (nodes_of es) n) (Err (cycle n)) (Ok es)))) p
-    ∙ ap (λ z. cond many (Err (beyond statements)) (cond z (Err (beyond zonals)) (cond (is_looped (nodes_of es) n) (Err (cycle n)) (Ok es)))) q
-    ∙ ap (λ l. cond many (Err (beyond statements)) (cond zonal (Err (beyond zonals)) (cond l (Err (cycle n)) (Ok es)))) r
+bounded_many : (n : Name) (es : List Entry) → most_flats < count_by is_flat (layers es) → bounded n es ≡ Err (beyond statements)
+bounded_many n es many = ap (λ b. unless_beyond n es (cond b (Some any_kind) (first_beyond (zonal_kind ∷ nearest_kind ∷ []) (layers es)))) (lt-ltb most_flats (count_by is_flat (layers es)) many)
 
-bounded_many : (n : Name) (es : List Entry) → 64 < count_by is_flat (layers es) → bounded n es ≡ Err (beyond statements)
-bounded_many n es many = bounded_by n es true (nat_lt 12 (count_by is_zonal (layers es))) (is_looped (nodes_of es) n) (lt-ltb 64 (count_by is_flat (layers es)) many) refl refl
+module _ (n : Name) (es : List Entry) where
+  bounded_beyond : (w : Which) → IsBeyond es (Some w) → bounded n es ≡ Err (beyond (which_of w))
+  bounded_beyond w h = go (first_beyond limits.kinds (layers es)) h
+    where
+      go : (o : Option limits.Kind) → Some (which_of w) ≡ option_map which_kind o → unless_beyond n es o ≡ Err (beyond (which_of w))
+      go None h = absurd cc
+      go (Some kind) h = let same : which_of w ≡ which_kind kind = cc in ap (λ x. Err (beyond x)) (sym same)
 
-bounded_beyond : (n : Name) (es : List Entry) (w : Which) → IsBeyond es (Some w) → bounded n es ≡ Err (beyond (which_of w))
-bounded_beyond n es which.Sources h = absurd h
-bounded_beyond n es which.Statements h = bounded_many n es h
-bounded_beyond n es which.Zonals h = bounded_by n es false true (is_looped (nodes_of es) n) (le-ltb 64 (count_by is_flat (layers es)) h.0) (lt-ltb 12 (count_by is_zonal (layers es)) h.1) refl
-bounded_beyond n es which.Labels h = absurd h
-bounded_beyond n es which.Symbols h = absurd h
-bounded_beyond n es which.Procedures h = absurd h
+  none_first : IsBeyond es None → first_beyond limits.kinds (layers es) ≡ None
+  none_first h = go (first_beyond limits.kinds (layers es)) h
+    where
+      go : (o : Option limits.Kind) → None ≡ option_map which_kind o → o ≡ None
+      go None h = refl
+      go (Some kind) h = absurd cc
 
-bounded_within : (n : Name) (es : List Entry) (looped : Bool) → IsBeyond es None → is_looped (nodes_of es) n ≡ looped → bounded n es ≡ cond looped (Err (cycle n)) (Ok es)
-bounded_within n es looped few is = bounded_by n es false false looped (le-ltb 64 (count_by is_flat (layers es)) few.0) (le-ltb 12 (count_by is_zonal (layers es)) few.1) is
+  bounded_within : (looped : Bool) → IsBeyond es None → is_looped (nodes_of es) n ≡ looped → bounded n es ≡ cond looped (Err (cycle n)) (Ok es)
+  bounded_within looped few is = ap (unless_beyond n es) (none_first few) ∙ ap (λ l. cond l (Err (cycle n)) (Ok es)) is
+
+  flats_within : IsBeyond es None → count_by is_flat (layers es) ≤ most_flats
+  flats_within few = (none_beyond limits.kinds (layers es) (none_first few)).0
 
 own_last : (nodes : List Node) (node : Node) → own_name (nodes ++ node ∷ []) ≡ Some node.name
 own_last [] node = refl
@@ -145,6 +150,7 @@ module _ (m : KeptMap) (keeps : IsKept m) (n : Name) (written : Written) where
         (refused_names (beyond statements) (puts_by (Ok e.0) e.1 ∙ bounded_many n (put_entry (entries_in m) n (statement (written_view written) e.0)) (alone_many e.0 e.2)), refl)
     stands_for_none (a_refusal.Limit which.Sources) e = absurd e
     stands_for_none (a_refusal.Limit which.Zonals) e = absurd e
+    stands_for_none (a_refusal.Limit which.Neighbors) e = absurd e
     stands_for_none (a_refusal.Limit which.Labels) e = absurd e
     stands_for_none (a_refusal.Limit which.Symbols) e = absurd e
     stands_for_none (a_refusal.Limit which.Procedures) e = absurd e
@@ -181,7 +187,7 @@ module _ (m : KeptMap) (keeps : IsKept m) (n : Name) (written : Written) where
               let nodes : length (nodes_in (groups_with_it m n fs)) ≡ length (nodes_of (entries_with_it m n written fs)) = ap length graph_nodes in
               let all = few_nodes (entries_with_it m n written fs) in
               let sources = sources_with_few in
-              let flats = few.0 in
+              let flats = flats_within n (entries_with_it m n written fs) few in
               omega (arith, nodes, all, sources, flats);
         }
 
@@ -213,5 +219,5 @@ module _ (m : KeptMap) (keeps : IsKept m) (n : Name) (written : Written) where
         fits = record { formed = formed; ranges = ranges; other = no_source; seat = tt };
         graph_is = graph_is ∙ ap (λ (g : List Group). put_group g n (statement_nodes (flats_view fs))) keeps.graph_is ∙ groups_put (entries_in m) n (written_view written) (flats_view fs);
         sources_few = sources_with_few no_source fs expands few;
-        flats_few = few.0;
+        flats_few = flats_within n (entries_with_it m n written fs) few;
       }

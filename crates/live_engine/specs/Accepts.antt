@@ -35,6 +35,7 @@ abbrev pub which_of : Which → refusals.Which
 which_of which.Sources = refusals.sources
 which_of which.Statements = refusals.statements
 which_of which.Zonals = refusals.zonals
+which_of which.Neighbors = refusals.neighbors
 which_of which.Labels = refusals.labels
 which_of which.Symbols = refusals.symbols
 which_of which.Procedures = refusals.procedures

@@ -35,6 +35,8 @@ pub enum Which {
     Statements,
     /// 12 of them Zonal.
     Zonals,
+    /// 8 of them FocalNeighbor.
+    Neighbors,
     /// 4096 labels.
     Labels,
     /// 4096 symbols.

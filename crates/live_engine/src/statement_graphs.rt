@@ -65,7 +65,9 @@ fn needs_of(alloc: Global, op: &Op) -> Result<Vec<Name>, NoMemory>
         }
         Op::Zonal { of, zones, .. } => names_of_both(alloc, of, zones),
         Op::Flow { of, weights } => names_of_both(alloc, of, weights),
-        Op::Spread { of, friction, .. } => names_of_both(alloc, of, friction),
+        Op::Spread { of, friction, .. } | Op::Neighbor { of, friction, .. } => {
+            names_of_both(alloc, of, friction)
+        }
         Op::Sight { of, surface, .. } => names_of_both(alloc, of, surface),
         Op::Rating { of, .. }
         | Op::Focal { of, .. }

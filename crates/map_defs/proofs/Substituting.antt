@@ -1,25 +1,11 @@
 -- What a body's terms name, once they stand for what is bound.
-use Rattle.std.proofs.Common.{◌≡◌, Bool, true, false, cond, List, [], ◌∷◌, ◌++◌, map, flat_map, bytes_eq, refl, sym, subst, inl}
-use Rattle.map_defs.specs.Ops.{Name, Term, layer_term, number_term, Op, local_op, difference_op, ratio_op, rating_op, focal_op, zonal_op, form_op, direction_op, flow_op, spread_op, sight_op, region_op, terms_of, term_names, needs_of, with_terms}
+use Rattle.std.proofs.Common.{Bool, true, false, cond, List, [], ◌∷◌, ◌++◌, map, flat_map, bytes_eq, inl}
+use Rattle.map_defs.specs.Ops.{Name, Term, layer_term, number_term, Op, term_names, needs_of}
 use Rattle.map_defs.specs.Statements.{Flat}
 use Rattle.map_defs.specs.Bindings.{Binding, named_term, term_with, op_with, given_for}
 use Rattle.map_defs.specs.FlatNames.{Each, IsMet}
 use Rattle.map_defs.specs.MadeProcedures.{IsUndotted}
 use Rattle.map_defs.proofs.FlatNames.{each_join, each_front, each_rest, each_more, after, met_after}
-
-pub terms_with : (f : Term → Term) (op : Op) → terms_of (with_terms f op) ≡ map f (terms_of op)
-terms_with f (local_op stat ignoring ts) = refl
-terms_with f (difference_op t u) = refl
-terms_with f (ratio_op t u) = refl
-terms_with f (rating_op t rates) = refl
-terms_with f (focal_op stat r t) = refl
-terms_with f (zonal_op stat t u) = refl
-terms_with f (form_op form t) = refl
-terms_with f (direction_op t) = refl
-terms_with f (flow_op t u) = refl
-terms_with f (spread_op limit t u) = refl
-terms_with f (sight_op sight t u) = refl
-terms_with f (region_op t) = refl
 
 -- what is bound names what is met
 abbrev pub AreBound : List Name → List Binding → Type 0
@@ -58,7 +44,7 @@ module _ (known : List Name) where
       (terms_met bs h ts (each_rest IsUndotted (term_names t) (flat_map term_names ts) plain))
 
   pub op_met : (bs : List Binding) → AreBound known bs → (op : Op) → Each IsUndotted (needs_of op) → Each (IsMet known) (needs_of (op_with bs op))
-  op_met bs h op plain = let P : List Term → Type 0 = AreTermsMet in subst P (sym (terms_with (term_with bs) op)) (terms_met bs h (terms_of op) plain)
+  op_met bs h op plain = terms_met bs h op.terms plain
 
   pub given_bound : (ns : List Name) (ts : List Term) → AreTermsMet ts → AreBound known (given_for ns ts)
   given_bound [] ts h = tt

@@ -5,13 +5,14 @@ use Rattle.std.proofs.lemmas.Bool.{true≢false}
 use Rattle.map_nums.specs.Grids.{Size, Cells, cell_at, places}
 use Rattle.map_nums.specs.Tiles.{tiles, tile_of}
 use Rattle.map_nums.specs.declared.Stat.{Stat}
-use Rattle.map_defs.specs.Ops.{Op, local_op, difference_op, ratio_op, rating_op, focal_op, zonal_op, form_op, direction_op, flow_op, spread_op, sight_op, region_op}
+use Rattle.map_defs.specs.Ops.{Op}
+use Rattle.map_defs.specs.Facts.{Class, local_class, near_class, zonal_class, sight_class, path_class, nearest_class, region_class, class_of, is_repaired}
 use Rattle.map_defs.specs.Operate.{operand}
 use Rattle.map_defs.specs.Tiles.{is_in_square}
 use Rattle.map_defs.specs.Zonal.{zone_statistic}
-use Rattle.map_defs.specs.Differences.{differs, has_changed, tile_has, square_has, zone_differs, changed_tiles}
-use Rattle.map_defs.specs.Damage.{reach_of, is_damaged_at, is_damaged, op_damage}
-use Rattle.map_defs.specs.Work.{is_touched, in_one_region, op_work}
+use Rattle.map_defs.specs.Differences.{differs, has_changed, tile_has, square_has, zone_differs, costs_by, cost_or_cell_differs, changed_tiles}
+use Rattle.map_defs.specs.Damage.{reach_of, is_damaged_in, is_damaged_at, is_damaged, op_damage}
+use Rattle.map_defs.specs.Work.{is_touched, in_one_region, repair_work, op_work}
 use Rattle.map_defs.proofs.RegionCells.{same_so}
 
 filter_none : {X : Type 0} (p : X → Bool) → ((x : X) → p x ≡ false) → (xs : List X) → filter p xs ≡ []
@@ -53,24 +54,19 @@ zone_none stat s b (Some z) = ap not (same_so (zone_statistic stat s (operand b 
 -- ---- damage
 
 module _ (s : Size) (b : List Cells) (w : Cells) where
-  at_none : (op : Op) (i : ℕ) → is_damaged_at op s b b w w i ≡ false
-  at_none (local_op stat ignoring ts) i = refl
-  at_none (difference_op u v) i = refl
-  at_none (ratio_op u v) i = refl
-  at_none (rating_op u rates) i = refl
-  at_none (focal_op stat r u) i = refl
-  at_none (zonal_op stat u v) i = zone_none stat s b (cell_at (operand b 1) i)
-  at_none (form_op f u) i = refl
-  at_none (direction_op u) i = refl
-  at_none (flow_op u v) i = not_differs w i
-  at_none (spread_op limit u v) i = not_differs w i
-  at_none (sight_op sight u v) i = refl
-  at_none (region_op u) i = not_differs w i
+  at_none : (class : Class) (i : ℕ) → is_damaged_in class s b b w w i ≡ false
+  at_none local_class i = refl
+  at_none (near_class r) i = refl
+  at_none (zonal_class stat) i = zone_none stat s b (cell_at (operand b 1) i)
+  at_none (sight_class r) i = refl
+  at_none path_class i = not_differs w i
+  at_none (nearest_class limit) i = both_none (differs (costs_by limit s b) (costs_by limit s b) i) (differs w w i) (not_differs (costs_by limit s b) i) (not_differs w i)
+  at_none region_class i = not_differs w i
 
   damaged_none : (op : Op) (t : ℕ) → is_damaged op s b b w w t ≡ false
   damaged_none op t =
       both_none (square_has (reach_of op) s (has_changed b b) t) (tile_has s (is_damaged_at op s b b w w) t) (square_none (reach_of op) s (has_changed b b) (has_unchanged b) t)
-      (tile_none s (is_damaged_at op s b b w w) (at_none op) t)
+      (tile_none s (is_damaged_at op s b b w w) (at_none (class_of op)) t)
 
   pub damage_none : (op : Op) → op_damage op s b b (Some w) w ≡ []
   unfolding op_damage
@@ -97,20 +93,18 @@ module _ (s : Size) (b : List Cells) (w : Cells) where
   placed_none : lengths (filter (has_changed b b) (places s)) (filter (differs w w) (places s)) ≡ 0
   placed_none = ap (λ xs. lengths xs (filter (differs w w) (places s))) no_places ∙ ap (λ ys. lengths [] ys) no_results
 
+  repaired_none : (class : Class) → cond (is_repaired class) (repair_work class s b b w w) 0 ≡ 0
+  repaired_none local_class = refl
+  repaired_none (near_class r) = refl
+  repaired_none (zonal_class stat) = refl
+  repaired_none (sight_class r) = refl
+  repaired_none path_class = placed_none
+  repaired_none (nearest_class limit) = ap (λ xs. lengths xs (filter (cost_or_cell_differs limit s b b w w) (places s))) no_places ∙ ap (λ ys. lengths [] ys) (filter_none (cost_or_cell_differs limit s b b w w) (at_none (nearest_class limit)) (places s))
+  repaired_none region_class = ap (λ xs. lengths xs (filter (is_touched s w xs) (places s))) no_places ∙ ap (λ ys. lengths [] ys) no_regions
+
   pub work_none : (op : Op) → op_work op s b b (Some w) w ≡ 0
   unfolding op_work
-  work_none (local_op stat ignoring ts) = refl
-  work_none (difference_op u v) = refl
-  work_none (ratio_op u v) = refl
-  work_none (rating_op u rates) = refl
-  work_none (focal_op stat r u) = refl
-  work_none (zonal_op stat u v) = refl
-  work_none (form_op f u) = refl
-  work_none (direction_op u) = refl
-  work_none (flow_op u v) = placed_none
-  work_none (spread_op limit u v) = placed_none
-  work_none (sight_op sight u v) = refl
-  work_none (region_op u) = ap (λ xs. lengths xs (filter (is_touched s w xs) (places s))) no_places ∙ ap (λ ys. lengths [] ys) no_regions
+  work_none op = repaired_none (class_of op)
 
 -- ---- a statement that was undefined, or that the edit wrote
 

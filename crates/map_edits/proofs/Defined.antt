@@ -2,7 +2,7 @@
 use Rattle.std.proofs.Common.{◌≡◌, ℕ, zero, suc, true, false, cond, not, List, [], ◌∷◌, map, flat_map, length, Option, Some, None, is_some, option_map, bytes_eq, if◌then◌else◌, refl, sym, ap, ◌∙◌}
 use Rattle.std.proofs.lemmas.Bool.{true≢false, or_left, or_right}
 use Rattle.map_nums.specs.Grids.{Size, Cells, Grid}
-use Rattle.map_defs.specs.Ops.{Name, Term, layer_term, number_term, terms_of, term_names}
+use Rattle.map_defs.specs.Ops.{Name, Term, layer_term, number_term, term_names}
 use Rattle.map_defs.specs.Operate.{operate}
 use Rattle.map_defs.specs.Nodes.{find_node, needs_in, lacks, first_some}
 use Rattle.map_edits.specs.LayerDefs.{Making, given_grid, by_op, layers, find_making, nodes_of}
@@ -44,7 +44,7 @@ module _ (size : Size) (grid_of : Name → Option Grid) (lack_of : Name → Opti
       → is_some (made size grid_of o) ≡ not (is_some (if is_some o then first_some (map lack_of (making_needs o)) else Some n))
   made_defined n None same = refl
   made_defined n (Some (given_grid grid)) same = refl
-  made_defined n (Some (by_op op)) same = is_some-option_map (operate size op) (all_some (map (term_cells size grid_of) (terms_of op))) ∙ operands_defined (terms_of op) same
+  made_defined n (Some (by_op op)) same = is_some-option_map (operate size op) (all_some (map (term_cells size grid_of) op.terms)) ∙ operands_defined op.terms same
 
 module _ (s : EngineState) (none : HasNoCycle (nodes_of s.entries)) where
   defined_by : (k : ℕ) (n : Name) → goes_on k (nodes_of s.entries) n ≡ false → is_some (value_of s n) ≡ not (is_some (lacks (nodes_of s.entries) n))

@@ -5,7 +5,8 @@ use Rattle.std.proofs.lemmas.List.Folds.{list_any-append}
 use Rattle.std.proofs.lemmas.Option.{none-some}
 use Rattle.map_nums.specs.Grids.{Size, Cells, Grid}
 use Rattle.map_defs.specs.Sight.{most_viewers}
-use Rattle.map_defs.specs.Ops.{Name, Term, layer_term, number_term, Op, sight_op, terms_of, term_names}
+use Rattle.map_defs.specs.Ops.{Name, Term, layer_term, number_term, Op, term_names}
+use Rattle.map_defs.specs.Facts.{class_of}
 use Rattle.map_defs.specs.Operate.{operate}
 use Rattle.map_defs.specs.Nodes.{Node, find_node, needs_in}
 use Rattle.map_defs.specs.Depths.{by_depth}
@@ -59,9 +60,9 @@ module _ (size : Size) (f g : Name → Option Grid) where
   made_less : (o : Option Making) → ((m : Name) → is_among m (making_needs o) ≡ true → IsLess (f m) (g m)) → IsLess (made size f o) (made size g o)
   made_less None less = inl refl
   made_less (Some (given_grid grid)) less = inr refl
-  made_less (Some (by_op op)) less = go (operands_less (terms_of op) less)
+  made_less (Some (by_op op)) less = go (operands_less op.terms less)
     where
-      go : (all_some (map (term_cells size f) (terms_of op)) ≡ None) ⊎ (map (term_cells size f) (terms_of op) ≡ map (term_cells size g) (terms_of op)) → IsLess (made size f (Some (by_op op))) (made size g (Some (by_op op)))
+      go : (all_some (map (term_cells size f) op.terms) ≡ None) ⊎ (map (term_cells size f) op.terms ≡ map (term_cells size g) op.terms) → IsLess (made size f (Some (by_op op))) (made size g (Some (by_op op)))
       go (inl e) = inl (ap (option_map (operate size op)) e)
       go (inr e) = inr (ap (λ os. option_map (operate size op) (all_some os)) e)
 
@@ -120,11 +121,8 @@ module _ (s t : EngineState) (none_s : HasNoCycle (nodes_of s.entries)) (none_t 
 
   -- ---- faults
 
-  viewers_same : (op : Op) → map (term_cells t.size (value_of t)) (terms_of op) ≡ map (term_cells t.size (value_of s)) (terms_of op) → viewers_of t (Some (by_op op)) ≡ viewers_of s (Some (by_op op))
-  viewers_same (sight_op sight viewers surface) e =
-      let first : term_cells t.size (value_of t) viewers ≡ term_cells t.size (value_of s) viewers = cc in
-      ap viewers_among (first ∙ ap (λ q. term_cells q (value_of s) viewers) size)
-  viewers_same op e = refl
+  viewers_same : (op : Op) → map (term_cells t.size (value_of t)) op.terms ≡ map (term_cells t.size (value_of s)) op.terms → viewers_of t (Some (by_op op)) ≡ viewers_of s (Some (by_op op))
+  viewers_same op e = ap (λ os. viewers_among (class_of op) (all_some os)) (e ∙ ap (λ q. map (term_cells q (value_of s)) op.terms) size)
 
   fault_same : (n : Name) → viewers_of t (find_making (layers t.entries) n) ≡ viewers_of s (find_making (layers s.entries) n) → value_of t n ≡ value_of s n → fault_of_layer t n ≡ fault_of_layer s n
   fault_same n viewers value =
@@ -142,9 +140,9 @@ module _ (s t : EngineState) (none_s : HasNoCycle (nodes_of s.entries)) (none_t 
   fault_of_making : (n : Name) (o : Option Making) → find_making (layers t.entries) n ≡ o → find_making (layers s.entries) n ≡ o → (fault_of_layer t n ≡ None) ⊎ (fault_of_layer t n ≡ fault_of_layer s n)
   fault_of_making n None e d = inl (undefined_faultless t n (value_unfolds t none_t n ∙ ap (made t.size (value_of t)) e))
   fault_of_making n (Some (given_grid grid)) e d = fault_by_value n (ap (viewers_of t) e ∙ sym (ap (viewers_of s) d))
-  fault_of_making n (Some (by_op op)) e d = go (operands_less t.size (value_of t) (value_of s) (terms_of op) (λ m a. value_less m))
+  fault_of_making n (Some (by_op op)) e d = go (operands_less t.size (value_of t) (value_of s) op.terms (λ m a. value_less m))
     where
-      go : (all_some (map (term_cells t.size (value_of t)) (terms_of op)) ≡ None) ⊎ (map (term_cells t.size (value_of t)) (terms_of op) ≡ map (term_cells t.size (value_of s)) (terms_of op))
+      go : (all_some (map (term_cells t.size (value_of t)) op.terms) ≡ None) ⊎ (map (term_cells t.size (value_of t)) op.terms ≡ map (term_cells t.size (value_of s)) op.terms)
           → (fault_of_layer t n ≡ None) ⊎ (fault_of_layer t n ≡ fault_of_layer s n)
       go (inl none) = inl (undefined_faultless t n (value_unfolds t none_t n ∙ ap (made t.size (value_of t)) e ∙ ap (option_map (operate t.size op)) none))
       go (inr same) = fault_by_value n (ap (viewers_of t) e ∙ viewers_same op same ∙ sym (ap (viewers_of s) d))

@@ -1,5 +1,5 @@
 -- Every accepted edit keeps the limits.
-use Rattle.std.proofs.Common.{◌≡◌, ℕ, ℤ, ◌+◌, ◌≤◌, Bool, true, false, cond, not, nat_lt, List, [], ◌∷◌, ◌++◌, filter, find, length, count_by, Option, Some, None, is_some, option_map, bytes_eq, Result, Ok, Err, refl, ap, subst, arith}
+use Rattle.std.proofs.Common.{◌≡◌, ℕ, ℤ, ◌+◌, ◌≤◌, Bool, true, false, cond, not, nat_lt, List, [], ◌∷◌, ◌++◌, filter, find, length, count_by, Option, Some, None, is_some, option_map, bytes_eq, Result, Ok, Err, refl, sym, ap, subst, arith}
 use Rattle.std.proofs.lemmas.Bool.{ltb-false, ltb-true}
 use Rattle.std.proofs.lemmas.Option.{none-some}
 use Rattle.std.proofs.lemmas.List.{length-append}
@@ -9,12 +9,11 @@ use Rattle.map_defs.specs.Ops.{Name}
 use Rattle.map_defs.specs.Statements.{Written, Flat, Procedure}
 use Rattle.map_defs.specs.Expansion.{WrongCall, not_defined, wrong_count, find_procedure, expansion_of}
 use Rattle.map_defs.specs.Calls.{wrong_call}
-use Rattle.map_defs.specs.Depths.{is_looped}
 use Rattle.map_edits.specs.Entries.{Def, source, statement, Entry, find_def, put_entry, drop_entry}
-use Rattle.map_edits.specs.LayerDefs.{LayerDef, layers_of, layers, nodes_of}
+use Rattle.map_edits.specs.LayerDefs.{LayerDef, layers_of, layers}
 use Rattle.map_edits.specs.EngineStates.{EngineState}
-use Rattle.map_edits.specs.Refusals.{Which, sources, statements, zonals, procedures, labels, symbols, Refusal, unknown, exists_already, beyond, cycle}
-use Rattle.map_edits.specs.Limits.{most_sources, most_flats, most_zonals, is_source, is_flat, is_zonal}
+use Rattle.map_edits.specs.Refusals.{Which, sources, procedures, labels, symbols, Refusal, unknown, exists_already, beyond}
+use Rattle.map_edits.specs.Limits.{most_sources, is_source, Kind, kinds, is_of, AreWithin}
 use Rattle.map_edits.specs.Painting.{is_within, painted}
 use Rattle.map_edits.specs.EditForms.{Edit, load, new_layer, paint, define, drop_name, Rectangle}
 use Rattle.map_edits.specs.EntriesAfter.{same_size, add_source, paint_source, put_statement, define_with, entries_with}
@@ -25,7 +24,7 @@ use Rattle.map_edits.specs.Pasts.{with_parts}
 use Rattle.map_edits.specs.WholeEdits.{WholeEdit, of_names, define_procedure, label, symbol, put_back}
 use Rattle.map_edits.specs.Attempts.{most_marks, most_procedures, unless_more, counted, marks_after, with_names, with_procedure, with_labels, with_symbols, attempted}
 use Rattle.map_edits.specs.LimitLaws.{AreFew, PutsBackFew, FewStay}
-use Rattle.map_edits.proofs.Accepted.{cond_err, cond_ok}
+use Rattle.map_edits.proofs.Accepted.{cond_err, cond_ok, bounded_is, bounded_within}
 use Rattle.map_edits.proofs.LawfulEdits.{known_is, new_is, done_is}
 
 -- ---- counts
@@ -91,25 +90,25 @@ module _ (p : LayerDef → Bool) (none : (n : Name) (grid : Grid) → count_by p
       go true rest = let b = count_join p (layers_of e) (layers es) in omega arith
       go false rest = let a = count_join p (layers_of e) (layers (drop_entry es n)) in let b = count_join p (layers_of e) (layers es) in omega arith
 
-no_flat : (n : Name) (grid : Grid) → count_by is_flat (layers_of (record { name = n; def = source grid })) ≡ 0
-no_flat n grid = refl
+no_source : (kind : Kind) (n : Name) (grid : Grid) → count_by (is_of kind) (layers_of (record { name = n; def = source grid })) ≡ 0
+no_source kind n grid = refl
 
-no_zonal : (n : Name) (grid : Grid) → count_by is_zonal (layers_of (record { name = n; def = source grid })) ≡ 0
-no_zonal n grid = refl
+-- fewer layers are within the limits
+fewer_within : (ks : List Kind) (new old : List LayerDef) → ((kind : Kind) → count_by (is_of kind) new ≤ count_by (is_of kind) old) → AreWithin ks old → AreWithin ks new
+fewer_within [] new old less within = tt
+fewer_within (kind ∷ ks) new old less within = let fewer = less kind in let few = within.0 in (omega arith, fewer_within ks new old less within.1)
 
 -- ---- the names after an edit
 
 pub record FewNames (es : List Entry) : Type 0 where
   pub sources : count_by is_source es ≤ most_sources
-  pub flats : count_by is_flat (layers es) ≤ most_flats
-  pub zonals : count_by is_zonal (layers es) ≤ most_zonals
+  pub flats : AreWithin kinds (layers es)
 
 module _ (es new : List Entry) (n : Name) (few : FewNames es) where
   source_few : (grid : Grid) → count_by is_source (put_entry es n (source grid)) ≤ most_sources → put_entry es n (source grid) ≡ new → FewNames new
   source_few grid count same =
-      let flats = few.flats in let zonals = few.zonals in
-      let f = layers_put is_flat no_flat es n grid in let z = layers_put is_zonal no_zonal es n grid in
-      subst FewNames same (record { sources = count; flats = omega arith; zonals = omega arith })
+      let flats = fewer_within kinds (layers (put_entry es n (source grid))) (layers es) (λ kind. layers_put (is_of kind) (no_source kind) es n grid) few.flats in
+      subst FewNames same (record { sources = count; flats = flats })
 
   added_few : (grid : Grid) → add_source es n grid ≡ Ok new → FewNames new
   added_few grid e = go (nat_lt (count_by is_source es) most_sources) refl e
@@ -123,13 +122,8 @@ module _ (es new : List Entry) (n : Name) (few : FewNames es) where
   put_few written (Err (wrong_count given wanted)) e = absurd cc
   put_few written (Ok flats) e =
       let all : List Entry = put_entry es n (statement written flats) in
-      let f = cond_err (nat_lt most_flats (count_by is_flat (layers all))) (beyond statements) _ new e in
-      let z = cond_err (nat_lt most_zonals (count_by is_zonal (layers all))) (beyond zonals) _ new f.1 in
-      let l = cond_err (is_looped (nodes_of all) n) (cycle n) (Ok all) new z.1 in
-      let is : Ok all ≡ Ok new = l.1 in
-      let same : all ≡ new = cc in
       let put = sources_put es n (statement written flats) in let before = few.sources in
-      subst FewNames same (record { sources = omega arith; flats = ltb-false most_flats (count_by is_flat (layers all)) f.0; zonals = ltb-false most_zonals (count_by is_zonal (layers all)) z.0 })
+      subst FewNames (sym (bounded_is n new all e).0) (record { sources = omega arith; flats = bounded_within n new all e })
 
   define_few : (ps : List Procedure) (written : Written) (o : Option Def) → define_with ps es n written o ≡ Ok new → FewNames new
   define_few ps written (Some (source grid)) e = absurd cc
@@ -155,9 +149,9 @@ entries_few ps s (define n written) new few e = define_few s.entries new n few p
 entries_few ps s (drop_name n) new few e =
     let is : Ok (drop_entry s.entries n) ≡ Ok new = cond_ok (is_some (find_def s.entries n)) _ (Ok (drop_entry s.entries n)) new e in
     let same : drop_entry s.entries n ≡ new = cc in
-    let c = sources_dropped s.entries n in let f = layers_dropped is_flat no_flat s.entries n in let z = layers_dropped is_zonal no_zonal s.entries n in
-    let before = few.sources in let flats = few.flats in let zonals = few.zonals in
-    subst FewNames same (record { sources = omega arith; flats = omega arith; zonals = omega arith })
+    let c = sources_dropped s.entries n in let before = few.sources in
+    let flats = fewer_within kinds (layers (drop_entry s.entries n)) (layers s.entries) (λ kind. layers_dropped (is_of kind) (no_source kind) s.entries n) few.flats in
+    subst FewNames same (record { sources = omega arith; flats = flats })
 
 -- ---- the whole state
 
@@ -181,7 +175,7 @@ within_limit most count which u t e = go (nat_lt most count) refl e
 
 module _ (s t : WholeState) (few : AreFew s) where
   names_few : FewNames s.names.entries
-  names_few = record { sources = few.sources; flats = few.flats; zonals = few.zonals }
+  names_few = record { sources = few.sources; flats = few.flats }
 
   by_names : (edit : Edit) (o : Result (List Entry) Refusal) → entries_with s.procedures s.names edit ≡ o → with_names s edit o ≡ Ok t → AreFew t
   by_names edit (Err r) is e = absurd cc
@@ -191,7 +185,7 @@ module _ (s t : WholeState) (few : AreFew s) where
       let names = entries_few s.procedures s.names edit es names_few is in
       let ls = fewer_marks edit s.labels in let ss = fewer_marks edit s.symbols in
       let before = few.labels in let signs = few.symbols in
-      subst AreFew same (record { sources = names.sources; flats = names.flats; zonals = names.zonals; procedures = few.procedures; labels = omega arith; symbols = omega arith })
+      subst AreFew same (record { sources = names.sources; flats = names.flats; procedures = few.procedures; labels = omega arith; symbols = omega arith })
 
   by_procedure : (p : Procedure) (o : Option WrongCall) → with_procedure s p o ≡ Ok t → AreFew t
   by_procedure p (Some (not_defined q)) e = absurd cc
@@ -199,17 +193,17 @@ module _ (s t : WholeState) (few : AreFew s) where
   by_procedure p None e =
       let r = within_limit most_procedures (length s.procedures + 1) procedures (record (counted s) { procedures = s.procedures ++ p ∷ [] }) t e in
       let room = r.1 in let longer = length-append s.procedures (p ∷ []) in
-      subst AreFew r.0 (record { sources = few.sources; flats = few.flats; zonals = few.zonals; procedures = omega arith; labels = few.labels; symbols = few.symbols })
+      subst AreFew r.0 (record { sources = few.sources; flats = few.flats; procedures = omega arith; labels = few.labels; symbols = few.symbols })
 
   by_labels : (marks : List Mark) → with_labels s marks ≡ Ok t → AreFew t
   by_labels marks e =
       let r = within_limit most_marks (length marks) labels (record (counted s) { labels = marks }) t e in
-      subst AreFew r.0 (record { sources = few.sources; flats = few.flats; zonals = few.zonals; procedures = few.procedures; labels = r.1; symbols = few.symbols })
+      subst AreFew r.0 (record { sources = few.sources; flats = few.flats; procedures = few.procedures; labels = r.1; symbols = few.symbols })
 
   by_symbols : (marks : List Mark) → with_symbols s marks ≡ Ok t → AreFew t
   by_symbols marks e =
       let r = within_limit most_marks (length marks) symbols (record (counted s) { symbols = marks }) t e in
-      subst AreFew r.0 (record { sources = few.sources; flats = few.flats; zonals = few.zonals; procedures = few.procedures; labels = few.labels; symbols = r.1 })
+      subst AreFew r.0 (record { sources = few.sources; flats = few.flats; procedures = few.procedures; labels = few.labels; symbols = r.1 })
 
   attempt_few : (e : WholeEdit) → PutsBackFew s e → attempted s e ≡ Ok t → AreFew t
   attempt_few (of_names edit) back is = by_names edit (entries_with s.procedures s.names edit) refl is
@@ -222,4 +216,4 @@ pub few_stay : FewStay
 few_stay s e a few back is =
     let r = done_is s e a is in
     let t = attempt_few s r.state few e back r.is in
-    subst AreFew r.whole (record { sources = t.sources; flats = t.flats; zonals = t.zonals; procedures = t.procedures; labels = t.labels; symbols = t.symbols })
+    subst AreFew r.whole (record { sources = t.sources; flats = t.flats; procedures = t.procedures; labels = t.labels; symbols = t.symbols })

@@ -2,7 +2,7 @@
 use Rattle.std.proofs.Common.{◌≡◌, ℕ, suc, ◌<◌, ◌≤◌, max, true, List, [], ◌∷◌, map, flat_map, fold, length, Option, Some, None, is_some, option_map, bytes_eq, if◌then◌else◌, refl, sym, ap, ◌∙◌, arith}
 use Rattle.std.proofs.lemmas.Bool.{or_left, or_right}
 use Rattle.map_nums.specs.Grids.{Size, Grid}
-use Rattle.map_defs.specs.Ops.{Name, Term, layer_term, number_term, terms_of, term_names}
+use Rattle.map_defs.specs.Ops.{Name, Term, layer_term, number_term, term_names}
 use Rattle.map_defs.specs.Operate.{operate}
 use Rattle.map_defs.specs.Nodes.{Node, find_node, needs_in, lacks_within, lacks, first_some}
 use Rattle.map_defs.specs.Depths.{depth_within, depth_in}
@@ -114,7 +114,7 @@ cells_agree size f g (number_term z ∷ ts) same = ap (λ os. term_cells size f 
 pub made_agree : (size : Size) (f g : Name → Option Grid) (o : Option Making) → ((m : Name) → is_among m (making_needs o) ≡ true → f m ≡ g m) → made size f o ≡ made size g o
 made_agree size f g None same = refl
 made_agree size f g (Some (given_grid grid)) same = refl
-made_agree size f g (Some (by_op op)) same = ap (λ os. option_map (operate size op) (all_some os)) (cells_agree size f g (terms_of op) same)
+made_agree size f g (Some (by_op op)) same = ap (λ os. option_map (operate size op) (all_some os)) (cells_agree size f g op.terms same)
 
 module _ (size : Size) (ls : List LayerDef) where
   value_settles : (k : ℕ) (n : Name) → ((m : Name) → is_among m (needs_in (map node_of_layer ls) n) ≡ true → value_within k size ls m ≡ value_within (suc k) size ls m)

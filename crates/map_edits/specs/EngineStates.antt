@@ -2,7 +2,7 @@
 use Rattle.std.specs.Prelude.{ℕ, zero, suc, List, [], map, length, Option, Some, None, option_map}
 use Rattle.map_nums.specs.Grids.{Size, Cells, Grid, constant}
 pub use Rattle.map_nums.specs.Options.{all_some}
-use Rattle.map_defs.specs.Ops.{Name, Term, layer_term, number_term, terms_of}
+use Rattle.map_defs.specs.Ops.{Name, Term, layer_term, number_term}
 use Rattle.map_defs.specs.Operate.{operate}
 use Rattle.map_edits.specs.Entries.{Entry}
 use Rattle.map_edits.specs.LayerDefs.{Making, given_grid, by_op, LayerDef, layers, find_making}
@@ -26,7 +26,7 @@ term_cells size grid_of (number_term z) = Some (constant size (Some z)).cells
 abbrev pub made : Size → (Name → Option Grid) → Option Making → Option Grid
 made size grid_of None = None
 made size grid_of (Some (given_grid grid)) = Some grid
-made size grid_of (Some (by_op op)) = option_map (operate size op) (all_some (map (term_cells size grid_of) (terms_of op)))
+made size grid_of (Some (by_op op)) = option_map (operate size op) (all_some (map (term_cells size grid_of) op.terms))
 
 -- through at most k statements
 abbrev pub value_within : ℕ → Size → List LayerDef → Name → Option Grid

@@ -9,8 +9,8 @@ use Rattle.map_edits.specs.Entries.{Def, source, statement, Entry, find_def, put
 use Rattle.map_edits.specs.LayerDefs.{layers, nodes_of}
 use Rattle.map_edits.specs.EngineStates.{EngineState}
 use Rattle.map_edits.specs.EditForms.{Rectangle, Edit, load, new_layer, paint, define, drop_name}
-use Rattle.map_edits.specs.Refusals.{sources, statements, zonals, Refusal, unknown, is_derived, exists_already, wrong_size, beyond, cycle, no_procedure, wrong_terms}
-use Rattle.map_edits.specs.Limits.{most_sources, most_flats, most_zonals, is_source, is_flat, is_zonal}
+use Rattle.map_edits.specs.Refusals.{sources, which_kind, Refusal, unknown, is_derived, exists_already, wrong_size, beyond, cycle, no_procedure, wrong_terms}
+use Rattle.map_edits.specs.Limits.{most_sources, is_source, Kind, kinds, first_beyond}
 use Rattle.map_edits.specs.Painting.{is_within, painted}
 
 abbrev pub same_size : Size → Size → Bool
@@ -25,11 +25,12 @@ paint_source s n r cell (Some (statement written flats)) = Err (is_derived n)
 paint_source s n r cell (Some (source grid)) = if is_within s.size r then Ok (put_entry s.entries n (source (painted s.size r cell grid))) else Err (wrong_size s.size)
 
 -- a statement was put among the entries: the limits, then a cycle
+abbrev pub unless_beyond : Name → List Entry → Option Kind → Result (List Entry) Refusal
+unless_beyond n entries (Some kind) = Err (beyond (which_kind kind))
+unless_beyond n entries None = if is_looped (nodes_of entries) n then Err (cycle n) else Ok entries
+
 abbrev pub bounded : Name → List Entry → Result (List Entry) Refusal
-bounded n entries =
-    if nat_lt most_flats (count_by is_flat (layers entries)) then Err (beyond statements)
-    else (if nat_lt most_zonals (count_by is_zonal (layers entries)) then Err (beyond zonals)
-    else (if is_looped (nodes_of entries) n then Err (cycle n) else Ok entries))
+bounded n entries = unless_beyond n entries (first_beyond kinds (layers entries))
 
 abbrev pub put_statement : List Entry → Name → Written → Result (List Flat) WrongCall → Result (List Entry) Refusal
 put_statement entries n written (Err (not_defined p)) = Err (no_procedure p)

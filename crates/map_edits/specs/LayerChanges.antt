@@ -1,7 +1,7 @@
 -- The tiles of one layer that an edit changes and damages, and its work, by the states before and after.
 use Rattle.std.specs.Prelude.{ℕ, List, [], map, Option, None, unwrap_or, if◌then◌else◌}
 use Rattle.map_nums.specs.Grids.{Cells}
-use Rattle.map_defs.specs.Ops.{Name, Op, terms_of}
+use Rattle.map_defs.specs.Ops.{Name, Op}
 use Rattle.map_defs.specs.Differences.{changed_tiles}
 use Rattle.map_defs.specs.Damage.{op_damage}
 use Rattle.map_defs.specs.Work.{op_work}
@@ -20,7 +20,7 @@ standing touch s t n = if is_whole t.entries touch n then None else cells_of s n
 
 -- the cells of each operand, in order
 abbrev pub operands_in : EngineState → Op → List Cells
-operands_in s op = map (λ u. unwrap_or (term_cells s.size (value_of s) u) []) (terms_of op)
+operands_in s op = map (λ u. unwrap_or (term_cells s.size (value_of s) u) []) op.terms
 
 -- the tiles of a layer that changed, whoever wrote it
 abbrev pub changed_of : EngineState → EngineState → Name → List ℕ

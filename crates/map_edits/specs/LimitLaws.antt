@@ -1,7 +1,7 @@
 -- Every accepted edit keeps the limits.
 use Rattle.std.specs.Prelude.{◌≡◌, ◌≤◌, count_by, length, Ok, ⊤}
 use Rattle.map_edits.specs.LayerDefs.{layers}
-use Rattle.map_edits.specs.Limits.{most_sources, most_flats, most_zonals, is_source, is_flat, is_zonal}
+use Rattle.map_edits.specs.Limits.{most_sources, is_source, kinds, AreWithin}
 use Rattle.map_edits.specs.WholeStates.{WholeState}
 use Rattle.map_edits.specs.Pasts.{with_parts}
 use Rattle.map_edits.specs.WholeEdits.{WholeEdit, of_names, define_procedure, label, symbol, put_back}
@@ -10,8 +10,7 @@ use Rattle.map_edits.specs.Counted.{Accepted, accept_counted}
 
 pub record AreFew (s : WholeState) : Type 0 where
   pub sources : count_by is_source s.names.entries ≤ most_sources
-  pub flats : count_by is_flat (layers s.names.entries) ≤ most_flats
-  pub zonals : count_by is_zonal (layers s.names.entries) ≤ most_zonals
+  pub flats : AreWithin kinds (layers s.names.entries)
   pub procedures : length s.procedures ≤ most_procedures
   pub labels : length s.labels ≤ most_marks
   pub symbols : length s.symbols ≤ most_marks

@@ -3,89 +3,44 @@ use Rattle.std.proofs.Common.{◌≡◌, Bool, true, false, List, [], ◌∷◌,
 use Rattle.std.specs.Prelude.{◌||◌, codes}
 use Rattle.map_words.specs.Bytes.{Text}
 use Rattle.std.specs.List.{list_any}
-use Rattle.map_nums.specs.declared.Stat.{Stat}
-use Rattle.map_nums.specs.declared.Stat.TheVariants.{Sum, Product, Maximum, Minimum, Mean, Median, Majority, Minority, Variety}
-use Rattle.map_defs.specs.Incremental.{Form, linkage_form, length_form, partition_form, frontage_form, gradient_form, aspect_form}
-use Rattle.map_defs.specs.Ops.{Op, local_op, difference_op, ratio_op, rating_op, focal_op, zonal_op, form_op, direction_op, flow_op, spread_op, sight_op, region_op}
+use Rattle.map_nums.specs.declared.Stat.TheVariants.{Sum, Product}
+use Rattle.map_defs.specs.Ops.{Head, local_head, sight_head, Op}
 use Rattle.map_defs.specs.Statements.{Written, plain, call, Inner, Procedure}
-use Rattle.statement_parser.specs.Formed.{IsNoProduct, IsOp, IsWritten, AreInner, IsProcedure}
-use Rattle.statement_parser.specs.Forms.{form_row}
-use Rattle.statement_parser.specs.There.{HasRow, HasCommand, MayIgnore, IsOpThere, IsWrittenThere, AreInnerThere}
+use Rattle.statement_parser.specs.Formed.{IsOp, IsWritten, AreInner, IsProcedure}
+use Rattle.statement_parser.specs.Operations.{operation_of}
+use Rattle.statement_parser.specs.There.{HasRow, HasCommand, MayBe, IsOpThere, IsWrittenThere, AreInnerThere}
 use Rattle.statement_parser.specs.ProcedureTexts.{procedure_text}
+use Rattle.statement_parser.proofs.FormedLines.{IsRow}
+use Rattle.statement_parser.proofs.BackWords.{row_of}
 use Rattle.statement_parser.proofs.BackBytes.{written_back}
 use Rattle.statement_parser.proofs.ProcedureBack.{reads_back}
-use Rattle.statement_parser.specs.declared.language.Language.TheVariants.{One, Two}
+use Rattle.statement_parser.specs.declared.language.Language.TheVariants.{Two}
 use Rattle.statement_parser.specs.declared.language.Place.{Place}
 use Rattle.statement_parser.specs.declared.command.Command.TheVariants.{Procedure as Named}
+use Rattle.statement_parser.specs.declared.op.Form.TheVariants.{Linkage}
+use Rattle.statement_parser.specs.declared.operation.Operation.{Operation}
 use Rattle.statement_parser.specs.declared.operation.Operation.TheVariants.{Local, Focal, Zonal, Incremental}
 use Rattle.map_lines.specs.Present.{may_ignore, rows_at}
-use Rattle.map_lines.specs.ReadAgain.{ignores, ReadsStatements, ReadsProcedures}
+use Rattle.map_lines.specs.ReadAgain.{is_ignoring, ignores, ReadsStatements, ReadsProcedures}
 
 module _ (p : Place) where
-  local_there : (s : Stat) → HasRow (rows_at p) (Local s)
+  may_be : (head : Head) → (is_ignoring head ≡ true → p.language ≡ Two) → MayBe (rows_at p) head
   unfolding rows_at
-  local_there Sum = refl
-  local_there Product = refl
-  local_there Maximum = refl
-  local_there Minimum = refl
-  local_there Mean = refl
-  local_there Median = refl
-  local_there Majority = refl
-  local_there Minority = refl
-  local_there Variety = refl
+  may_be (local_head s true) k = subst (λ l. may_ignore l ≡ true) (sym (k refl)) refl
+  may_be (sight_head s) k = refl
+  may_be head k = tt
 
-  focal_there : (s : Stat) → IsNoProduct s → HasRow (rows_at p) (Focal s)
+  -- each row is there, computed
+  row_there : (o : Operation) → IsRow o → HasRow (rows_at p) o
   unfolding rows_at
-  focal_there Sum h = refl
-  focal_there Product h = absurd h
-  focal_there Maximum h = refl
-  focal_there Minimum h = refl
-  focal_there Mean h = refl
-  focal_there Median h = refl
-  focal_there Majority h = refl
-  focal_there Minority h = refl
-  focal_there Variety h = refl
+  row_there (Focal Product) r = absurd r
+  row_there (Zonal Product) r = absurd r
+  row_there (Local Sum) r = refl
+  row_there (Incremental Linkage) r = refl
+  row_there o r = refl
 
-  zonal_there : (s : Stat) → IsNoProduct s → HasRow (rows_at p) (Zonal s)
-  unfolding rows_at
-  zonal_there Sum h = refl
-  zonal_there Product h = absurd h
-  zonal_there Maximum h = refl
-  zonal_there Minimum h = refl
-  zonal_there Mean h = refl
-  zonal_there Median h = refl
-  zonal_there Majority h = refl
-  zonal_there Minority h = refl
-  zonal_there Variety h = refl
-
-  form_there : (f : Form) → HasRow (rows_at p) (Incremental (form_row f))
-  unfolding rows_at
-  form_there linkage_form = refl
-  form_there length_form = refl
-  form_there partition_form = refl
-  form_there frontage_form = refl
-  form_there gradient_form = refl
-  form_there aspect_form = refl
-
-  ignoring_there : (ignoring : Bool) → (ignoring ≡ true → p.language ≡ Two) → MayIgnore (rows_at p) ignoring
-  unfolding rows_at
-  ignoring_there true h = subst (λ l. may_ignore l ≡ true) (sym (h refl)) refl
-  ignoring_there false h = tt
-
-  op_there : (o : Op) → IsOp o → (ignores (plain o) ≡ true → p.language ≡ Two) → IsOpThere (rows_at p) o
-  unfolding rows_at
-  op_there (local_op s ignoring ts) h k = (local_there s, ignoring_there ignoring k)
-  op_there (difference_op l r) h k = refl
-  op_there (ratio_op l r) h k = refl
-  op_there (rating_op t rs) h k = refl
-  op_there (focal_op s r t) h k = focal_there s h.0
-  op_there (zonal_op s t u) h k = zonal_there s h.0
-  op_there (form_op f t) h k = form_there f
-  op_there (direction_op t) h k = refl
-  op_there (flow_op t u) h k = refl
-  op_there (spread_op limit t u) h k = refl
-  op_there (sight_op s t u) h k = (refl, refl)
-  op_there (region_op t) h k = refl
+  op_there : (o : Op) → IsOp o → (is_ignoring o.head ≡ true → p.language ≡ Two) → IsOpThere (rows_at p) o
+  op_there o h k = (row_there (operation_of o.head) (row_of o.head h.0), may_be o.head k)
 
   pub written_there : (w : Written) → IsWritten w → (ignores w ≡ true → p.language ≡ Two) → IsWrittenThere (rows_at p) w
   unfolding rows_at

@@ -2,7 +2,7 @@
 use Rattle.std.specs.Prelude.{◌≡◌, Bool, true, false, IsTrue}
 use Rattle.map_words.specs.Bytes.{Text}
 use Rattle.map_words.specs.Names.{is_plain}
-use Rattle.map_defs.specs.Ops.{local_op}
+use Rattle.map_defs.specs.Ops.{Head, local_head}
 use Rattle.map_defs.specs.Statements.{Written, plain, Inner, Procedure}
 use Rattle.std.specs.List.{list_any}
 use Rattle.statement_parser.specs.Lines.{define, define_procedure, edit}
@@ -15,8 +15,12 @@ use Rattle.statement_parser.specs.declared.language.Place.{Place}
 use Rattle.map_lines.specs.Present.{rows_at}
 
 -- nulls are ignored in it
+abbrev pub is_ignoring : Head → Bool
+is_ignoring (local_head s ignoring) = ignoring
+is_ignoring head = false
+
 abbrev pub ignores : Written → Bool
-ignores (plain (local_op s ignoring ts)) = ignoring
+ignores (plain o) = is_ignoring o.head
 ignores w = false
 
 -- in language 2 each formed statement, and in language 1 each that ignores no nulls

@@ -20,7 +20,7 @@ use statement_parser::{Command, Form, Language, Line, LineRefusal, Operation, Pl
 use std::alloc::Global;
 
 /// The operations.
-const OPERATIONS: [Operation; 37] = [
+const OPERATIONS: [Operation; 38] = [
     Operation::Local(Stat::Sum),
     Operation::Local(Stat::Product),
     Operation::Local(Stat::Maximum),
@@ -42,6 +42,7 @@ const OPERATIONS: [Operation; 37] = [
     Operation::Focal(Stat::Minority),
     Operation::Focal(Stat::Variety),
     Operation::Proximity,
+    Operation::Neighbor,
     Operation::Insularity,
     Operation::Zonal(Stat::Sum),
     Operation::Zonal(Stat::Maximum),

@@ -3,7 +3,7 @@ use Rattle.std.specs.Prelude.{ℕ, List, ◌++◌, codes, decimal}
 use Rattle.statement_parser.specs.Texts.{Refusal as LineRefusal, long, syntax, operation, number}
 use Rattle.grid_text.specs.Faults as grids
 use Rattle.map_edits.specs.Faults.{Fault, too_many_viewers, overflow}
-use Rattle.map_edits.specs.Refusals.{Which, sources, statements, zonals, labels, symbols, procedures, Refusal, unknown, is_derived, exists_already, wrong_size, beyond, cycle, fault, no_procedure, wrong_terms}
+use Rattle.map_edits.specs.Refusals.{Which, sources, statements, zonals, neighbors, labels, symbols, procedures, Refusal, unknown, is_derived, exists_already, wrong_size, beyond, cycle, fault, no_procedure, wrong_terms}
 
 -- a word and a number
 abbrev pub counted : List ℕ → ℕ → List ℕ
@@ -17,6 +17,7 @@ abbrev pub which_text : Which → List ℕ
 which_text sources = codes "sources"
 which_text statements = codes "statements"
 which_text zonals = codes "zonals"
+which_text neighbors = codes "neighbors"
 which_text labels = codes "labels"
 which_text symbols = codes "symbols"
 which_text procedures = codes "procedures"

@@ -28,8 +28,8 @@ pub fn statistic(alloc: Global, stat: Stat, values: &[Value]) -> Result<Option<V
 
 /// A statistic of the values, none of an empty list.
 ///
-/// The median, the majority, the minority and the variety sort the values where they are; the others go over them once
-/// and leave them in their order. None takes memory.
+/// The median, the majority, the minority and the variety may sort the values where they are; the others go over them once.
+/// None takes memory.
 ///
 /// # Errors
 ///

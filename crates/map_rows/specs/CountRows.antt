@@ -3,7 +3,7 @@ use Rattle.std.specs.Prelude.{false, ◌≡◌, ℕ, pos, List, [], ◌∷◌, N
 use Rattle.map_nums.specs.declared.Stat.TheVariants.{Sum, Maximum, Variety}
 use Rattle.map_nums.specs.Grids.{Cells}
 use Rattle.map_defs.specs.Incremental.{gradient_form}
-use Rattle.map_defs.specs.Ops.{Op, Term, number_term, local_op, focal_op, zonal_op, form_op, direction_op, flow_op, spread_op, sight_op, region_op}
+use Rattle.map_defs.specs.Ops.{Op, Term, number_term, local_op, focal_op, zonal_op, form_op, direction_op, flow_op, spread_op, nearest_op, sight_op, region_op}
 use Rattle.map_rows.specs.Words.{some, nums, by, all}
 use Rattle.map_rows.specs.Edits.{Counts, counts, at_first, at_change}
 
@@ -23,6 +23,16 @@ source = some 1 ∷ None ∷ None ∷ None ∷ None ∷ []
 -- costs along a row from its first cell, where the frictions change
 abbrev pub friction_changes : List ℕ → List ℕ → Counts
 friction_changes f g = at_change (spread 1000000000000000) (by 1 5) (source ∷ nums f ∷ []) (source ∷ nums g ∷ [])
+
+-- numbers at both ends of a row, and what becomes of their nearest cells where the frictions change
+abbrev pub ends : Cells
+ends = some 3 ∷ None ∷ None ∷ None ∷ some 2 ∷ []
+
+abbrev pub nearest : Op
+nearest = nearest_op 1000000000000000 term term
+
+abbrev pub nearest_changes : List ℕ → List ℕ → Counts
+nearest_changes f g = at_change nearest (by 1 5) (ends ∷ nums f ∷ []) (ends ∷ nums g ∷ [])
 
 abbrev pub basin : Cells
 basin = nums (9 ∷ 4 ∷ 9 ∷ 9 ∷ 5 ∷ 4 ∷ 9 ∷ 9 ∷ 9 ∷ [])
@@ -59,6 +69,11 @@ pub record CountRows : Type 0 where
   pub within_nineteen : at_first (spread 19) (by 1 5) ((some 1 ∷ None ∷ None ∷ some 1 ∷ None ∷ []) ∷ nums (1 ∷ 1 ∷ 1 ∷ 0 ∷ 1 ∷ []) ∷ []) ≡ counts 1 1 7
   pub through_middle : at_change (spread 1000000000000000) (by 3 3) (corner ∷ middle 5 ∷ []) (corner ∷ middle 1 ∷ []) ≡ counts 1 1 3
   pub whole_region : at_first (region_op term) (by 1 5) (nums (7 ∷ 7 ∷ 7 ∷ 7 ∷ 7 ∷ []) ∷ []) ≡ counts 1 1 10
+  pub nearest_first : at_first nearest (by 1 5) (ends ∷ nums (1 ∷ 1 ∷ 1 ∷ 1 ∷ 1 ∷ []) ∷ []) ≡ counts 1 1 10
+  -- a cost that changes no value, two of them, and a value where the cost stays
+  pub nearest_cost : nearest_changes (1 ∷ 1 ∷ 1 ∷ 1 ∷ 1 ∷ []) (1 ∷ 5 ∷ 1 ∷ 1 ∷ 1 ∷ []) ≡ counts 0 1 2
+  pub nearest_tie : nearest_changes (1 ∷ 5 ∷ 1 ∷ 1 ∷ 1 ∷ []) (1 ∷ 5 ∷ 1 ∷ 5 ∷ 1 ∷ []) ≡ counts 0 1 3
+  pub nearest_lost : at_change nearest (by 1 5) (ends ∷ nums (1 ∷ 5 ∷ 1 ∷ 5 ∷ 1 ∷ []) ∷ []) ((some 3 ∷ None ∷ None ∷ None ∷ None ∷ []) ∷ nums (1 ∷ 5 ∷ 1 ∷ 5 ∷ 1 ∷ []) ∷ []) ≡ counts 1 1 4
   pub split_region : at_change (region_op term) (by 1 5) (nums (7 ∷ 7 ∷ 7 ∷ 7 ∷ 7 ∷ []) ∷ []) (nums (7 ∷ 7 ∷ 8 ∷ 7 ∷ 7 ∷ []) ∷ []) ≡ counts 1 1 6
   pub sight_first : at_first (sight_op (record { from = pos 0; to = pos 0; reach = 64 }) term term) (by 1 5) (source ∷ nums (0 ∷ 1 ∷ 2 ∷ 0 ∷ 0 ∷ []) ∷ []) ≡ counts 1 1 0
   pub hidden : at_change (sight_op (record { from = pos 0; to = pos 0; reach = 64 }) term term) (by 1 5) (source ∷ nums (0 ∷ 1 ∷ 2 ∷ 0 ∷ 0 ∷ []) ∷ []) (source ∷ nums (0 ∷ 2 ∷ 2 ∷ 0 ∷ 0 ∷ []) ∷ []) ≡ counts 1 1 0

@@ -55,6 +55,7 @@ fn which_text(which: Which) -> &'static [u8]
         Which::Sources => b"sources",
         Which::Statements => b"statements",
         Which::Zonals => b"zonals",
+        Which::Neighbors => b"neighbors",
         Which::Labels => b"labels",
         Which::Symbols => b"symbols",
         Which::Procedures => b"procedures",

@@ -3,7 +3,7 @@ use Rattle.std.proofs.Common.{◌≡◌, ℕ, ℤ, true, zero, suc, List, [], �
 use Rattle.std.specs.List.{All}
 use Rattle.std.proofs.lemmas.Option.{none-some}
 use Rattle.map_nums.specs.Grids.{Size, Cells, constant}
-use Rattle.map_defs.specs.Ops.{Name, Op, Term, layer_term, number_term, terms_of}
+use Rattle.map_defs.specs.Ops.{Name, Op, Term, layer_term, number_term}
 use Rattle.layer_tiles.specs.Changes.{ChangeState, constant_change}
 use Rattle.layer_tiles.specs.Operands.{cells_after}
 use Rattle.map_waves.specs.Statements.{made, cells_were, fault_in}
@@ -64,10 +64,10 @@ module _ (p : Plan) (value : Name → Option Cells) (k : ℕ) where
           }
 
 module _ {B : Type 0} (suits : Size → Op → List Cells → B → Type 0) (p : Plan) (k : ℕ) where
-  pub right_before : (value : Name → Option Cells) (operands : List Cells) (own : Kept B) → AreRefsBefore p value k (terms_of (p.step k).op) (p.step k).refs
+  pub right_before : (value : Name → Option Cells) (operands : List Cells) (own : Kept B) → AreRefsBefore p value k (p.step k).op.terms (p.step k).refs
       → operand_cells p.size value (p.step k).op ≡ Some operands → IsRightFor suits p.size (p.step k).op operands own → IsRightOver suits p.size (p.step k).op (operands_at p k) own
   right_before value operands own refs are right =
-      let were = were_there p value k (terms_of (p.step k).op) (p.step k).refs operands refs are in
+      let were = were_there p value k (p.step k).op.terms (p.step k).refs operands refs are in
       record {
         size = right.size;
         there = were.there;

@@ -1,7 +1,7 @@
 -- What a plan makes is the values of the state after the edit.
 use Rattle.std.proofs.Common.{◌≡◌, ℕ, zero, suc, ◌<◌, List, [], ◌∷◌, map, Option, Some, None, option_map, refl, sym, ap, ◌∙◌, arith}
 use Rattle.map_nums.specs.Grids.{Cells, constant}
-use Rattle.map_defs.specs.Ops.{Name, Term, layer_term, number_term, Op, terms_of}
+use Rattle.map_defs.specs.Ops.{Name, Term, layer_term, number_term, Op}
 use Rattle.layer_tiles.specs.Changes.{ChangeState, constant_change}
 use Rattle.layer_tiles.specs.Operands.{cells_after}
 use Rattle.map_waves.specs.Statements.{made}
@@ -31,7 +31,7 @@ module _ (p : Plan) (op_of : Name → Option Op) (value : Name → Option Cells)
         ∙ ap (option_map (λ rest. (operand_in p (changes_to p k) r).cells ∷ rest)) (all_cells ts rs are.1)
 
     operands_here : k < n → operand_cells p.size value (p.step k).op ≡ Some (cells_after (operands_at p k))
-    operands_here below = all_cells (terms_of (p.step k).op) (p.step k).refs (plan.refs k below)
+    operands_here below = all_cells (p.step k).op.terms (p.step k).refs (plan.refs k below)
 
     value_here : k < n → value (name k) ≡ Some (change_at p k).cells
     value_here below = unfolds (name k) (p.step k).op (plan.ops k below) ∙ ap (option_map (made p.size (p.step k).op)) (operands_here below)

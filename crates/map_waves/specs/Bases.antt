@@ -2,7 +2,7 @@
 use Rattle.std.specs.Prelude.{◌≡◌, ℕ, ◌+◌, ◌<◌, ◌≤◌, ◌==◌, List, [], length, pos, Option, Some, None, slice_get, if◌then◌else◌, false}
 use Rattle.std.specs.List.{All}
 use Rattle.map_nums.specs.Grids.{Size, Cells}
-use Rattle.map_defs.specs.Ops.{Op, region_op, number_term, terms_of}
+use Rattle.map_defs.specs.Ops.{Op, region_op, number_term}
 use Rattle.layer_tiles.specs.Changes.{ChangeState, same_change, patched_change, constant_change}
 use Rattle.layer_tiles.specs.Layers.{LayerState, IsLayer}
 use Rattle.map_waves.specs.Operands.{IsOperand}
@@ -76,7 +76,7 @@ IsRef {B} base k (Number c) = Unit {0}
 pub record IsStep {O B : Type 0} (means : O → Op) (formed : O → Type 0) (base : Base B) (first : ℕ) (x : Step O) : Type 0 where
   pub op : formed x.op
   pub refs : All (IsRef base first) x.refs.items
-  pub terms : length x.refs.items ≡ length (terms_of (means x.op))
+  pub terms : length x.refs.items ≡ length ((means x.op).terms)
   pub few : length x.refs.items ≤ 8
   pub kept : (i : ℕ) → x.kept ≡ Some i → i < length base.kept.now
 

@@ -1,7 +1,7 @@
 -- Laws of plans.
 use Rattle.std.specs.Prelude.{◌≡◌, ℕ, ◌<◌, List, Option, Some}
 use Rattle.map_nums.specs.Grids.{Size, Cells}
-use Rattle.map_defs.specs.Ops.{Name, Op, terms_of}
+use Rattle.map_defs.specs.Ops.{Name, Op}
 use Rattle.layer_tiles.specs.Operands.{cells_after}
 use Rattle.map_waves.specs.Keeping.{IsRightOver}
 use Rattle.map_waves.specs.Plans.{Plan, change_at, operands_at}
@@ -24,7 +24,7 @@ OperandsAreValues = (p : Plan) (op_of : Name → Option Op) (value : Name → Op
 module _ {B : Type 0} (suits : Size → Op → List Cells → B → Type 0) where
   -- what is kept, and is right for the values before the edit, is right over the operands of the plan
   abbrev pub KeptWasRight : Type 0
-  KeptWasRight = (p : Plan) (value : Name → Option Cells) (k : ℕ) (operands : List Cells) (own : Kept B) → AreRefsBefore p value k (terms_of (p.step k).op) (p.step k).refs
+  KeptWasRight = (p : Plan) (value : Name → Option Cells) (k : ℕ) (operands : List Cells) (own : Kept B) → AreRefsBefore p value k (p.step k).op.terms (p.step k).refs
       → operand_cells p.size value (p.step k).op ≡ Some operands → IsRightFor suits p.size (p.step k).op operands own → IsRightOver suits p.size (p.step k).op (operands_at p k) own
 
   -- what is in place is right for the operands after the edit

@@ -3,7 +3,8 @@ use Rattle.std.specs.Prelude.{ℕ, nat_lt, List, map, Option, Some, option_map, 
 use Rattle.std.specs.List.{position}
 use Rattle.map_nums.specs.Grids.{Size, Cells}
 use Rattle.map_nums.specs.Answers.{is_wide}
-use Rattle.map_defs.specs.Ops.{Op, sight_op}
+use Rattle.map_defs.specs.Ops.{Op}
+use Rattle.map_defs.specs.Facts.{Class, sight_class, class_of}
 use Rattle.map_defs.specs.Operate.{operate, operand}
 use Rattle.map_defs.specs.Sight.{viewer_count, most_viewers}
 use Rattle.map_defs.specs.Damage.{op_damage}
@@ -31,9 +32,12 @@ pub data Fault : Type 0 where
   too_many : ℕ → Fault
   wide_at : ℕ → Fault
 
+abbrev pub viewers_by : Class → List Cells → ℕ
+viewers_by (sight_class reach) operands = viewer_count (operand operands 0)
+viewers_by class operands = 0
+
 abbrev pub viewers_in : Op → List Cells → ℕ
-viewers_in (sight_op g t u) operands = viewer_count (operand operands 0)
-viewers_in op operands = 0
+viewers_in op = viewers_by (class_of op)
 
 -- viewers come before a value out of range
 unfoldable pub fault_in : Size → Op → List Cells → Option Fault

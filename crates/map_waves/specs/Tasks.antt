@@ -2,7 +2,7 @@
 use Rattle.std.specs.Prelude.{◌≡◌, ℕ, suc, ◌<◌, ◌≤◌, List, [], ◌∷◌, map, length, Option, Some, None, slice_get, if◌then◌else◌}
 use Rattle.std.specs.List.{All}
 use Rattle.map_nums.specs.Grids.{Size, Cells}
-use Rattle.map_defs.specs.Ops.{Op, terms_of}
+use Rattle.map_defs.specs.Ops.{Op}
 use Rattle.layer_tiles.specs.Changes.{ChangeState}
 use Rattle.map_waves.specs.Operands.{IsOperand}
 use Rattle.map_waves.specs.Keeping.{IsRightKept}
@@ -33,7 +33,7 @@ reckoned_kept {O} {B} base x = if x.written then None else kept_by base x.kept
 -- a statement of an operation can be repaired over these operands
 pub record IsFit {O B : Type 0} (means : O → Op) (formed : O → Type 0) (suits : Size → Op → List Cells → B → Type 0) (base : Base B) (operands : List ChangeState) (x : Step O) : Type 0 where
   pub op : formed x.op
-  pub terms : length operands ≡ length (terms_of (means x.op))
+  pub terms : length operands ≡ length ((means x.op).terms)
   pub right : IsRightKept suits base.extent (means x.op) operands (reckoned_kept base x)
 
 -- a statement with its operands

@@ -1,7 +1,7 @@
 -- A plan for the layers of a state, by name, before and after an edit.
 use Rattle.std.specs.Prelude.{◌≡◌, ℕ, ◌<◌, List, [], ◌∷◌, map, Option, Some, None, option_map, ℤ}
 use Rattle.map_nums.specs.Grids.{Size, Cells, constant}
-use Rattle.map_defs.specs.Ops.{Name, Term, layer_term, number_term, Op, terms_of}
+use Rattle.map_defs.specs.Ops.{Name, Term, layer_term, number_term, Op}
 use Rattle.map_waves.specs.Statements.{made}
 use Rattle.map_waves.specs.Plans.{Plan}
 use Rattle.map_waves.specs.declared.plans.Ref.{Ref}
@@ -19,7 +19,7 @@ term_cells s value (number_term z) = Some (constant s (Some z)).cells
 
 -- the cells of an operation's terms
 abbrev pub operand_cells : Size → (Name → Option Cells) → Op → Option (List Cells)
-operand_cells s value op = all_some (map (term_cells s value) (terms_of op))
+operand_cells s value op = all_some (map (term_cells s value) op.terms)
 
 -- each statement's cells are those of its operation on the values of its operands
 abbrev pub Unfolds : Size → (Name → Option Op) → (Name → Option Cells) → Type 0
@@ -43,7 +43,7 @@ AreRefsTo p name value k (t ∷ ts) (r ∷ rs) = IsRefTo p name value k t r × A
 -- the first n statements of a plan are these names' operations, on operands that stand for their terms
 pub record IsPlanOf (op_of : Name → Option Op) (value : Name → Option (List (Option ℤ))) (name : ℕ → List ℕ) (p : Plan) (n : ℕ) : Type 0 where
   pub ops : (k : ℕ) → k < n → op_of (name k) ≡ Some (p.step k).op
-  pub refs : (k : ℕ) → k < n → AreRefsTo p name value k (terms_of (p.step k).op) (p.step k).refs
+  pub refs : (k : ℕ) → k < n → AreRefsTo p name value k (p.step k).op.terms (p.step k).refs
 
 -- ---- before the edit
 

@@ -1,7 +1,6 @@
 //! The jobs of the statements that are at work.
 ghost use Rattle.std.specs.Prelude.{◌≡◌, ◌+◌, ◌*◌, ◌<◌, ◌≤◌, false, length, IfOk, IfErr, sum_by};
 ghost use Rattle.std.specs.List.{All};
-ghost use Rattle.map_defs.specs.Ops.{terms_of};
 ghost use Rattle.layer_tiles.specs.Operands.{cells_after};
 ghost use Rattle.layer_tiles.specs.Tallies.{RisesBy, IsUndivided};
 ghost use Rattle.map_waves.specs.Statements.{damage_by, work_by};
@@ -47,7 +46,7 @@ fn begin_step<'o, 'a, K: Maker + Sync, M: Tally + Send, G: Gate + Sync, R: Threa
 ) -> Result<Jobs<'o, 'a, K::Op, K::Beside, K::Own>, NoJobs>
     requires formed { K.formed step.now.op }
     requires operands { All (IsOperand base.now.extent) operands.now }
-    requires terms { length operands.now ≡ length (terms_of (K.means step.now.op)) }
+    requires terms { length operands.now ≡ length ((K.means step.now.op).terms) }
     requires right { IsRightKept K.suits base.now.extent (K.means step.now.op) operands.now (reckoned_kept base.now step.now) }
     requires whole { 1 < crew.now.workers → IsUndivided (M.counts tally.old) }
     ensures over { IfOk result (λ j. AreOver j base.now.extent step.now.op operands.now (reckoned_kept base.now step.now)) }

@@ -33,7 +33,7 @@ pub trait Maker {
     ghost use Rattle.std.specs.Prelude.{ℕ, ◌≡◌, ◌*◌, ◌^◌, ◌<◌, ◌≤◌, List, length, Ok, Some, Option, Result, IfOk, IfErr, IfSome, slice_get, sum_by};
     ghost use Rattle.std.specs.List.{All, range_with_len};
     ghost use Rattle.map_nums.specs.Grids.{Size, Cells};
-    ghost use Rattle.map_defs.specs.Ops.{Op, terms_of};
+    ghost use Rattle.map_defs.specs.Ops.{Op};
     ghost use Rattle.layer_tiles.specs.Changes.{ChangeState};
     ghost use Rattle.layer_tiles.specs.Tallies.{TallyState, RisesBy};
     ghost use Rattle.layer_tiles.specs.Operands.{cells_after};
@@ -113,7 +113,7 @@ pub trait Maker {
     ) -> Result<Option<(Self::Ground, u64)>, NoMemory>
         requires formed { formed op.now }
         requires operands { All (IsOperand extent) operands.now }
-        requires terms { length operands.now ≡ length (terms_of (means op.now)) }
+        requires terms { length operands.now ≡ length ((means op.now).terms) }
         ensures ground { IfOk result (λ found. IfSome found (λ q. grounded extent (means op.now) operands.now q.1 q.0)) }
         ensures few { IfOk result (λ found. IfSome found (λ q. q.1 < 2 ^ 32)) }
         ensures fit { grounding extent (means op.now) (was_of (kept_now kept.entry)) operands.now ≤ 60 * length (damage_by extent (means op.now) (was_of (kept_now kept.entry)) operands.now) }
@@ -150,7 +150,7 @@ pub trait Maker {
     ) -> Result<Jobs<'o, 'a, Self::Op, Self::Beside, Self::Own>, NoJobs>
         requires formed { formed op.now }
         requires operands { All (IsOperand extent) operands.now }
-        requires terms { length operands.now ≡ length (terms_of (means op.now)) }
+        requires terms { length operands.now ≡ length ((means op.now).terms) }
         requires right { IsRightKept suits extent (means op.now) operands.now (kept_now kept) }
         requires found { IfSome found (λ q. AreFound grounded part extent (means op.now) operands.now q.0 q.1.items) }
         ensures over { IfOk result (λ j. AreOver j extent op.entry.now operands.entry.now (kept_now kept.entry)) }

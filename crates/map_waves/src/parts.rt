@@ -1,7 +1,6 @@
 //! Parts of layers that were not there, found by workers side by side.
 ghost use Rattle.std.specs.Prelude.{◌≡◌, ℕ, ◌*◌, ◌^◌, ◌<◌, ◌≤◌, false, length, Some, Ok, slice_get, IfOk, IfSome, sum_by};
 ghost use Rattle.std.specs.List.{All, range_with_len};
-ghost use Rattle.map_defs.specs.Ops.{terms_of};
 ghost use Rattle.layer_tiles.specs.Tallies.{RisesBy, IsUndivided};
 ghost use Rattle.map_waves.specs.Operands.{IsOperand};
 ghost use Rattle.map_waves.specs.Keeping.{kept_now, was_of};
@@ -129,7 +128,7 @@ pub(crate) fn found_of<K: Maker + Sync, M: Tally + Send, G: Gate + Sync, R: Thre
 ) -> Result<Option<(K::Ground, Vec<K::Part>)>, NoMemory>
     requires formed { K.formed op.now }
     requires operands { All (IsOperand extent) operands.now }
-    requires terms { length operands.now ≡ length (terms_of (K.means op.now)) }
+    requires terms { length operands.now ≡ length ((K.means op.now).terms) }
     requires whole { 1 < crew.now.workers → IsUndivided (M.counts tally.old) }
     ensures found { IfOk result (λ found. IfSome found (λ q. AreFound K.grounded K.part extent (K.means op.now) operands.now q.0 q.1.items)) }
     ensures fit { K.grounding extent (K.means op.now) (was_of (kept_now kept.entry)) operands.now ≤ 60 * length (damage_by extent (K.means op.now) (was_of (kept_now kept.entry)) operands.now) }

@@ -8,7 +8,8 @@ use Rattle.std.proofs.lemmas.Option.{slice_get-get_or}
 use Rattle.map_nums.specs.Answers.{is_wide}
 use Rattle.map_nums.specs.Grids.{Size, IsSize, Cells, cells_in, cell_at}
 use Rattle.map_nums.specs.Tiles.{tiles_in, tile_of}
-use Rattle.map_defs.specs.Ops.{Op, local_op, difference_op, ratio_op, rating_op, focal_op, zonal_op, form_op, direction_op, flow_op, spread_op, sight_op, region_op}
+use Rattle.map_defs.specs.Facts.{Class, sight_class, class_of, is_repaired}
+use Rattle.map_defs.specs.Ops.{Op}
 use Rattle.map_defs.specs.Damage.{has_work}
 use Rattle.map_defs.specs.Sight.{most_viewers}
 use Rattle.layer_tiles.specs.Answers.{IsLeastWide}
@@ -16,7 +17,7 @@ use Rattle.layer_tiles.specs.Operands.{cells_after}
 use Rattle.layer_tiles.specs.declared.kernels.KernelRefusal.{KernelRefusal}
 use Rattle.layer_tiles.specs.declared.kernels.KernelRefusal.TheVariants.{Overflow, NoMemory}
 use Rattle.statement_parser.specs.Views.{op_view}
-use Rattle.map_waves.specs.Statements.{work_by, fault_in, wide_at, viewers_in}
+use Rattle.map_waves.specs.Statements.{work_by, fault_in, wide_at, viewers_by}
 use Rattle.map_waves.specs.Answers.{AreJobs, AreAnswers, AllOk, IsLeastOverflow, total_of}
 use Rattle.map_waves.specs.Jobs.{was_in}
 use Rattle.op_jobs.specs.Owning.{IsOwn, AreTileJobs, count_of}
@@ -44,7 +45,7 @@ Tells bound (Err NoMemory) = ⊥
 
 answer_narrow : (s : Size) (was : Option Cells) (now : Cells) (t bound : ℕ) (r : Result Piece KernelRefusal) → IsSize s → IsTilePiece s was now t r → Tells bound r → (i : ℕ) → i < bound → i < cells_in s → tile_of s i ≡ t → IsFalse (is_wide (cell_at now i))
 answer_narrow s was now t bound (Ok (Tile o)) h is tells i l m e = narrow_in s now t i h m e is.narrow
-answer_narrow s was now t bound (Ok (Whole p w)) h is tells i l m e = absurd is
+answer_narrow s was now t bound (Ok (Whole made)) h is tells i l m e = absurd is
 answer_narrow s was now t bound (Err (Overflow at)) h is tells i l m e = is.least i (omega (arith, l, tells)) e
 answer_narrow s was now t bound (Err NoMemory) h is tells i l m e = absurd tells
 
@@ -57,19 +58,9 @@ total_same m n =
 
 -- ---- of a statement without viewers
 
-pub viewers_none : (op : Op) (cells : List Cells) → IsTrue (has_work op) → nat_lt most_viewers (viewers_in op cells) ≡ false
-viewers_none (flow_op t u) cells e = refl
-viewers_none (spread_op limit t u) cells e = refl
-viewers_none (region_op t) cells e = refl
-viewers_none (local_op stat ignoring ts) cells e = absurd cc
-viewers_none (difference_op t u) cells e = absurd cc
-viewers_none (ratio_op t u) cells e = absurd cc
-viewers_none (rating_op t rates) cells e = absurd cc
-viewers_none (focal_op stat r t) cells e = absurd cc
-viewers_none (zonal_op stat t u) cells e = absurd cc
-viewers_none (form_op form t) cells e = absurd cc
-viewers_none (direction_op t) cells e = absurd cc
-viewers_none (sight_op sight t u) cells e = absurd cc
+pub viewers_none : (class : Class) (cells : List Cells) → IsTrue (is_repaired class) → nat_lt most_viewers (viewers_by class cells) ≡ false
+viewers_none (sight_class r) cells e = absurd cc
+viewers_none class cells e = refl
 
 module _ (j : StatementJobs) (is : IsSound j) where
   abbrev op : Op
@@ -82,7 +73,7 @@ module _ (j : StatementJobs) (is : IsSound j) where
   right w e = was_right j.size op j.operands j.kept w is.edited.right e
 
   all_below : (bound : ℕ) → ((t i : ℕ) → t < tiles_in j.size → hit t ≡ true → i < bound → i < cells_in j.size → tile_of j.size i ≡ t → IsFalse (is_wide (cell_at (now_in j) i))) → (i : ℕ) → i < bound → i < cells_in j.size → IsFalse (is_wide (cell_at (now_in j) i))
-  all_below bound good = narrow_below j.size (was_in j) (now_in j) hit is.size (changed_hit j.size op j.operands (was_in j) is.size right is.edited.operands_are.count) (was_narrow j.size op j.operands (was_in j) is.size right) bound good
+  all_below bound good = narrow_below j.size (was_in j) (now_in j) hit is.size (changed_hit j.size op j.operands (was_in j) is.size right is.edited.operands_are.formed.1 is.edited.operands_are.count) (was_narrow j.size op j.operands (was_in j) is.size right) bound good
 
   now_count : length (now_in j) ≡ cells_in j.size
   now_count = made_count j.size op (cells_after j.operands)
@@ -148,17 +139,17 @@ module _ (j : StatementJobs) (is : IsSound j) where
       let one : j.count ≡ 1 = is.count_is ∙ ap count_of (sym own) in
       let within : 0 < length rs = omega (arith, one, answers.count) in
       let there : slice_get rs 0 ≡ Some r = slice_get-get_or rs 0 (Err NoMemory) within in
-      fault_is j.size op (cells_after j.operands) (viewers_none op (cells_after j.operands) class)
+      fault_is j.size op (cells_after j.operands) (viewers_none (class_of op) (cells_after j.operands) class)
       ∙ ap (option_map (λ at. wide_at at)) (narrow r (whole_piece set own 0 r (answers.each 0 r there)) (ok 0 r there))
     where
       narrow : (r : Result Piece KernelRefusal) → IsWholePiece j.size op (was_in j) j.operands r → IsOk r → position is_wide (now_in j) ≡ None
       narrow (Ok (Tile o)) p e = absurd p
-      narrow (Ok (Whole patch work)) p e = p.narrow
+      narrow (Ok (Whole made)) p e = p.narrow
       narrow (Err x) p e = absurd cc
 
   whole_least : (set : _) → an_own.Whole set ≡ j.own → IsTrue (has_work op) → (rs : List (Result Piece KernelRefusal)) (at : ℕ) → AreAnswers IsPiece j rs → IsLeastOverflow rs at → fault_in j.size op (cells_after j.operands) ≡ Some (wide_at at)
   whole_least set own class rs at answers least =
-      fault_is j.size op (cells_after j.operands) (viewers_none op (cells_after j.operands) class)
+      fault_is j.size op (cells_after j.operands) (viewers_none (class_of op) (cells_after j.operands) class)
       ∙ ap (option_map (λ at. wide_at at)) (whole_piece set own least.place (Err (Overflow at)) (answers.each least.place (Err (Overflow at)) least.is))
 
   -- ---- all of it

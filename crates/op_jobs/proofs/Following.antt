@@ -16,7 +16,7 @@ use Rattle.map_defs.specs.Drainage.{drop_to, drop_at, is_steepest, winner_at, di
 use Rattle.map_defs.specs.Slopes.{leaning, slope_p, slope_q, octant}
 use Rattle.map_defs.specs.Roots.{floor_root}
 use Rattle.map_defs.specs.Cells.{has_number}
-use Rattle.map_defs.specs.Damage.{radius_of}
+use Rattle.map_defs.specs.Facts.{radius_of}
 use Rattle.map_defs.specs.Operate.{operand}
 use Rattle.op_jobs.proofs.Felt.{IsQuiet, Stays}
 use Rattle.op_jobs.proofs.Agreeing.{map_agree, all_agree, position_agree, weights_agree, own_agree, then_agree}

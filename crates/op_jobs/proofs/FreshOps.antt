@@ -1,21 +1,21 @@
 -- Layers that were not there, in the words of operations.
-use Rattle.std.proofs.Common.{◌≡◌, ℕ, ◌+◌, ◌*◌, ◌<◌, ◌≤◌, false, true, List, [], ◌∷◌, length, Option, Some, None, sym, ap, subst, ◌∙◌, arith, IsTrue}
+use Rattle.std.proofs.Common.{◌≡◌, ℕ, ◌+◌, ◌*◌, ◌<◌, ◌≤◌, false, true, List, [], ◌∷◌, length, Option, Some, None, refl, sym, ap, subst, ◌∙◌, arith, IsTrue}
 use Rattle.std.specs.List.{All}
 use Rattle.std.proofs.lemmas.List.FromFn.{length-range_with_len}
 use Rattle.map_nums.specs.Grids.{Size, Cells, cells_in}
 use Rattle.map_nums.specs.Tiles.{tiles_in}
 use Rattle.map_defs.specs.Damage.{op_damage}
 use Rattle.map_defs.specs.Operate.{operand}
-use Rattle.map_defs.specs.Ops.{Op, Term, local_op, difference_op, ratio_op, rating_op, focal_op, zonal_op, form_op, direction_op, flow_op, spread_op, sight_op, region_op}
+use Rattle.map_defs.specs.Facts.{facts}
+use Rattle.map_defs.specs.Ops.{Head, region_head, Op}
 use Rattle.layer_tiles.specs.Changes.{ChangeState}
 use Rattle.layer_tiles.specs.Operands.{cells_after}
 use Rattle.layer_tiles.specs.Tallies.{TallyState, RisesBy}
 use Rattle.layer_tiles.proofs.Rising.{rises_then, rises_within}
-use Rattle.friction_spread.specs.Bands.{ground_of}
 use Rattle.map_waves.specs.Operands.{IsOperand}
 use Rattle.map_waves.specs.Statements.{damage_by}
-use Rattle.op_jobs.specs.Classes.{is_region}
-use Rattle.op_jobs.specs.Fresh.{is_banded, AreBothCells, IsCosts, IsFlows, IsLabels, IsBand, IsPart, grounding}
+use Rattle.op_jobs.specs.Classes.{is_region, is_region_in}
+use Rattle.op_jobs.specs.Fresh.{is_banded, AreBothCells, IsLabels, IsBand, IsPart, grounding}
 use Rattle.op_jobs.specs.Operands.{AreOperandsOf}
 use Rattle.op_jobs.specs.Sound.{first_by}
 use Rattle.op_jobs.specs.declared.ground.BothCells.{BothCells}
@@ -23,24 +23,14 @@ use Rattle.op_jobs.specs.declared.ground.Part.{Part}
 use Rattle.op_jobs.specs.declared.own.Own.{Own}
 use Rattle.op_jobs.specs.declared.own.Own.TheVariants as an_own
 
--- ---- what holds of each operation that labels regions holds of this one
+-- ---- the head that labels regions
 
 no : false ≡ true → ⊥
 no e = cc
 
-pub region_is : (op : Op) → IsTrue (is_region op) → (P : Op → Type 0) → ((t : Term) → P (region_op t)) → P op
-region_is (local_op stat ignoring ts) r P h = absurd (no r)
-region_is (difference_op t u) r P h = absurd (no r)
-region_is (ratio_op t u) r P h = absurd (no r)
-region_is (rating_op t rates) r P h = absurd (no r)
-region_is (focal_op stat n t) r P h = absurd (no r)
-region_is (zonal_op stat t u) r P h = absurd (no r)
-region_is (form_op f t) r P h = absurd (no r)
-region_is (direction_op t) r P h = absurd (no r)
-region_is (flow_op t u) r P h = absurd (no r)
-region_is (spread_op limit t u) r P h = absurd (no r)
-region_is (sight_op sight t u) r P h = absurd (no r)
-region_is (region_op t) r P h = h t
+pub region_is : (head : Head) → IsTrue (is_region_in (facts head).class) → head ≡ region_head
+region_is region_head r = refl
+region_is head r = absurd (no r)
 
 -- ---- reads
 
@@ -93,17 +83,10 @@ list_rises s xs x y a b both are r =
 
 -- ---- from an operation's own parts to its kernel's
 
-module _ (s : Size) (op : Op) (operands : List ChangeState) (one other : Cells) (t u : Term) (e : one ≡ operand (cells_after operands) 0) (f : other ≡ operand (cells_after operands) 1) (n k : ℕ) (p : Part) where
-  pub costs_part : (limit : ℕ) → op ≡ spread_op limit t u → IsPart s op operands n k p → IsCosts (ground_of s one other limit) n k p
-  costs_part limit is h =
-      let there = subst (λ (o : Op). IsBand o s (operand (cells_after operands) 0) (operand (cells_after operands) 1) n k p) is h in
-      subst (λ (xs : Cells). IsCosts (ground_of s xs other limit) n k p) (sym e) (subst (λ (xs : Cells). IsCosts (ground_of s (operand (cells_after operands) 0) xs limit) n k p) (sym f) there)
-
-  pub flows_part : op ≡ flow_op t u → IsPart s op operands n k p → IsFlows s one other n k p
-  flows_part is h =
-      let there = subst (λ (o : Op). IsBand o s (operand (cells_after operands) 0) (operand (cells_after operands) 1) n k p) is h in
-      subst (λ (xs : Cells). IsFlows s xs other n k p) (sym e) (subst (λ (xs : Cells). IsFlows s (operand (cells_after operands) 0) xs n k p) (sym f) there)
+pub band_is : (s : Size) (op : Op) (operands : List ChangeState) (one other : Cells) (head : Head) → one ≡ operand (cells_after operands) 0 → other ≡ operand (cells_after operands) 1 → op.head ≡ head → (n k : ℕ) (p : Part) → IsPart s op operands n k p → IsBand head s one other n k p
+band_is s op operands one other head e f is n k p h =
+    subst (λ (x : Head). IsBand x s one other n k p) is
+    (subst (λ (xs : Cells). IsBand op.head s xs other n k p) (sym e) (subst (λ (xs : Cells). IsBand op.head s (operand (cells_after operands) 0) xs n k p) (sym f) h))
 
 pub labels_part : (s : Size) (op : Op) (operands : List ChangeState) (cells : Cells) → IsTrue (is_region op) → cells ≡ operand (cells_after operands) 0 → (n k : ℕ) (p : Part) → IsPart s op operands n k p → IsLabels s cells n k p
-labels_part s op operands cells r e n k p =
-    region_is op r (λ o. IsPart s o operands n k p → IsLabels s cells n k p) (λ t h. subst (λ (xs : Cells). IsLabels s xs n k p) (sym e) h)
+labels_part s op operands cells r e = band_is s op operands cells (operand (cells_after operands) 1) region_head e refl (region_is op.head r)

@@ -96,7 +96,7 @@ fits s was now t (Tile (Some b)) is = block (is_changed s was now t) is.is
     block : (v : Bool) → Some b ≡ cond v (Some (tile_block s now t)) None → IsBlockOf s t b
     block true e = let same : b ≡ tile_block s now t = cc in subst (IsBlockOf s t) (sym same) (tile_block_is s now t)
     block false e = absurd cc
-fits s was now t (Whole patch work) is = absurd is
+fits s was now t (Whole made) is = absurd is
 
 tiles_told : (s : Size) (was : Option Cells) (now : Cells) (t : ℕ) (p : Piece) → IsTilePiece s was now t (Ok p) → tiles_at t p ≡ numbered (tile_block s now) (cond (is_changed s was now t) (t ∷ []) [])
 tiles_told s was now t (Tile o) is = told (is_changed s was now t) o is.is
@@ -104,7 +104,7 @@ tiles_told s was now t (Tile o) is = told (is_changed s was now t) o is.is
     told : (v : Bool) (o : Option Block) → o ≡ cond v (Some (tile_block s now t)) None → tiles_at t (Tile o) ≡ numbered (tile_block s now) (cond v (t ∷ []) [])
     told true o e = ap (λ (x : Option Block). tiles_at t (Tile x)) e
     told false o e = ap (λ (x : Option Block). tiles_at t (Tile x)) e
-tiles_told s was now t (Whole patch work) is = absurd is
+tiles_told s was now t (Whole made) is = absurd is
 
 numbered_more : (f : ℕ → Block) (xs ys : List ℕ) → numbered f (xs ++ ys) ≡ numbered f xs ++ numbered f ys
 numbered_more f [] ys = refl
@@ -149,7 +149,7 @@ patch_is j jobs k patch is own l size e =
     let all : take k jobs.tiles.items ≡ damage_by j.size (op_view j.op) (was_in j) j.operands = take_all k jobs.tiles.items l ∙ (tile_own j jobs is own).tiles in
     record {
       size = size;
-      tiles = e ∙ ap (λ ts. numbered (tile_block j.size (now_in j)) (filter c ts)) all ∙ ap (numbered (tile_block j.size (now_in j))) (sym (changed_within j.size (op_view j.op) j.operands (was_in j) is.size right is.edited.operands_are.count));
+      tiles = e ∙ ap (λ ts. numbered (tile_block j.size (now_in j)) (filter c ts)) all ∙ ap (numbered (tile_block j.size (now_in j))) (sym (changed_within j.size (op_view j.op) j.operands (was_in j) is.size right is.edited.operands_are.formed.1 is.edited.operands_are.count));
     }
 
 -- the repaired layer

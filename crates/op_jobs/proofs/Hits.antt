@@ -11,7 +11,8 @@ use Rattle.std.proofs.lemmas.Nat.{mul-le}
 use Rattle.map_nums.specs.Grids.{Size, IsSize, Cells, cells_in, cell_at}
 use Rattle.map_nums.specs.Answers.{is_wide}
 use Rattle.map_nums.specs.Tiles.{tiles, tiles_in, tiles_across, tiles_down}
-use Rattle.map_defs.specs.Ops.{Op, terms_of}
+use Rattle.map_defs.specs.Facts.{HasTerms}
+use Rattle.map_defs.specs.Ops.{Op}
 use Rattle.map_defs.specs.Damage.{is_damaged, op_damage, changed_tiles, has_work}
 use Rattle.map_defs.specs.Work.{op_work}
 use Rattle.layer_tiles.specs.Changes.{ChangeState, cells_before}
@@ -98,22 +99,22 @@ module _ (s : Size) (op : Op) (operands : List ChangeState) (was : Option Cells)
       subst P (sym r.right) (narrow_of s op (cells_were operands) (made_count s op (cells_were operands)) r.faultless i l)
 
   -- what changed is damaged
-  pub changed_hit : length operands ≡ length (terms_of op) → (t : ℕ) → t < tiles_in s → is_changed s was (made s op (cells_after operands)) t ≡ true → is_hit s op was operands t ≡ true
-  changed_hit terms t l e = by_was was refl e
+  pub changed_hit : HasTerms op → length operands ≡ length op.terms → (t : ℕ) → t < tiles_in s → is_changed s was (made s op (cells_after operands)) t ≡ true → is_hit s op was operands t ≡ true
+  changed_hit fit terms t l e = by_was was refl e
     where
       by_was : (o : Option Cells) → o ≡ was → is_changed s o (made s op (cells_after operands)) t ≡ true → is_hit s op o operands t ≡ true
       by_was None f h = refl
       by_was (Some w) f h =
           let r = right w (sym f) in
           let P : Cells → Type 0 = λ cells. is_changed s (Some cells) (made s op (cells_after operands)) t ≡ true → is_hit s op (Some cells) operands t ≡ true in
-          subst P (sym r.right) (felt_there s op (cells_were operands) (cells_after operands) size (length-map operands cells_before ∙ terms) (length-map operands (λ (c : ChangeState). c.cells) ∙ terms) t l) h
+          subst P (sym r.right) (felt_there s op (cells_were operands) (cells_after operands) size fit (length-map operands cells_before ∙ terms) (length-map operands (λ (c : ChangeState). c.cells) ∙ terms) t l) h
 
-  pub changed_within : length operands ≡ length (terms_of op) → changed_tiles s was (made s op (cells_after operands)) ≡ filter (is_changed s was (made s op (cells_after operands))) (damage_by s op was operands)
-  changed_within terms =
+  pub changed_within : HasTerms op → length operands ≡ length op.terms → changed_tiles s was (made s op (cells_after operands)) ≡ filter (is_changed s was (made s op (cells_after operands))) (damage_by s op was operands)
+  changed_within fit terms =
       let now = made s op (cells_after operands) in
       let P : List ℕ → Type 0 = λ ts. changed_tiles s was now ≡ filter (is_changed s was now) ts in
       subst P (sym (damage_is s op was operands))
-      (changed_are s was now ∙ sym (filter_within (is_changed s was now) (is_hit s op was operands) (tiles s) (range_all (λ t. is_changed s was now t ≡ true → is_hit s op was operands t ≡ true) (tiles_in s) (changed_hit terms))))
+      (changed_are s was now ∙ sym (filter_within (is_changed s was now) (is_hit s op was operands) (tiles s) (range_all (λ t. is_changed s was now t ≡ true → is_hit s op was operands t ≡ true) (tiles_in s) (changed_hit fit terms))))
 
 -- ---- work
 

@@ -1,17 +1,18 @@
 -- What is kept of a statement, to the functions of its class.
-use Rattle.std.proofs.Common.{◌≡◌, ℕ, ◌*◌, ◌≤◌, true, List, length, Option, Some, None, Result, Ok, Err, ℤ, refl, sym, ◌∙◌, ap, subst, arith, IsTrue}
+use Rattle.std.proofs.Common.{◌≡◌, ℕ, ◌*◌, ◌≤◌, true, List, length, Option, Some, None, Result, Err, ℤ, refl, sym, ◌∙◌, ap, subst, arith, IsTrue, IsFalse}
 use Rattle.std.specs.Prelude.{is_some, IfSome}
 use Rattle.std.specs.Borrow.{Bor}
 use Rattle.std.specs.Option.{option_copied}
 use Rattle.map_nums.specs.declared.Stat.{Stat}
 use Rattle.map_nums.specs.Grids.{Size, Cells}
-use Rattle.map_defs.specs.Ops.{Op, Term, local_op, difference_op, ratio_op, rating_op, focal_op, zonal_op, form_op, direction_op, flow_op, spread_op, sight_op, region_op}
-use Rattle.map_defs.specs.Damage.{has_work}
+use Rattle.map_defs.specs.Facts.{Class, zonal_class, sight_class, nearest_class, class_of, is_repaired}
+use Rattle.map_defs.specs.Ops.{Op, Term, zonal_op, sight_op}
 use Rattle.map_defs.specs.Operate.{operand}
 use Rattle.map_defs.specs.Sight.{Sighting}
 use Rattle.layer_tiles.specs.Changes.{ChangeState}
 use Rattle.layer_tiles.specs.Layers.{LayerState}
 use Rattle.layer_tiles.specs.Operands.{cells_after}
+use Rattle.layer_tiles.specs.Patches.{PatchState}
 use Rattle.layer_tiles.specs.Tallies.{TallyState, RisesBy}
 use Rattle.layer_tiles.specs.declared.kernels.KernelRefusal.{KernelRefusal}
 use Rattle.layer_tiles.specs.declared.kernels.KernelRefusal.TheVariants.{Overflow, NoMemory}
@@ -23,22 +24,20 @@ use Rattle.statement_parser.specs.Views.{op_view}
 use Rattle.map_waves.specs.Statements.{cells_were, damage_by, work_by}
 use Rattle.map_waves.specs.Jobs.{was_in}
 use Rattle.map_waves.specs.Keeping.{was_of, IsRightKept}
-use Rattle.map_waves.specs.Gathered.{IsRepaired}
 use Rattle.map_waves.specs.declared.keeping.Kept.{Kept}
-use Rattle.map_waves.specs.declared.keeping.Made.{Made}
-use Rattle.op_jobs.specs.Beside.{suits, IsBook, AreViewers, book_at, book_in, viewers_at, kept_viewers, layer_in}
+use Rattle.op_jobs.specs.Beside.{suits, suits_in, IsBook, AreViewers, book_at, book_in, viewers_at, kept_viewers, layer_in}
+use Rattle.op_jobs.specs.Classes.{is_nearest, is_nearest_in}
 use Rattle.op_jobs.specs.Owning.{IsOwn, IsWholeJob, reached}
-use Rattle.op_jobs.specs.Pieces.{IsWholePiece}
-use Rattle.op_jobs.specs.Sound.{StatementJobs, IsSound, IsPiece, IsPieceOf, FitsSet, IsMadeWhole}
-use Rattle.op_jobs.specs.Whole.{IsRightBefore, IsWholeAnswer}
+use Rattle.op_jobs.specs.Pieces.{IsWholeMade, IsWholePiece, IsWholeRepaired}
+use Rattle.op_jobs.specs.Sound.{StatementJobs, IsSound, IsPiece, IsPieceOf, is_whole, now_in}
+use Rattle.op_jobs.specs.Whole.{IsRightBefore, IsWholeAnswer, count_any}
 use Rattle.op_jobs.specs.Zonal.{IsRightBook}
 use Rattle.op_jobs.specs.declared.beside.Beside.{Beside}
 use Rattle.op_jobs.specs.declared.beside.Beside.TheVariants.{Nothing, Book, Viewers}
 use Rattle.op_jobs.specs.declared.own.Own.{Own}
 use Rattle.op_jobs.specs.declared.own.Own.TheVariants as an_own
 use Rattle.op_jobs.specs.declared.pieces.Piece.{Piece}
-use Rattle.op_jobs.specs.declared.pieces.Piece.TheVariants.{Tile, Whole}
-use Rattle.op_jobs.proofs.WholeDamage.{damage_counted}
+use Rattle.op_jobs.proofs.WholeDamage.{alone_damaged, damage_counted}
 use Rattle.op_jobs.proofs.ZonalStays.{range_from_faultless}
 
 -- ---- reads
@@ -54,11 +53,10 @@ right_book s stat t u operands None (Some b) e is = absurd cc
 right_book s stat t u operands (Some k) (Some b) e is = at k.beside e is.beside
   where
     at : (x : Beside) → Some b.now ≡ book_at x → IsBook s (operand (cells_were operands) 0) (operand (cells_were operands) 1) x → IsRightBook stat s operands b.now
-    at Nothing f q = absurd q
     at (Book c) f q =
         let same : b.now ≡ c = cc in
         subst (IsRightBook stat s operands) (sym same) (record { there = is.there; size = q.0; book = q.1; in_range = range_from_faultless stat t u s (cells_were operands) is.faultless })
-    at (Viewers v) f q = absurd q
+    at x f q = absurd q
 
 some_of : {X : Type 0} (x : X) (r : Option (Bor X)) → option_copied r ≡ Some x → true ≡ is_some r
 some_of x None e = absurd cc
@@ -70,9 +68,8 @@ book_there s stat t u operands None (Some b) e is = absurd cc
 book_there s stat t u operands (Some k) r e is = at k.beside e is.beside
   where
     at : (x : Beside) → option_copied r ≡ book_at x → IsBook s (operand (cells_were operands) 0) (operand (cells_were operands) 1) x → true ≡ is_some r
-    at Nothing f q = absurd q
     at (Book c) f q = some_of c r f
-    at (Viewers v) f q = absurd q
+    at x f q = absurd q
 
 -- ---- the viewers
 
@@ -82,9 +79,8 @@ viewers_there s sight t u operands None (Some b) e is = absurd cc
 viewers_there s sight t u operands (Some k) r e is = at k.beside e is.beside
   where
     at : (x : Beside) → option_copied r ≡ viewers_at x → AreViewers s (operand (cells_were operands) 0) x → true ≡ is_some r
-    at Nothing f q = absurd q
-    at (Book c) f q = absurd q
     at (Viewers v) f q = some_of v r f
+    at x f q = absurd q
 
 -- ---- the layer
 
@@ -120,47 +116,47 @@ pub piece_whole : (j : StatementJobs) (set : TileSetState) (k : ℕ) (r : Result
 unfolding IsPiece
 piece_whole j set k r own p = let P : Own → Type 0 = λ o. IsPieceOf o j k r in subst P (sym own) p
 
-whole_piece : (j : StatementJobs) (set : TileSetState) (k : ℕ) (r : Result Piece KernelRefusal) → j.own ≡ an_own.Whole set → IsPiece j k r → IsWholePiece j.size (op_view j.op) (was_in j) j.operands r
-unfolding IsPiece
-whole_piece j set k r own p = let P : Own → Type 0 = λ o. IsPieceOf o j k r in subst P own p
-
-whole_own : (j : StatementJobs) (set : TileSetState) → IsSound j → j.own ≡ an_own.Whole set → IsWholeJob j.size (op_view j.op) j.operands (was_in j) set
+pub whole_own : (j : StatementJobs) (set : TileSetState) → IsSound j → j.own ≡ an_own.Whole set → IsWholeJob j.size (op_view j.op) j.operands (was_in j) set
 whole_own j set is e = let P : Own → Type 0 = λ o. IsOwn j.size (op_view j.op) j.operands (was_in j) o in subst P e is.own_is
 
-reached_size : (s : Size) (was : Option Cells) (operands : List ChangeState) (set : TileSetState) → set ≡ reached 0 s was operands → set.size ≡ s
+pub reached_size : (s : Size) (was : Option Cells) (operands : List ChangeState) (set : TileSetState) → set ≡ reached 0 s was operands → set.size ≡ s
 reached_size s None operands set e = ap (λ (d : TileSetState). d.size) e
 reached_size s (Some w) operands set e = ap (λ (d : TileSetState). d.size) e
 
-pub work_beside : (s : Size) (op : Op) (cells : List Cells) → IsTrue (has_work op) → suits s op cells Nothing
-work_beside s (flow_op t u) cells e = tt
-work_beside s (spread_op limit t u) cells e = tt
-work_beside s (region_op t) cells e = tt
-work_beside s (local_op stat ignoring ts) cells e = tt
-work_beside s (difference_op t u) cells e = tt
-work_beside s (ratio_op t u) cells e = tt
-work_beside s (rating_op t rates) cells e = tt
-work_beside s (focal_op stat r t) cells e = tt
-work_beside s (form_op form t) cells e = tt
-work_beside s (direction_op t) cells e = tt
-work_beside s (zonal_op stat t u) cells e = absurd cc
-work_beside s (sight_op sight t u) cells e = absurd cc
+pub work_beside : (class : Class) (s : Size) (cells : List Cells) → IsTrue (is_repaired class) → IsFalse (is_nearest_in class) → suits_in class s cells Nothing
+work_beside (zonal_class stat) s cells e f = absurd cc
+work_beside (sight_class r) s cells e f = absurd cc
+work_beside (nearest_class limit) s cells e f = absurd cc
+work_beside class s cells e f = tt
 
-pub whole_fits : (j : StatementJobs) (set : TileSetState) (piece : Piece) → IsSound j → j.own ≡ an_own.Whole set → IsPiece j 0 (Ok piece) → FitsSet set piece
-whole_fits j set (Tile o) is own p = absurd (whole_piece j set 0 (Ok (Tile o)) own p)
-whole_fits j set (Whole patch work) is own p = reached_size j.size (was_in j) j.operands set (whole_own j set is own).set_is ∙ sym (whole_piece j set 0 (Ok (Whole patch work)) own p).size
+module _ (j : StatementJobs) (touched : TileSetState) (is : IsSound j) (own : j.own ≡ an_own.Whole touched) where
+  pub touched_size : touched.size ≡ j.size
+  touched_size = reached_size j.size (was_in j) j.operands touched (whole_own j touched is own).set_is
 
-pub whole_repaired : (j : StatementJobs) (set : TileSetState) (piece : Piece) (m : Made Beside) → IsSound j → j.own ≡ an_own.Whole set → IsPiece j 0 (Ok piece) → IsMadeWhole set piece m → IsRepaired suits j.size (op_view j.op) j.operands (was_in j) m
-whole_repaired j set (Tile o) m is own p e = absurd e
-whole_repaired j set (Whole patch work) m is own p e =
-    let made = whole_piece j set 0 (Ok (Whole patch work)) own p in
-    let job = whole_own j set is own in
-    rw (e)
-    record {
-      size = made.size;
-      cells = made.cells;
-      exact = made.exact;
-      beside = work_beside j.size (op_view j.op) (cells_after j.operands) job.class;
-      evaluated = damage_counted j.size (op_view j.op) (was_in j) j.operands set patch job.class made.size job.set_is made.exact;
-      worked = made.work_is;
-      little = made.little;
-    }
+  -- where nothing stands beside the layer
+  pub alone_repaired : (patch : PatchState) (work : ℕ) → IsFalse (is_nearest (op_view j.op)) → IsWholeMade j.size (op_view j.op) (was_in j) j.operands patch work
+      → IsWholeRepaired j.size (op_view j.op) (was_in j) j.operands (record { patch = patch; beside = Nothing; evaluated = count_any touched patch None; worked = work })
+  alone_repaired patch work alone made =
+      let job = whole_own j touched is own in
+      let class = class_of (op_view j.op) in
+      record {
+        repaired = record {
+          size = made.size;
+          cells = made.cells;
+          exact = made.exact;
+          beside = work_beside class j.size (cells_after j.operands) job.class alone;
+          evaluated = damage_counted j.size (op_view j.op) j.operands touched patch None (was_in j) job.class made.size job.set_is made.exact (λ w e t l. alone_damaged class j.size (cells_were j.operands) (cells_after j.operands) w (now_in j) t job.class alone);
+          worked = made.work_is;
+          little = made.little;
+        };
+        narrow = made.narrow;
+      }
+
+-- the piece of the one job
+pub whole_is : (j : StatementJobs) (r : Result Piece KernelRefusal) → IsTrue (is_whole j.own) → IsPiece j 0 r → IsWholePiece j.size (op_view j.op) (was_in j) j.operands r
+unfolding IsPiece
+whole_is j r e p = at j.own e p
+  where
+    at : (o : Own) → IsTrue (is_whole o) → IsPieceOf o j 0 r → IsWholePiece j.size (op_view j.op) (was_in j) j.operands r
+    at (an_own.Tiles jobs) e p = absurd cc
+    at (an_own.Whole set) e p = p

@@ -5,7 +5,8 @@ use Rattle.map_nums.specs.Tiles.{tiles}
 use Rattle.map_defs.specs.Damage.{op_damage, has_work}
 use Rattle.map_defs.specs.Flow.{flow_grid}
 use Rattle.map_defs.specs.Operate.{operate, operand}
-use Rattle.map_defs.specs.Ops.{Op, Term, local_op, difference_op, ratio_op, rating_op, focal_op, zonal_op, form_op, direction_op, flow_op, spread_op, sight_op, region_op}
+use Rattle.map_defs.specs.Facts.{Class, local_class, is_repaired}
+use Rattle.map_defs.specs.Ops.{Head, region_head, Op, Term, flow_op, spread_op}
 use Rattle.map_defs.specs.Regions.{AreRegions}
 use Rattle.map_defs.specs.Rounds.{spread_grid, region_grid}
 use Rattle.map_defs.specs.Spread.{IsSpread}
@@ -23,7 +24,7 @@ use Rattle.friction_spread.specs.declared.lists.CostList.{CostList}
 use Rattle.region_labels.specs.Provisional.{IsLabelList}
 use Rattle.region_labels.specs.declared.shows.ProvisionalLabels.{ProvisionalLabels}
 use Rattle.map_waves.specs.Statements.{made, damage_by, work_by, cells_were}
-use Rattle.op_jobs.specs.Classes.{is_local, is_region}
+use Rattle.op_jobs.specs.Classes.{is_local_in, is_nearest, is_region}
 use Rattle.op_jobs.specs.Lists.{IsList, list_cells, IsListMade, IsListOf}
 use Rattle.op_jobs.specs.declared.lists.LayerList.{LayerList}
 use Rattle.op_jobs.specs.declared.lists.LayerList.TheVariants.{Costs, Labels}
@@ -58,29 +59,20 @@ pub all_damaged : (s : Size) (op : Op) (operands : List ChangeState) → tiles s
 unfolding op_damage
 all_damaged s op operands = refl
 
-pub work_not_local : (op : Op) → IsTrue (has_work op) → IsFalse (is_local op)
-work_not_local (flow_op t u) e = refl
-work_not_local (spread_op limit t u) e = refl
-work_not_local (region_op t) e = refl
-work_not_local (local_op stat ignoring ts) e = absurd cc
-work_not_local (difference_op t u) e = absurd cc
-work_not_local (ratio_op t u) e = absurd cc
-work_not_local (rating_op t rates) e = absurd cc
-work_not_local (focal_op stat r t) e = absurd cc
-work_not_local (zonal_op stat t u) e = absurd cc
-work_not_local (form_op form t) e = absurd cc
-work_not_local (direction_op t) e = absurd cc
-work_not_local (sight_op sight t u) e = absurd cc
+pub work_not_local : (class : Class) → IsTrue (is_repaired class) → IsFalse (is_local_in class)
+work_not_local local_class e = absurd cc
+work_not_local class e = refl
 
 work_fresh : (s : Size) (op : Op) (operands : List ChangeState) → IsTrue (has_work op) → work_by s op None operands ≡ first_work s (made s op (cells_after operands))
 unfolding op_work
 work_fresh s op operands e = rw (e) refl
 
-listed : (s : Size) (op : Op) (operands : List ChangeState) (list : LayerList) (n : ℕ) → IsSize s → IsTrue (has_work op) → IsList s list → list_cells s list ≡ made s op (cells_after operands) → n ≡ first_work s (list_cells s list) → IsListMade s op operands list n
-listed s op operands list n h works is cells work =
+listed : (s : Size) (op : Op) (operands : List ChangeState) (list : LayerList) (n : ℕ) → IsSize s → IsTrue (has_work op) → IsFalse (is_nearest op) → IsList s list → list_cells s list ≡ made s op (cells_after operands) → n ≡ first_work s (list_cells s list) → IsListMade s op operands list n
+listed s op operands list n h works alone is cells work =
     let w : n ≡ work_by s op None operands = work ∙ ap (first_work s) cells ∙ sym (work_fresh s op operands works) in
     record {
       class = works;
+      alone = alone;
       list_is = is;
       cells = cells;
       work_is = w;
@@ -92,7 +84,7 @@ module _ (s : Size) (h : IsSize s) (operands : List ChangeState) (one other : Ce
   unfolding operate
   flow_listed op list n o is cells work =
       let here : (flow_grid s one other).cells ≡ made s (flow_op t u) (cells_after operands) = ap (λ (xs : Cells). (flow_grid s xs other).cells) e ∙ ap (λ (xs : Cells). (flow_grid s (operand (cells_after operands) 0) xs).cells) f in
-      subst (λ (x : Op). IsListMade s x operands list n) (sym o) (listed s (flow_op t u) operands list n h refl is (cells ∙ here) (work ∙ ap (first_work s) (sym cells)))
+      subst (λ (x : Op). IsListMade s x operands list n) (sym o) (listed s (flow_op t u) operands list n h refl refl is (cells ∙ here) (work ∙ ap (first_work s) (sym cells)))
 
   pub spread_listed : (op : Op) (limit : ℕ) (list : CostList) → op ≡ spread_op limit t u → IsCostList (ground_of s one other limit) list → IsListMade s op operands (Costs list) list.worked
   unfolding operate
@@ -102,16 +94,14 @@ module _ (s : Size) (h : IsSize s) (operands : List ChangeState) (one other : Ce
       let P : Cells → Cells → Type 0 = λ xs ys. IsSpread s xs ys limit (list_cells s (Costs list)) in
       let here : IsSpread s a b limit (list_cells s (Costs list)) = subst (λ (xs : Cells). P xs b) e (subst (P one) f is.spread) in
       let cells : list_cells s (Costs list) ≡ (spread_grid limit s a b).cells = spread_only s a b limit _ _ here (spread_is s a b limit) in
-      subst (λ (x : Op). IsListMade s x operands (Costs list) list.worked) (sym o) (listed s (spread_op limit t u) operands (Costs list) list.worked h refl (is.limit, is.count) cells is.worked)
+      subst (λ (x : Op). IsListMade s x operands (Costs list) list.worked) (sym o) (listed s (spread_op limit t u) operands (Costs list) list.worked h refl refl (is.limit, is.count) cells is.worked)
 
 module _ (s : Size) (h : IsSize s) (operands : List ChangeState) (one : Cells) (e : one ≡ operand (cells_after operands) 0) (list : ProvisionalLabels) (is : IsLabelList s one list) where
-  labels_made : (t : Term) → IsListMade s (region_op t) operands (Labels list) list.worked
+  pub labels_listed : (op : Op) → IsTrue (is_region op) → IsListMade s op operands (Labels list) list.worked
   unfolding operate
-  labels_made t =
+  labels_listed op r =
       let of = operand (cells_after operands) 0 in
       let here : AreRegions s of (list_cells s (Labels list)) = subst (λ (xs : Cells). AreRegions s xs (list_cells s (Labels list))) e is.regions in
       let cells : list_cells s (Labels list) ≡ (region_grid s of).cells = regions_only s of _ _ here (regions_are s of) in
-      listed s (region_op t) operands (Labels list) list.worked h refl (is.back, is.count) cells is.worked
-
-  pub labels_listed : (op : Op) → IsTrue (is_region op) → IsListMade s op operands (Labels list) list.worked
-  labels_listed op r = region_is op r (λ o. IsListMade s o operands (Labels list) list.worked) labels_made
+      let P : Head → Type 0 = λ h. IsListMade s (record { head = h; terms = op.terms }) operands (Labels list) list.worked in
+      subst P (sym (region_is op.head r)) (listed s (record { head = region_head; terms = op.terms }) operands (Labels list) list.worked h refl refl (is.back, is.count) cells is.worked)

@@ -43,7 +43,9 @@ pub mod WholeDamage
 pub mod WholeOperands
 pub mod WholeFlow
 pub mod WholeSpread
+pub mod WholeNearest
 pub mod WholeRegions
 pub mod WholeOps
 pub mod Kept
+pub mod NearestJobs
 pub mod Once

@@ -11,7 +11,7 @@ use Rattle.map_nums.specs.Grids.{Size, Cells, Offset, cells_in, cell_at, cell_th
 use Rattle.map_defs.specs.Cells.{same_cell}
 use Rattle.map_defs.specs.Differences.{differs, has_changed}
 use Rattle.map_defs.specs.Focal.{span, square, disc, offsets_of}
-use Rattle.map_defs.specs.Damage.{radius_of}
+use Rattle.map_defs.specs.Facts.{radius_of}
 use Rattle.map_defs.specs.Local.{cells_at}
 use Rattle.map_defs.specs.Operate.{operand}
 use Rattle.map_defs.proofs.RegionCells.{same_is}

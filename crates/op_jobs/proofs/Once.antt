@@ -10,7 +10,9 @@ use Rattle.map_nums.specs.declared.Stat.TheVariants.{Product}
 use Rattle.map_nums.specs.declared.Rate.{Rate}
 use Rattle.map_nums.specs.Grids.{Size, Cells, cell_at}
 use Rattle.map_defs.specs.Local.{LocalOp, of_stat, difference, ratio, rating}
-use Rattle.map_defs.specs.Ops.{Term, layer_term, number_term, Op, local_op, difference_op, ratio_op, rating_op, focal_op, zonal_op, form_op, direction_op, flow_op, spread_op, sight_op, region_op}
+use Rattle.map_defs.specs.Differences.{costs_by}
+use Rattle.map_defs.specs.Facts.{Class, zonal_class, sight_class, nearest_class, class_of}
+use Rattle.map_defs.specs.Ops.{Term, layer_term, number_term, Head, rating_head, focal_head, zonal_head, Op}
 use Rattle.map_defs.specs.Operate.{operand}
 use Rattle.layer_tiles.specs.Cells.{IsCell}
 use Rattle.layer_tiles.specs.Changes.{ChangeState}
@@ -20,13 +22,13 @@ use Rattle.drainage_flow.specs.FlowBands.{AreEven}
 use Rattle.drainage_flow.specs.declared.flow_band.FlowBand.{FlowBand}
 use Rattle.region_labels.specs.Roots.{IsBack, AreBack}
 use Rattle.local_ops.specs.declared.ops.LocalOp.{LocalOp as KernelOp}
-use Rattle.statement_parser.specs.Formed.{Each, IsRate, IsNoProduct, IsRadius}
+use Rattle.statement_parser.specs.Formed.{Each, IsRate, IsNoProduct, IsRadius, IsHead}
 use Rattle.statement_parser.specs.Views.{op_view}
 use Rattle.map_waves.specs.Statements.{cells_were}
 use Rattle.map_waves.specs.Jobs.{was_in}
 use Rattle.map_waves.specs.Keeping.{IsRightKept}
 use Rattle.map_waves.specs.declared.keeping.Kept.{Kept}
-use Rattle.op_jobs.specs.Beside.{IsNothing, IsBook, AreViewers, suits}
+use Rattle.op_jobs.specs.Beside.{IsNothing, IsBook, AreViewers, AreCosts, suits, suits_in}
 use Rattle.op_jobs.specs.Owning.{IsLocalOf, IsOwn}
 use Rattle.op_jobs.specs.Fresh.{AreBothCells, AreOnlyCells, IsCounted, IsGrounded}
 use Rattle.op_jobs.specs.declared.ground.BothCells.{BothCells}
@@ -36,7 +38,7 @@ use Rattle.op_jobs.specs.Lists.{IsList, IsListOf}
 use Rattle.op_jobs.specs.Ranges.{IsInRange, HasRanges}
 use Rattle.op_jobs.specs.Sound.{StatementJobs, IsSound}
 use Rattle.op_jobs.specs.declared.beside.Beside.{Beside}
-use Rattle.op_jobs.specs.declared.beside.Beside.TheVariants.{Nothing, Book, Viewers}
+use Rattle.op_jobs.specs.declared.beside.Beside.TheVariants as a_beside
 use Rattle.op_jobs.specs.declared.lists.LayerList.{LayerList}
 use Rattle.op_jobs.specs.declared.lists.LayerList.TheVariants.{Costs, Flow, Labels}
 use Rattle.op_jobs.specs.declared.own.Own.{Own}
@@ -67,62 +69,45 @@ radius_once : (r : Option ℕ) → IsProp (IsRadius r)
 radius_once None = Unit-prop
 radius_once (Some r) = hlevel props
 
+head_once : (head : Head) → IsProp (IsHead head)
+head_once (rating_head rs) = let each : IsProp (Each IsRate rs) = each_once IsRate rate_once rs in hlevel (each, props)
+head_once (focal_head s r) = ×_prop (no_product_once s) (radius_once r)
+head_once (zonal_head s) = no_product_once s
+head_once head = hlevel props
+
 op_once : (op : Op) → IsProp (HasRanges op)
-op_once (local_op s ignoring ts) = let each : IsProp (Each IsInRange ts) = each_once IsInRange term_once ts in hlevel (each, props)
-op_once (difference_op t u) = ×_prop (term_once t) (term_once u)
-op_once (ratio_op t u) = ×_prop (term_once t) (term_once u)
-op_once (rating_op t rs) =
-    let one : IsProp (IsInRange t) = term_once t in
-    let each : IsProp (Each IsRate rs) = each_once IsRate rate_once rs in
-    hlevel (one, each, props)
-op_once (focal_op s r t) =
-    let stat : IsProp (IsNoProduct s) = no_product_once s in
-    let radius : IsProp (IsRadius r) = radius_once r in
-    let one : IsProp (IsInRange t) = term_once t in
-    hlevel (stat, radius, one)
-op_once (zonal_op s t u) =
-    let stat : IsProp (IsNoProduct s) = no_product_once s in
-    let one : IsProp (IsInRange t) = term_once t in
-    let other : IsProp (IsInRange u) = term_once u in
-    hlevel (stat, one, other)
-op_once (form_op f t) = term_once t
-op_once (direction_op t) = term_once t
-op_once (flow_op t u) = ×_prop (term_once t) (term_once u)
-op_once (spread_op limit t u) =
-    let one : IsProp (IsInRange t) = term_once t in
-    let other : IsProp (IsInRange u) = term_once u in
-    hlevel (one, other, props)
-op_once (sight_op s t u) =
-    let one : IsProp (IsInRange t) = term_once t in
-    let other : IsProp (IsInRange u) = term_once u in
-    hlevel (one, other, props)
-op_once (region_op t) = term_once t
+op_once op =
+    let head : IsProp (IsHead op.head) = head_once op.head in
+    let each : IsProp (Each IsInRange op.terms) = each_once IsInRange term_once op.terms in
+    hlevel (head, each, props)
 
 -- ---- what is kept is right
 
 nothing_once : (b : Beside) → IsProp (IsNothing b)
-nothing_once Nothing = Unit-prop
-nothing_once (Book b) = hlevel
-nothing_once (Viewers v) = hlevel
+nothing_once a_beside.Nothing = Unit-prop
+nothing_once b = hlevel
 
 book_once : (s : Size) (values zones : Cells) (b : Beside) → IsProp (IsBook s values zones b)
-book_once s values zones Nothing = hlevel
-book_once s values zones (Book b) = hlevel props
-book_once s values zones (Viewers v) = hlevel
+book_once s values zones (a_beside.Book b) = hlevel props
+book_once s values zones b = hlevel
 
 viewers_once : (s : Size) (cells : Cells) (b : Beside) → IsProp (AreViewers s cells b)
-viewers_once s cells Nothing = hlevel
-viewers_once s cells (Book b) = hlevel
-viewers_once s cells (Viewers v) = hlevel props
+viewers_once s cells (a_beside.Viewers v) = hlevel props
+viewers_once s cells b = hlevel
 
-suits_once : (s : Size) (op : Op) (operands : List Cells) (b : Beside) → IsProp (suits s op operands b)
-suits_once s (zonal_op stat t u) operands b = book_once s (operand operands 0) (operand operands 1) b
-suits_once s (sight_op sight t u) operands b = viewers_once s (operand operands 0) b
-suits_once s op operands b = nothing_once b
+costs_once : (s : Size) (cells : Cells) (b : Beside) → IsProp (AreCosts s cells b)
+costs_once s cells (a_beside.Costs l) = hlevel props
+costs_once s cells b = hlevel
+
+suits_once : (class : Class) (s : Size) (operands : List Cells) (b : Beside) → IsProp (suits_in class s operands b)
+suits_once (zonal_class stat) s operands b = book_once s (operand operands 0) (operand operands 1) b
+suits_once (sight_class r) s operands b = viewers_once s (operand operands 0) b
+suits_once (nearest_class limit) s operands b = costs_once s (costs_by limit s operands) b
+suits_once class s operands b = nothing_once b
 
 right_once : (s : Size) (op : Op) (operands : List ChangeState) (kept : Option (Kept Beside)) → IsProp (IsRightKept suits s op operands kept)
 right_once s op operands None = Unit-prop
-right_once s op operands (Some k) = let beside : IsProp (suits s op (cells_were operands) k.beside) = suits_once s op (cells_were operands) k.beside in hlevel (beside, props)
+right_once s op operands (Some k) = let beside : IsProp (suits s op (cells_were operands) k.beside) = suits_once (class_of op) s (cells_were operands) k.beside in hlevel (beside, props)
 
 -- ---- what jobs share
 
@@ -161,7 +146,7 @@ listed_once s op operands was (Some list) work = let is : IsProp (IsList s list)
 own_once : (s : Size) (op : Op) (operands : List ChangeState) (was : Option Cells) (own : Own) → IsProp (IsOwn s op operands was own)
 own_once s op operands was (an_own.Tiles jobs) =
     let local : IsProp (IsLocalOf op jobs.local) = local_once op jobs.local in
-    let beside : IsProp (suits s op (cells_after operands) jobs.beside) = suits_once s op (cells_after operands) jobs.beside in
+    let beside : IsProp (suits s op (cells_after operands) jobs.beside) = suits_once (class_of op) s (cells_after operands) jobs.beside in
     let listed : IsProp (IsListOf s op operands was jobs.list jobs.worked) = listed_once s op operands was jobs.list jobs.worked in
     hlevel (local, beside, listed, props)
 own_once s op operands was (an_own.Whole set) = hlevel props

@@ -5,21 +5,22 @@ use Rattle.std.specs.List.{All}
 use Rattle.std.specs.Borrow.{Bor}
 use Rattle.map_nums.specs.Grids.{Size, Cells}
 use Rattle.map_nums.specs.Tiles.{tiles, tiles_in}
-use Rattle.map_defs.specs.Ops.{Op, local_op, difference_op, ratio_op, rating_op, focal_op, zonal_op, form_op, direction_op, flow_op, spread_op, sight_op, region_op}
-use Rattle.map_defs.specs.Damage.{has_work, reach_of}
+use Rattle.map_defs.specs.Facts.{Class, local_class, near_class, is_repaired}
+use Rattle.map_defs.specs.Ops.{Op}
+use Rattle.map_defs.specs.Damage.{reach_of}
 use Rattle.map_defs.specs.Sight.{most_viewers}
 use Rattle.layer_tiles.specs.Changes.{ChangeState}
 use Rattle.layer_tiles.specs.Operands.{size_of}
 use Rattle.damage_sets.specs.Sets.{TileSetState, has_tile}
 use Rattle.damage_sets.specs.Damage.{damage_of}
 use Rattle.statement_parser.specs.Views.{op_view}
-use Rattle.map_waves.specs.Statements.{damage_by, viewers_in}
+use Rattle.map_waves.specs.Statements.{damage_by, viewers_by}
 use Rattle.map_waves.specs.Operands.{IsOperand}
 use Rattle.map_waves.specs.Keeping.{kept_now, was_of, IsRightKept}
 use Rattle.map_waves.specs.Jobs.{was_in}
 use Rattle.map_waves.specs.declared.keeping.Kept.{Kept}
-use Rattle.op_jobs.specs.Beside.{suits}
-use Rattle.op_jobs.specs.Classes.{by_reach, is_plain}
+use Rattle.op_jobs.specs.Beside.{suits, suits_in}
+use Rattle.op_jobs.specs.Classes.{by_reach, by_reach_in, is_plain_in}
 use Rattle.op_jobs.specs.Operands.{AreOperandsOf}
 use Rattle.op_jobs.specs.Owning.{reached, IsOwn, AreTileJobs}
 use Rattle.op_jobs.specs.Sound.{StatementJobs, IsSound}
@@ -69,25 +70,16 @@ listed_is s op (Some w) operands r set list by e is items =
 
 -- ---- those whose tiles come from the operands alone
 
-pub record IsPlain (s : Size) (op : Op) (cells : List Cells) : Type 0 where
-  pub by : by_reach op ≡ true
-  pub class : IsFalse (has_work op)
-  pub beside_is : suits s op cells Nothing
-  pub viewers : IsFalse (nat_lt most_viewers (viewers_in op cells))
+pub record IsPlain (s : Size) (c : Class) (cells : List Cells) : Type 0 where
+  pub by : by_reach_in c ≡ true
+  pub class : IsFalse (is_repaired c)
+  pub beside_is : suits_in c s cells Nothing
+  pub viewers : IsFalse (nat_lt most_viewers (viewers_by c cells))
 
-pub plain_is : (s : Size) (op : Op) (cells : List Cells) → IsTrue (is_plain op) → IsPlain s op cells
-plain_is s (local_op stat ignoring ts) cells e = record { by = refl; class = refl; beside_is = tt; viewers = refl }
-plain_is s (difference_op t u) cells e = record { by = refl; class = refl; beside_is = tt; viewers = refl }
-plain_is s (ratio_op t u) cells e = record { by = refl; class = refl; beside_is = tt; viewers = refl }
-plain_is s (rating_op t rates) cells e = record { by = refl; class = refl; beside_is = tt; viewers = refl }
-plain_is s (focal_op stat r t) cells e = record { by = refl; class = refl; beside_is = tt; viewers = refl }
-plain_is s (form_op form t) cells e = record { by = refl; class = refl; beside_is = tt; viewers = refl }
-plain_is s (direction_op t) cells e = record { by = refl; class = refl; beside_is = tt; viewers = refl }
-plain_is s (zonal_op stat t u) cells e = absurd cc
-plain_is s (flow_op t u) cells e = absurd cc
-plain_is s (spread_op limit t u) cells e = absurd cc
-plain_is s (sight_op sight t u) cells e = absurd cc
-plain_is s (region_op t) cells e = absurd cc
+pub plain_is : (s : Size) (class : Class) (cells : List Cells) → IsTrue (is_plain_in class) → IsPlain s class cells
+plain_is s local_class cells e = record { by = refl; class = refl; beside_is = tt; viewers = refl }
+plain_is s (near_class r) cells e = record { by = refl; class = refl; beside_is = tt; viewers = refl }
+plain_is s class cells e = absurd cc
 
 -- ---- of sound jobs
 

@@ -1,5 +1,5 @@
 -- Which results are in range, and how much work a repair is at most.
-use Rattle.std.proofs.Common.{◌≡◌, ℕ, suc, ◌^◌, ◌<◌, ◌≤◌, Bool, true, false, cond, List, [], length, Option, Some, None, ℤ, pos, refl, ◌∙◌, ap, arith}
+use Rattle.std.proofs.Common.{◌≡◌, ℕ, suc, ◌^◌, ◌<◌, ◌≤◌, Bool, true, false, cond, List, [], length, Option, Some, None, ℤ, pos, refl, ◌∙◌, ap, subst, arith}
 use Rattle.std.specs.Prelude.{not, filter, is_some}
 use Rattle.std.specs.List.{position}
 use Rattle.std.proofs.lemmas.List.FromFn.{length-range_with_len, length-map-range_with_len, get_or-map-range_with_len}
@@ -8,12 +8,15 @@ use Rattle.map_nums.specs.Numbers.{greatest_value}
 use Rattle.map_nums.specs.Grids.{Size, IsSize, Cells, cell_at, cells_in, places}
 use Rattle.map_nums.proofs.Ranges.{in_range_from_magnitude}
 use Rattle.map_defs.specs.Damage.{has_work}
-use Rattle.map_defs.specs.Differences.{differs, has_changed}
+use Rattle.map_defs.specs.Differences.{has_changed}
 use Rattle.map_defs.specs.Flow.{flow_at, flow_grid}
-use Rattle.map_defs.specs.Ops.{Op, local_op, difference_op, ratio_op, rating_op, focal_op, zonal_op, form_op, direction_op, flow_op, spread_op, sight_op, region_op}
+use Rattle.map_defs.specs.Facts.{Class, local_class, class_of}
+use Rattle.map_defs.specs.Ops.{Op}
+use Rattle.map_defs.specs.Nearest.{begins_at, IsNearestCell, AreNearest}
 use Rattle.map_defs.specs.Regions.{IsLabelOf, AreRegions}
 use Rattle.map_defs.specs.Spread.{IsSpreadCell, IsSpread}
-use Rattle.map_defs.specs.Work.{is_touched, further_places, first_work, repair_work, op_work}
+use Rattle.map_defs.specs.Work.{further_places, first_work, repair_work, op_work}
+use Rattle.layer_tiles.specs.Cells.{IsCell, AreCells}
 use Rattle.drainage_flow.specs.Overflows.{IsOverflow}
 use Rattle.changed_cells.proofs.Joining.{filter_most}
 use Rattle.op_jobs.proofs.Narrow.{position_none, position_wide}
@@ -34,6 +37,15 @@ cost_narrow s sources friction limit i (Some z) l h = ap (λ x. is_wide (Some x)
 
 pub spread_narrow : (s : Size) (sources friction : Cells) (limit : ℕ) (cells : Cells) → IsSize s → limit ≤ greatest_value → IsSpread s sources friction limit cells → position is_wide cells ≡ None
 spread_narrow s sources friction limit cells h l is = all_narrow s cells h is.full (λ i m. cost_narrow s sources friction limit i (cell_at cells i) l (is.each i m))
+
+-- ---- nearest sources
+
+number_narrow : (s : Size) (sources friction : Cells) (limit i : ℕ) (c : Option ℤ) → AreCells sources → IsNearestCell s sources friction limit i c → is_wide c ≡ false
+number_narrow s sources friction limit i None are h = refl
+number_narrow s sources friction limit i (Some z) are h = let begun = h.3.some in ap not (subst IsCell begun.3 (are.each (begins_at i begun.0)))
+
+pub nearest_narrow : (s : Size) (sources friction : Cells) (limit : ℕ) (cells : Cells) → IsSize s → AreCells sources → AreNearest s sources friction limit cells → position is_wide cells ≡ None
+nearest_narrow s sources friction limit cells h are is = all_narrow s cells h is.full (λ i m. number_narrow s sources friction limit i (cell_at cells i) are (is.each i m))
 
 -- ---- regions
 
@@ -73,19 +85,9 @@ module _ (s : Size) (before after : List Cells) where
   most : (p : ℕ → Bool) → length (filter p (places s)) ≤ cells_in s
   most p = omega (arith, filter_most p (places s), length-range_with_len 0 (cells_in s))
 
-  further_most : (op : Op) (changed : List ℕ) (was now : Cells) → length (further_places op s changed was now) ≤ cells_in s
-  further_most (local_op stat ignoring ts) changed was now = most (differs was now)
-  further_most (difference_op t u) changed was now = most (differs was now)
-  further_most (ratio_op t u) changed was now = most (differs was now)
-  further_most (rating_op t rates) changed was now = most (differs was now)
-  further_most (focal_op stat r t) changed was now = most (differs was now)
-  further_most (zonal_op stat t u) changed was now = most (differs was now)
-  further_most (form_op f t) changed was now = most (differs was now)
-  further_most (direction_op t) changed was now = most (differs was now)
-  further_most (flow_op t u) changed was now = most (differs was now)
-  further_most (spread_op limit t u) changed was now = most (differs was now)
-  further_most (sight_op sight t u) changed was now = most (differs was now)
-  further_most (region_op t) changed was now = most (is_touched s now changed)
+  further_most : (class : Class) (was now : Cells) → length (further_places class s before after was now) ≤ cells_in s
+  further_most local_class was now = most _
+  further_most class was now = most _
 
   less_if : (v : Bool) (n m : ℕ) → n < m → cond v n 0 < m
   less_if true n m l = l
@@ -96,5 +98,4 @@ module _ (s : Size) (before after : List Cells) where
   unfolding op_work
   work_little op None now h = less_if (has_work op) (first_work s now) (2 ^ 32) (omega (arith, most (λ i. is_some (cell_at now i)), h.most_cells))
   work_little op (Some was) now h =
-      let changed = filter (has_changed before after) (places s) in
-      less_if (has_work op) (repair_work op s changed was now) (2 ^ 32) (omega (arith, most (has_changed before after), further_most op changed was now, h.most_cells))
+      less_if (has_work op) (repair_work (class_of op) s before after was now) (2 ^ 32) (omega (arith, most (has_changed before after), further_most (class_of op) was now, h.most_cells))

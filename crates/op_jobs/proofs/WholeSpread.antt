@@ -26,7 +26,7 @@ use Rattle.op_jobs.specs.Whole.{IsRightBefore}
 use Rattle.op_jobs.proofs.WholeTiles.{numbers_exact, patch_of, patch_all, patch_some}
 use Rattle.op_jobs.proofs.WholeRanges.{spread_narrow, work_little}
 
-patch_to : (s : Size) (old : Option LayerState) (now : Cells) (held : List (ℕ × Block)) → patched s (base_of (before_of old)) held ≡ now → IsPatchFor s old held → IsPatchTo s (before_of old) now held
+pub patch_to : (s : Size) (old : Option LayerState) (now : Cells) (held : List (ℕ × Block)) → patched s (base_of (before_of old)) held ≡ now → IsPatchFor s old held → IsPatchTo s (before_of old) now held
 patch_to s None now held e p = patch_all s now held e p
 patch_to s (Some l) now held e p = patch_some s l.cells now held e p
 

@@ -1,5 +1,5 @@
 -- What parts of a map's tiles count, and the looks that it takes.
-use Rattle.std.proofs.Common.{◌≡◌, ℕ, zero, suc, ℤ, ◌+◌, ◌-◌, ◌*◌, ◌<◌, Bool, true, false, List, [], ◌∷◌, length, Option, Some, None, slice_get, refl, sym, ap, subst, ◌∙◌, arith, IsTrue, cond, Result, IfOk}
+use Rattle.std.proofs.Common.{◌≡◌, ℕ, zero, suc, ℤ, ◌+◌, ◌-◌, ◌*◌, ◌<◌, Bool, true, false, List, [], ◌∷◌, length, Option, Some, None, slice_get, refl, sym, ap, subst, ◌∙◌, arith, IsTrue, cond, Result, Ok, Err, IfOk}
 use Rattle.std.specs.Prelude.{IfSome, Vec, is_some}
 use Rattle.std.specs.Borrow.{Bor}
 use Rattle.std.specs.List.{All, sum_by, range_with_len}
@@ -10,7 +10,8 @@ use Rattle.map_nums.specs.Grids.{Size, Cells}
 use Rattle.map_nums.specs.Tiles.{tiles_in}
 use Rattle.map_defs.specs.Damage.{has_work}
 use Rattle.map_defs.specs.Operate.{operand}
-use Rattle.map_defs.specs.Ops.{Op, Term, local_op, difference_op, ratio_op, rating_op, focal_op, zonal_op, form_op, direction_op, flow_op, spread_op, sight_op, region_op}
+use Rattle.map_defs.specs.Facts.{Class, zonal_class, facts, class_of, is_repaired}
+use Rattle.map_defs.specs.Ops.{Head, zonal_head, Op, Term, zonal_op}
 use Rattle.layer_tiles.specs.Changes.{ChangeState}
 use Rattle.layer_tiles.specs.Operands.{cells_after}
 use Rattle.layer_tiles.specs.Tallies.{TallyState, RisesBy}
@@ -25,8 +26,8 @@ use Rattle.map_waves.specs.Operands.{IsOperand}
 use Rattle.map_waves.specs.Keeping.{kept_now, was_of}
 use Rattle.map_waves.specs.declared.keeping.Kept.{Kept}
 use Rattle.map_waves.proofs.Totals.{sum_next}
-use Rattle.op_jobs.specs.Classes.{is_zonal, is_region}
-use Rattle.op_jobs.specs.Fresh.{is_banded, AreBothCells, AreOnlyCells, IsCounted, IsCosts, IsFlows, IsLabels, IsCounts, AreAllCounts, IsGrounded, IsBand, IsPart, grounding, finding}
+use Rattle.op_jobs.specs.Classes.{is_zonal, is_zonal_in, is_region_in}
+use Rattle.op_jobs.specs.Fresh.{is_banded_in, AreBothCells, AreOnlyCells, IsCounted, IsCosts, IsFlows, IsLabels, IsCounts, AreAllCounts, IsGrounded, IsBand, IsPart, grounding, finding}
 use Rattle.op_jobs.specs.Parts.{part_start}
 use Rattle.op_jobs.specs.declared.beside.Beside.{Beside}
 use Rattle.op_jobs.specs.declared.ground.BothCells.{BothCells}
@@ -34,28 +35,11 @@ use Rattle.op_jobs.specs.declared.ground.Ground.{Ground}
 use Rattle.op_jobs.specs.declared.ground.Ground.TheVariants as a_ground
 use Rattle.op_jobs.specs.declared.ground.Part.{Part}
 use Rattle.op_jobs.specs.declared.ground.Part.TheVariants.{Costs, Flows, Labels, Counts}
-use Rattle.op_jobs.proofs.FreshOps.{region_is}
 use Rattle.op_jobs.proofs.Starts.{part_first, part_last, part_rises}
 use Rattle.op_jobs.proofs.ZonalBook.{values_are, zones_are, second_in}
 
--- ---- what holds of each zonal operation holds of this one
-
 no : false ≡ true → ⊥
 no e = cc
-
-pub zonal_is : (op : Op) → IsTrue (is_zonal op) → (P : Op → Type 0) → ((stat : Stat) (t u : Term) → P (zonal_op stat t u)) → P op
-zonal_is (local_op stat ignoring ts) z P h = absurd (no z)
-zonal_is (difference_op t u) z P h = absurd (no z)
-zonal_is (ratio_op t u) z P h = absurd (no z)
-zonal_is (rating_op t rates) z P h = absurd (no z)
-zonal_is (focal_op stat r t) z P h = absurd (no z)
-zonal_is (zonal_op stat t u) z P h = h stat t u
-zonal_is (form_op f t) z P h = absurd (no z)
-zonal_is (direction_op t) z P h = absurd (no z)
-zonal_is (flow_op t u) z P h = absurd (no z)
-zonal_is (spread_op limit t u) z P h = absurd (no z)
-zonal_is (sight_op sight t u) z P h = absurd (no z)
-zonal_is (region_op t) z P h = absurd (no z)
 
 -- ---- looks
 
@@ -66,10 +50,15 @@ counted_to all n (suc m) some =
     let more : sum_by f (range_with_len 0 (suc m)) ≡ sum_by f (range_with_len 0 m) + 2 * (part_start all n (suc m) - part_start all n m) = (let here : 0 + m ≡ m = omega arith in sum_next f 0 m ∙ ap (λ j. sum_by f (range_with_len 0 m) + 2 * (part_start all n (suc j) - part_start all n j)) here) in
     omega (arith, more, counted_to all n m some, part_rises all n 0 m some (omega arith))
 
+-- by part, of a zonal statement's tiles or of none
+abbrev finding_if : Bool → Size → ℕ → ℕ → ℕ
+finding_if zonal s n k = cond zonal (2 * (part_start (tiles_in s) n (suc k) - part_start (tiles_in s) n k)) 0
+
 -- the parts of a zonal statement's tiles
 pub tiles_counted : (s : Size) (op : Op) (operands : List ChangeState) (n : ℕ) → IsTrue (is_zonal op) → 0 < n → sum_by (finding s op operands n) (range_with_len 0 n) ≡ 2 * tiles_in s
 tiles_counted s op operands n z some =
-    zonal_is op z (λ o. sum_by (finding s o operands n) (range_with_len 0 n) ≡ 2 * tiles_in s) (λ stat t u. counted_to (tiles_in s) n n some ∙ ap (λ m. 2 * m) (part_last (tiles_in s) n some))
+    let P : Bool → Type 0 = λ b. sum_by (finding_if b s n) (range_with_len 0 n) ≡ 2 * tiles_in s in
+    subst P (sym z) (counted_to (tiles_in s) n n some ∙ ap (λ m. 2 * m) (part_last (tiles_in s) n some))
 
 quiet : (xs : List ℕ) → sum_by (λ (k : ℕ). 0) xs ≡ 0
 quiet [] = refl
@@ -78,25 +67,20 @@ quiet (x ∷ xs) = omega (arith, quiet xs, sum_by-cons (λ (k : ℕ). 0) x xs)
 -- bands
 bands_quiet : (s : Size) (op : Op) (operands : List ChangeState) (n : ℕ) → is_zonal op ≡ false → sum_by (finding s op operands n) (range_with_len 0 n) ≡ 0
 bands_quiet s op operands n other =
-    let P : Bool → Type 0 = λ b. sum_by (λ (k : ℕ). let v : ℕ = cond b (2 * (part_start (tiles_in s) n (suc k) - part_start (tiles_in s) n k)) 0 in v) (range_with_len 0 n) ≡ 0 in
+    let P : Bool → Type 0 = λ b. sum_by (finding_if b s n) (range_with_len 0 n) ≡ 0 in
     subst P (sym other) (quiet (range_with_len 0 n))
 
-pub banded_other : (op : Op) → IsTrue (is_banded op) → is_zonal op ≡ false
-banded_other (local_op stat ignoring ts) b = refl
-banded_other (difference_op t u) b = refl
-banded_other (ratio_op t u) b = refl
-banded_other (rating_op t rates) b = refl
-banded_other (focal_op stat r t) b = refl
-banded_other (zonal_op stat t u) b = absurd (no b)
-banded_other (form_op f t) b = refl
-banded_other (direction_op t) b = refl
-banded_other (flow_op t u) b = refl
-banded_other (spread_op limit t u) b = refl
-banded_other (sight_op sight t u) b = refl
-banded_other (region_op t) b = refl
+pub banded_other : (class : Class) → IsTrue (is_banded_in class) → is_zonal_in class ≡ false
+banded_other (zonal_class stat) b = absurd (no b)
+banded_other class b = refl
 
-pub region_other : (op : Op) → IsTrue (is_region op) → is_zonal op ≡ false
-region_other op r = region_is op r (λ o. is_zonal o ≡ false) (λ t. refl)
+pub region_other : (class : Class) → IsTrue (is_region_in class) → is_zonal_in class ≡ false
+region_other (zonal_class stat) r = absurd (no r)
+region_other class r = refl
+
+worked_other : (class : Class) → IsTrue (is_repaired class) → is_zonal_in class ≡ false
+worked_other (zonal_class stat) w = absurd (no w)
+worked_other class w = refl
 
 pub none_was : (kept : Option (Bor (Kept Beside))) → false ≡ is_some kept → was_of (kept_now kept) ≡ None
 none_was None e = refl
@@ -116,11 +100,16 @@ bands_found s op was operands n a b c none other r q =
 
 -- ---- what is found
 
+counted_in : (head : Head) (s : Size) (values zones : Cells) (n k : ℕ) (p : Part) → IsTrue (is_zonal_in (facts head).class) → IsCounts s values zones n k p → IsBand head s values zones n k p
+counted_in (zonal_head stat) s values zones n k p z h = h
+counted_in head s values zones n k p z h = absurd (no z)
+
 pub part_counted : {E : Type 0} (s : Size) (op : Op) (operands : List ChangeState) (n k : ℕ) (r : Result Part E) → IsTrue (is_zonal op) → IfOk r (IsCounts s (operand (cells_after operands) 0) (operand (cells_after operands) 1) n k) → IfOk r (IsPart s op operands n k)
-part_counted s op operands n k r z = zonal_is op z (λ o. IfOk r (IsCounts s (operand (cells_after operands) 0) (operand (cells_after operands) 1) n k) → IfOk r (IsPart s o operands n k)) (λ stat t u h. h)
+part_counted s op operands n k (Ok p) z h = counted_in op.head s (operand (cells_after operands) 0) (operand (cells_after operands) 1) n k p z h
+part_counted s op operands n k (Err e) z h = tt
 
 pub part_rises_by : (s : Size) (op : Op) (operands : List ChangeState) (n k : ℕ) (a b : TallyState) → IsTrue (is_zonal op) → RisesBy (2 * (part_start (tiles_in s) n (suc k) - part_start (tiles_in s) n k)) 0 a b → RisesBy (finding s op operands n k) 0 a b
-part_rises_by s op operands n k a b z = zonal_is op z (λ o. RisesBy (2 * (part_start (tiles_in s) n (suc k) - part_start (tiles_in s) n k)) 0 a b → RisesBy (finding s o operands n k) 0 a b) (λ stat t u r. r)
+part_rises_by s op operands n k a b z = subst (λ zonal. RisesBy (finding_if zonal s n k) 0 a b) (sym z)
 
 pub counts_are : (s : Size) (xs : List ChangeState) (v z : ChangeState) (n m k all first end : ℕ) (c : CountsState) → xs ≡ v ∷ z ∷ [] → All (IsOperand s) xs → all ≡ tiles_in s → m ≡ n → first ≡ part_start all m k → end ≡ part_start all m (k + 1) → AreTileCounts z.size v.cells z.cells first end c
     → IsCounts s (operand (cells_after xs) 0) (operand (cells_after xs) 1) n k (Counts c)
@@ -143,7 +132,7 @@ some_parts s op operands n a_ground.Tiles is = is.some
 pub all_counts : (s : Size) (op : Op) (operands : List ChangeState) (ground : Ground) (parts : List Part) (stat : Stat) (t u : Term) → op ≡ zonal_op stat t u → AreFound IsGrounded IsPart s op operands ground parts → AreAllCounts s (operand (cells_after operands) 0) (operand (cells_after operands) 1) parts
 all_counts s op operands ground parts stat t u is found = record {
   some = some_parts s op operands (length parts) ground found.from;
-  each = λ k p e. subst (λ (o : Op). IsBand o s (operand (cells_after operands) 0) (operand (cells_after operands) 1) (length parts) k p) is (found.each k p e);
+  each = λ k p e. subst (λ (o : Op). IsBand o.head s (operand (cells_after operands) 0) (operand (cells_after operands) 1) (length parts) k p) is (found.each k p e);
 }
 
 pub counts_found : (s : Size) (op : Op) (operands : List ChangeState) (found : Option (Ground × Vec Part Global)) (stat : Stat) (t u : Term) → op ≡ zonal_op stat t u → IfSome found (λ q. AreFound IsGrounded IsPart s op operands q.0 q.1.items)
@@ -164,7 +153,7 @@ found_only s op operands ground cells parts is found = subst (λ (g : Ground). I
 pub tiles_worked : (s : Size) (op : Op) (operands : List ChangeState) (ground : Ground) (parts : List Part) → ground ≡ a_ground.Tiles → IsTrue (has_work op) → AreFound IsGrounded IsPart s op operands ground parts → ⊥
 tiles_worked s op operands ground parts is works found =
     let from : IsCounted s op operands (length parts) = subst (λ (g : Ground). IsGrounded s op operands (length parts) g) is found.from in
-    zonal_is op from.zonal (λ o. IsTrue (has_work o) → ⊥) (λ stat t u w. no w) works
+    no (sym (worked_other (class_of op) works) ∙ from.zonal)
 
 -- ---- parts of one kind are no others
 

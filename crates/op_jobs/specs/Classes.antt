@@ -1,40 +1,60 @@
--- Kinds of operations.
+-- Kinds of operations, by their classes.
 use Rattle.std.specs.Prelude.{Bool, true, false}
-use Rattle.map_defs.specs.Ops.{Op, local_op, difference_op, ratio_op, rating_op, zonal_op, flow_op, spread_op, sight_op, region_op}
+use Rattle.map_defs.specs.Ops.{Op}
+use Rattle.map_defs.specs.Facts.{Class, local_class, near_class, zonal_class, sight_class, path_class, nearest_class, region_class, class_of}
+
+abbrev pub is_local_in : Class → Bool
+is_local_in local_class = true
+is_local_in class = false
+
+abbrev pub by_reach_in : Class → Bool
+by_reach_in (zonal_class stat) = false
+by_reach_in path_class = false
+by_reach_in (nearest_class limit) = false
+by_reach_in region_class = false
+by_reach_in class = true
+
+abbrev pub is_plain_in : Class → Bool
+is_plain_in local_class = true
+is_plain_in (near_class r) = true
+is_plain_in class = false
+
+abbrev pub is_zonal_in : Class → Bool
+is_zonal_in (zonal_class stat) = true
+is_zonal_in class = false
+
+abbrev pub is_sight_in : Class → Bool
+is_sight_in (sight_class r) = true
+is_sight_in class = false
+
+abbrev pub is_nearest_in : Class → Bool
+is_nearest_in (nearest_class limit) = true
+is_nearest_in class = false
+
+abbrev pub is_region_in : Class → Bool
+is_region_in region_class = true
+is_region_in class = false
 
 -- a cell comes from the operands' cells at its place
 abbrev pub is_local : Op → Bool
-is_local (local_op stat ignoring ts) = true
-is_local (difference_op t u) = true
-is_local (ratio_op t u) = true
-is_local (rating_op t rates) = true
-is_local op = false
+is_local op = is_local_in (class_of op)
 
 -- its reach alone tells its damage
 abbrev pub by_reach : Op → Bool
-by_reach (zonal_op stat t u) = false
-by_reach (flow_op t u) = false
-by_reach (spread_op limit t u) = false
-by_reach (region_op t) = false
-by_reach op = true
+by_reach op = by_reach_in (class_of op)
 
 -- its tiles come from the operands alone
 abbrev pub is_plain : Op → Bool
-is_plain (zonal_op stat t u) = false
-is_plain (sight_op sight t u) = false
-is_plain (flow_op t u) = false
-is_plain (spread_op limit t u) = false
-is_plain (region_op t) = false
-is_plain op = true
+is_plain op = is_plain_in (class_of op)
 
 abbrev pub is_zonal : Op → Bool
-is_zonal (zonal_op stat t u) = true
-is_zonal op = false
+is_zonal op = is_zonal_in (class_of op)
 
 abbrev pub is_sight : Op → Bool
-is_sight (sight_op sight t u) = true
-is_sight op = false
+is_sight op = is_sight_in (class_of op)
+
+abbrev pub is_nearest : Op → Bool
+is_nearest op = is_nearest_in (class_of op)
 
 abbrev pub is_region : Op → Bool
-is_region (region_op t) = true
-is_region op = false
+is_region op = is_region_in (class_of op)

@@ -2,7 +2,8 @@
 use Rattle.std.specs.Prelude.{◌≡◌, ℕ, suc, ◌-◌, ◌*◌, ◌<◌, ◌≤◌, List, length, Option, Some, None, Bool, true, false, IsTrue, slice_get, if◌then◌else◌}
 use Rattle.map_nums.specs.Grids.{Size, Cells, cells_in}
 use Rattle.map_nums.specs.Tiles.{tiles_in}
-use Rattle.map_defs.specs.Ops.{Op, zonal_op, flow_op, spread_op, region_op}
+use Rattle.map_defs.specs.Ops.{Head, zonal_head, flow_head, spread_head, region_head, Op}
+use Rattle.map_defs.specs.Facts.{Class, path_class, class_of}
 use Rattle.map_defs.specs.Operate.{operand}
 use Rattle.layer_tiles.specs.Changes.{ChangeState}
 use Rattle.layer_tiles.specs.Operands.{cells_after}
@@ -22,10 +23,12 @@ use Rattle.op_jobs.specs.declared.ground.Part.{Part}
 use Rattle.op_jobs.specs.declared.ground.Part.TheVariants.{Costs, Flows, Labels, Counts}
 
 -- workers make its layer in bands where it was not there
+abbrev pub is_banded_in : Class → Bool
+is_banded_in path_class = true
+is_banded_in class = false
+
 abbrev pub is_banded : Op → Bool
-is_banded (flow_op t u) = true
-is_banded (spread_op limit t u) = true
-is_banded op = false
+is_banded op = is_banded_in (class_of op)
 
 -- all cells of both operands, for n bands
 pub record AreBothCells (s : Size) (op : Op) (operands : List ChangeState) (n : ℕ) (ground : BothCells) : Type 0 where
@@ -98,12 +101,12 @@ pub record AreAllCounts (s : Size) (values zones : Cells) (parts : List Part) : 
   pub some : 0 < length parts
   pub each : (k : ℕ) (p : Part) → slice_get parts k ≡ Some p → IsCounts s values zones (length parts) k p
 
-abbrev pub IsBand : Op → Size → Cells → Cells → ℕ → ℕ → Part → Type 0
-IsBand (spread_op limit t u) s sources friction n k part = IsCosts (ground_of s sources friction limit) n k part
-IsBand (flow_op t u) s surface weights n k part = IsFlows s surface weights n k part
-IsBand (region_op t) s first second n k part = IsLabels s first n k part
-IsBand (zonal_op stat t u) s values zones n k part = IsCounts s values zones n k part
-IsBand op s first second n k part = ⊥
+abbrev pub IsBand : Head → Size → Cells → Cells → ℕ → ℕ → Part → Type 0
+IsBand (spread_head limit) s sources friction n k part = IsCosts (ground_of s sources friction limit) n k part
+IsBand flow_head s surface weights n k part = IsFlows s surface weights n k part
+IsBand region_head s first second n k part = IsLabels s first n k part
+IsBand (zonal_head stat) s values zones n k part = IsCounts s values zones n k part
+IsBand head s first second n k part = ⊥
 
 abbrev pub IsPart : Size → Op → List ChangeState → ℕ → ℕ → Part → Type 0
-IsPart s op operands n k part = IsBand op s (operand (cells_after operands) 0) (operand (cells_after operands) 1) n k part
+IsPart s op operands n k part = IsBand op.head s (operand (cells_after operands) 0) (operand (cells_after operands) 1) n k part

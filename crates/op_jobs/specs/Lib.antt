@@ -4,6 +4,7 @@ pub mod Classes
 pub mod Fresh
 pub mod Kernels
 pub mod Lists
+pub mod Nearest
 pub mod Operands
 pub mod Others
 pub mod Owning

@@ -11,6 +11,7 @@ use Rattle.drainage_flow.specs.FlowBands.{all_flows, AreEven}
 use Rattle.drainage_flow.specs.Whole.{flow_cells}
 use Rattle.region_labels.specs.Roots.{AreBack, resolved_cells}
 use Rattle.map_waves.specs.Statements.{made, work_by}
+use Rattle.op_jobs.specs.Classes.{is_nearest}
 use Rattle.op_jobs.specs.declared.lists.LayerList.{LayerList}
 use Rattle.op_jobs.specs.declared.lists.LayerList.TheVariants.{Costs, Flow, Labels}
 
@@ -29,6 +30,7 @@ list_cells s (Labels list) = resolved_cells s list.labels.items
 -- the layer of an operation that had none, and the work
 pub record IsListMade (s : Size) (op : Op) (operands : List ChangeState) (list : LayerList) (work : ℕ) : Type 0 where
   pub class : IsTrue (has_work op)
+  pub alone : IsFalse (is_nearest op)
   pub list_is : IsList s list
   pub cells : list_cells s list ≡ made s op (cells_after operands)
   pub work_is : work ≡ work_by s op None operands

@@ -2,7 +2,7 @@
 use Rattle.std.specs.Prelude.{◌≡◌, List, length, Option}
 use Rattle.std.specs.List.{All}
 use Rattle.map_nums.specs.Grids.{Size}
-use Rattle.map_defs.specs.Ops.{Op, terms_of}
+use Rattle.map_defs.specs.Ops.{Op}
 use Rattle.layer_tiles.specs.Changes.{ChangeState}
 use Rattle.map_waves.specs.Keeping.{IsRightKept}
 use Rattle.map_waves.specs.Operands.{IsOperand}
@@ -14,7 +14,7 @@ use Rattle.op_jobs.specs.declared.beside.Beside.{Beside}
 -- those of an operation whose numbers are in range: one for each of its terms, all of one extent
 pub record AreOperandsOf (s : Size) (op : Op) (operands : List ChangeState) : Type 0 where
   pub formed : HasRanges op
-  pub count : length operands ≡ length (terms_of op)
+  pub count : length operands ≡ length op.terms
   pub each : All (IsOperand s) operands
 
 -- both of an operation that takes two, of one extent

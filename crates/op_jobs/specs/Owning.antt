@@ -2,7 +2,7 @@
 use Rattle.std.specs.Prelude.{◌≡◌, ℕ, ◌*◌, true, List, length, Option, Some, None, Result, Ok, Err, IsTrue, IsFalse, nat_lt, replicate}
 use Rattle.map_nums.specs.Grids.{Size, Cells}
 use Rattle.map_nums.specs.Tiles.{tiles_in}
-use Rattle.map_defs.specs.Ops.{Op, terms_of}
+use Rattle.map_defs.specs.Ops.{Op}
 use Rattle.map_defs.specs.Damage.{has_work}
 use Rattle.map_defs.specs.Sight.{most_viewers}
 use Rattle.layer_tiles.specs.Changes.{ChangeState}
@@ -25,7 +25,7 @@ use Rattle.op_jobs.specs.declared.own.Own.TheVariants.{Tiles, Whole}
 -- the kernel's form of a Local operation; none of any other
 abbrev pub IsLocalOf : Op → Option LocalOp → Type 0
 IsLocalOf op None = IsFalse (is_local op)
-IsLocalOf op (Some l) = IsKernelOf op (op_of l) × Takes (op_of l) (length (terms_of op))
+IsLocalOf op (Some l) = IsKernelOf op (op_of l) × Takes (op_of l) (length op.terms)
 
 -- a job for each tile of the damage
 pub record AreTileJobs (s : Size) (op : Op) (operands : List ChangeState) (was : Option Cells) (jobs : TileJobs) : Type 0 where

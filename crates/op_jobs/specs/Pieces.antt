@@ -12,8 +12,12 @@ use Rattle.layer_tiles.specs.Patches.{PatchState, patched, numbers_of}
 use Rattle.layer_tiles.specs.Tiles.{Block, IsBlockOf, tile_cells, tile_block}
 use Rattle.layer_tiles.specs.declared.kernels.KernelRefusal.{KernelRefusal}
 use Rattle.layer_tiles.specs.declared.kernels.KernelRefusal.TheVariants.{Overflow, NoMemory}
+use Rattle.map_waves.specs.Gathered.{IsRepaired}
 use Rattle.map_waves.specs.Statements.{made, work_by}
+use Rattle.map_waves.specs.declared.keeping.Made.{Made}
+use Rattle.op_jobs.specs.Beside.{suits}
 use Rattle.op_jobs.specs.Changed.{is_changed}
+use Rattle.op_jobs.specs.declared.beside.Beside.{Beside}
 use Rattle.op_jobs.specs.declared.pieces.Piece.{Piece}
 use Rattle.op_jobs.specs.declared.pieces.Piece.TheVariants.{Tile, Whole}
 
@@ -27,7 +31,7 @@ pub record IsTileMade (s : Size) (was : Option Cells) (now : Cells) (t : ℕ) (m
 -- want of memory is free
 abbrev pub IsTilePiece : Size → Option Cells → Cells → ℕ → Result Piece KernelRefusal → Type 0
 IsTilePiece s was now t (Ok (Tile made)) = IsTileMade s was now t made
-IsTilePiece s was now t (Ok (Whole patch work)) = ⊥
+IsTilePiece s was now t (Ok (Whole m)) = ⊥
 IsTilePiece s was now t (Err (Overflow at)) = IsLeastWide s now t at
 IsTilePiece s was now t (Err NoMemory) = Unit {0}
 
@@ -35,12 +39,12 @@ IsTilePiece s was now t (Err NoMemory) = Unit {0}
 abbrev pub tiles_at : ℕ → Piece → List (ℕ × Block)
 tiles_at t (Tile None) = []
 tiles_at t (Tile (Some b)) = (t, b) ∷ []
-tiles_at t (Whole patch work) = []
+tiles_at t (Whole m) = []
 
 abbrev pub FitsTile : Size → ℕ → Piece → Type 0
 FitsTile s t (Tile None) = Unit {0}
 FitsTile s t (Tile (Some b)) = IsBlockOf s t b
-FitsTile s t (Whole patch work) = Unit {0}
+FitsTile s t (Whole m) = Unit {0}
 
 -- exactly the tiles that changed
 pub record IsTilePatch (s : Size) (was : Option Cells) (now : Cells) (patch : PatchState) : Type 0 where
@@ -58,8 +62,13 @@ pub record IsWholeMade (s : Size) (op : Op) (was : Option Cells) (operands : Lis
   pub little : work < 2 ^ 32
   pub narrow : position is_wide (made s op (cells_after operands)) ≡ None
 
+-- the repaired layer with what stands beside it, all in range
+pub record IsWholeRepaired (s : Size) (op : Op) (was : Option Cells) (operands : List ChangeState) (m : Made Beside) : Type 0 where
+  pub repaired : IsRepaired suits s op operands was m
+  pub narrow : position is_wide (made s op (cells_after operands)) ≡ None
+
 abbrev pub IsWholePiece : Size → Op → Option Cells → List ChangeState → Result Piece KernelRefusal → Type 0
 IsWholePiece s op was operands (Ok (Tile tile)) = ⊥
-IsWholePiece s op was operands (Ok (Whole patch work)) = IsWholeMade s op was operands patch work
+IsWholePiece s op was operands (Ok (Whole m)) = IsWholeRepaired s op was operands m
 IsWholePiece s op was operands (Err (Overflow at)) = position is_wide (made s op (cells_after operands)) ≡ Some at
 IsWholePiece s op was operands (Err NoMemory) = Unit {0}

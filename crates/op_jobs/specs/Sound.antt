@@ -13,11 +13,7 @@ use Rattle.op_jobs.specs.Operands.{IsEdited}
 use Rattle.op_jobs.specs.Owning.{IsOwn, count_of}
 use Rattle.op_jobs.specs.Pieces.{IsTilePiece, IsWholePiece}
 use Rattle.op_jobs.specs.declared.beside.Beside.{Beside}
-use Rattle.damage_sets.specs.Sets.{TileSetState}
-use Rattle.op_jobs.specs.Whole.{count_either}
-use Rattle.op_jobs.specs.declared.beside.Beside.TheVariants.{Nothing}
 use Rattle.op_jobs.specs.declared.pieces.Piece.{Piece}
-use Rattle.op_jobs.specs.declared.pieces.Piece.TheVariants.{Tile, Whole}
 use Rattle.op_jobs.specs.declared.own.Own.{Own}
 use Rattle.op_jobs.specs.declared.own.Own.TheVariants as an_own
 
@@ -88,12 +84,3 @@ is_whole (an_own.Whole set) = true
 abbrev pub IsMadeOf : PatchState → Own → Made Beside → Type 0
 IsMadeOf patch (an_own.Tiles jobs) m = m ≡ record { patch = patch; beside = jobs.beside; evaluated = length jobs.tiles.items; worked = jobs.worked }
 IsMadeOf patch (an_own.Whole set) m = ⊥
-
--- the piece of one job for all, over the tiles in which an operand changed
-abbrev pub FitsSet : TileSetState → Piece → Type 0
-FitsSet set (Tile tile) = ⊥
-FitsSet set (Whole patch work) = set.size ≡ patch.size
-
-abbrev pub IsMadeWhole : TileSetState → Piece → Made Beside → Type 0
-IsMadeWhole set (Tile tile) m = ⊥
-IsMadeWhole set (Whole patch work) m = m ≡ record { patch = patch; beside = Nothing; evaluated = count_either set patch; worked = work }

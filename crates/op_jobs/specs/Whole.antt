@@ -1,5 +1,5 @@
--- A statement whose layer is repaired whole: flow, spreading, regions.
-use Rattle.std.specs.Prelude.{◌≡◌, ℕ, ◌||◌, is_some, List, length, filter, Option, Some, None, IsSome, Result, Ok, Err, ⊤}
+-- A statement whose layer is repaired whole: flow, spreading, regions, nearest sources.
+use Rattle.std.specs.Prelude.{◌≡◌, ℕ, Bool, false, ◌||◌, is_some, List, length, filter, Option, Some, None, IsSome, Result, Ok, Err, ⊤}
 use Rattle.std.specs.List.{All, position}
 use Rattle.map_nums.specs.Answers.{is_wide}
 use Rattle.map_nums.specs.Grids.{Size, Cells}
@@ -32,6 +32,11 @@ IsWholeAnswer s op was operands (Ok r) = IsWholeMade s op was operands r.0 r.1
 IsWholeAnswer s op was operands (Err (Overflow at)) = position is_wide (made s op (cells_after operands)) ≡ Some at
 IsWholeAnswer s op was operands (Err NoMemory) = ⊤
 
--- how many tiles a set or a patch has
-abbrev pub count_either : TileSetState → PatchState → ℕ
-count_either set patch = length (filter (λ t. has_tile set t || is_some (patch_get patch.tiles t)) (tiles patch.size))
+-- there is a patch, and it has tile t
+abbrev pub has_in : Option PatchState → ℕ → Bool
+has_in None t = false
+has_in (Some p) t = is_some (patch_get p.tiles t)
+
+-- how many tiles a set, a patch or a further patch has
+abbrev pub count_any : TileSetState → PatchState → Option PatchState → ℕ
+count_any set patch further = length (filter (λ t. has_tile set t || (has_in further t || is_some (patch_get patch.tiles t))) (tiles patch.size))

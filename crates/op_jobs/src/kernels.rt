@@ -1,12 +1,12 @@
 //! A tile of an operation, by the kernel of its class.
 ghost use Rattle.std.specs.Prelude.{◌≡◌, ◌<◌, ◌≤◌, length, Some, slice_get, IfOk, IfSome, IsFalse};
 ghost use Rattle.std.specs.List.{All};
-ghost use Rattle.map_defs.specs.Damage.{has_work, reach_of, radius_of};
+ghost use Rattle.map_defs.specs.Damage.{has_work, reach_of};
 ghost use Rattle.map_defs.specs.Drainage.{direction_grid};
+ghost use Rattle.map_defs.specs.Facts.{radius_of};
 ghost use Rattle.map_defs.specs.Focal.{focal_grid, offsets_of};
 ghost use Rattle.map_defs.specs.Incremental.{form_grid};
 ghost use Rattle.map_defs.specs.Operate.{operand, operate};
-ghost use Rattle.map_defs.specs.Ops.{terms_of};
 ghost use Rattle.layer_tiles.specs.Answers.{IsTileAnswer};
 ghost use Rattle.layer_tiles.specs.Operands.{cells_after};
 ghost use Rattle.layer_tiles.specs.Tallies.{RisesBy};
@@ -187,7 +187,7 @@ fn tile_of_local<M: Tally>(
     tally: &mut M,
 ) -> Result<Tile, KernelRefusal>
     requires local { IsLocalOf (op_view op.now) (Some local.now) }
-    requires terms { length operands.now ≡ length (terms_of (op_view op.now)) }
+    requires terms { length operands.now ≡ length (op_view op.now).terms }
     requires one_size { All (λ c. c.size ≡ extent) operands.now }
     requires within { tile < tiles_in extent }
     ensures answer { IsTileAnswer extent (made extent (op_view op.now) (cells_after operands.now)) tile result }

@@ -24,6 +24,7 @@ mod whole;
 mod whole_damage;
 mod whole_flow;
 mod whole_jobs;
+mod whole_nearest;
 mod whole_regions;
 mod whole_spread;
 mod zonal;

@@ -1,12 +1,14 @@
 //! What a job makes.
 
-use layer_tiles::{Patch, Tile};
+use crate::beside::Beside;
+use layer_tiles::Tile;
+use map_waves::Made;
 
 /// What a job makes.
 #[derive(Drop)]
 pub enum Piece {
     /// A tile of the damage; none where its cells stay.
     Tile(Option<Tile>),
-    /// All tiles that change, and the units of work.
-    Whole(Patch, u64),
+    /// All of a repaired layer.
+    Whole(Made<Beside>),
 }

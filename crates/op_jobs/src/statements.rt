@@ -165,7 +165,7 @@ fn own_of<M: Tally>(
     ensures looks { RisesBy (26 * length (damage_by extent (op_view op.entry.now) (was_of (kept_now kept.entry)) operands.entry.now)) 0 (M.counts tally.old) (M.counts tally.new) }
 {
     match op {
-        Op::Flow { .. } | Op::Spread { .. } | Op::Region { .. } => {
+        Op::Flow { .. } | Op::Spread { .. } | Op::Neighbor { .. } | Op::Region { .. } => {
             whole_own(alloc, op, operands, kept, extent, found, tally)
         }
         Op::Zonal { .. } => zonal_own(alloc, op, operands, kept, extent, found, tally),
@@ -201,7 +201,6 @@ pub struct Statements;
 impl Maker for Statements {
     ghost use Rattle.std.specs.Prelude.{◌≡◌, ◌*◌, length, IfOk, IfErr, IfSome};
     ghost use Rattle.std.specs.List.{All};
-    ghost use Rattle.map_defs.specs.Ops.{terms_of};
     ghost use Rattle.layer_tiles.specs.Operands.{cells_after};
     ghost use Rattle.layer_tiles.specs.Tallies.{TallyState, RisesBy};
     ghost use Rattle.map_waves.specs.Answers.{AreJobs, LacksJobs};
@@ -308,7 +307,7 @@ impl Maker for Statements {
     ) -> Result<Jobs<'o, 'a, Op, Beside, Own>, NoJobs>
         requires formed { HasRanges (op_view op.now) }
         requires operands { All (IsOperand extent) operands.now }
-        requires terms { length operands.now ≡ length (terms_of (op_view op.now)) }
+        requires terms { length operands.now ≡ length (op_view op.now).terms }
         requires right { IsRightKept what_suits extent (op_view op.now) operands.now (kept_now kept) }
         requires found { IfSome found (λ q. AreFound IsGrounded IsPart extent (op_view op.now) operands.now q.0 q.1.items) }
         ensures over { IfOk result (λ j. AreOver j extent op.entry.now operands.entry.now (kept_now kept.entry)) }
@@ -344,7 +343,7 @@ impl Maker for Statements {
     ) -> Result<Piece, KernelRefusal> {
         match &jobs.own {
             Own::Tiles(own) => do_tile(alloc, jobs, own, job, tally),
-            Own::Whole(_) => do_whole(alloc, jobs, tally),
+            Own::Whole(touched) => do_whole(alloc, jobs, touched, tally),
         }
     }
 

@@ -54,7 +54,7 @@ fn tile_weight(op: &Op) -> u64 {
         Op::Focal { stat, reach, .. } => focal_weight(*stat, *reach),
         Op::Incremental { .. } | Op::Direction { .. } => 20,
         Op::Sight { .. } => 256,
-        Op::Spread { .. } => 16,
+        Op::Spread { .. } | Op::Neighbor { .. } => 16,
         Op::Flow { .. } => 24,
         _ => PLAINEST,
     }

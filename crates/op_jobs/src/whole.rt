@@ -1,5 +1,5 @@
-//! Statements that one job repairs whole: flow, spreading, regions.
-ghost use Rattle.std.specs.Prelude.{◌≡◌, ◌*◌, ◌∷◌, [], length, IsTrue};
+//! Statements that one job repairs whole, with nothing beside their layers: flow, spreading, regions.
+ghost use Rattle.std.specs.Prelude.{◌≡◌, ◌*◌, ◌∷◌, [], length, IsTrue, IsFalse};
 ghost use Rattle.std.specs.Option.{option_copied};
 ghost use Rattle.map_defs.specs.Damage.{has_work};
 ghost use Rattle.layer_tiles.specs.Operands.{size_of};
@@ -7,6 +7,7 @@ ghost use Rattle.layer_tiles.specs.Tallies.{RisesBy};
 ghost use Rattle.tile_work.specs.Working.{before_of};
 ghost use Rattle.statement_parser.specs.Views.{op_view};
 ghost use Rattle.map_waves.specs.Statements.{damage_by, work_by};
+ghost use Rattle.op_jobs.specs.Classes.{is_nearest};
 ghost use Rattle.op_jobs.specs.Operands.{AreOperandsOf};
 ghost use Rattle.op_jobs.specs.Whole.{IsRightBefore, IsWholeAnswer};
 
@@ -57,6 +58,7 @@ pub(crate) fn repair_whole<M: Tally>(
 ) -> Result<(Patch, u64), KernelRefusal>
     requires operands_are { AreOperandsOf (size_of operands.now) (op_view op.now) operands.now }
     requires works { IsTrue (has_work (op_view op.now)) }
+    requires alone { IsFalse (is_nearest (op_view op.now)) }
     requires right { IsRightBefore (size_of operands.now) (op_view op.now) operands.now (option_copied old) }
     ensures answer { IsWholeAnswer (size_of operands.now) (op_view op.now) (before_of (option_copied old.entry)) operands.now result }
     ensures tally { RisesBy (32 * length (damage_by (size_of operands.now) (op_view op.now) (before_of (option_copied old.entry)) operands.now)) (1000 * work_by (size_of operands.now) (op_view op.now) (before_of (option_copied old.entry)) operands.now) (M.counts tally.old) (M.counts tally.new) }

@@ -1,5 +1,5 @@
 //! A region that is reached place by place.
-ghost use Rattle.std.specs.Prelude.{◌≡◌, ◌<◌, ◌≤◌, ◌+◌, ◌-◌, ◌*◌, ◌^◌, ◌++◌, ◌∷◌, [], length, replicate, false, true, slice_set, IfOk, OnOk, OnErr, IsSome, Some, ℕ, ℤ};
+ghost use Rattle.std.specs.Prelude.{◌≡◌, ◌↔◌, ◌<◌, ◌≤◌, ◌+◌, ◌-◌, ◌*◌, ◌^◌, ◌++◌, ◌∷◌, [], length, replicate, false, true, slice_set, IfOk, OnOk, OnErr, IsTrue, IsSome, Some, ℕ, ℤ};
 ghost use Rattle.map_nums.specs.Grids.{cells_in, cell_at, row_of, column_of, gap};
 ghost use Rattle.layer_tiles.specs.Tallies.{RisesBy};
 ghost use Rattle.region_labels.specs.Flood.{is_marked, marks_in, reached, IsGrown, IsRowMarked, IsAllMarked, IsFurther, IsAfter, IsFlooded, IsJoined};
@@ -79,7 +79,7 @@ impl Flood {
     /// Whether a place of the region in hand comes right after the one that was reached before it.
     fn is_after(&self, head: usize) -> bool
         requires { head < length self.now.found }
-        ensures { result ≡ true → IsAfter self.now.found head }
+        ensures { IsTrue result ↔ IsAfter self.now.found head }
     {
         if head == 0 {
             return false;

@@ -14,21 +14,20 @@ use Rattle.map_nums.specs.Numbers.{is_value, greatest_value, vmax}
 use Rattle.map_words.specs.Bytes.{Text, is_blank, is_mark, is_good, first_bad, is_silent}
 use Rattle.map_words.specs.Words.{Placed, closed, longer, words_from, words_of, text_of}
 use Rattle.map_words.specs.Names.{is_plain, has_name_form, is_name_byte, is_reserved}
-use Rattle.map_defs.specs.Ops.{Term, layer_term, number_term, Op, local_op, difference_op, ratio_op, rating_op, focal_op, zonal_op, form_op, direction_op, flow_op, spread_op, sight_op, region_op}
+use Rattle.map_defs.specs.Ops.{Term, layer_term, number_term, Head, local_head, rating_head, focal_head, zonal_head, flow_head, spread_head, nearest_head, sight_head, Op}
 use Rattle.map_defs.specs.Sight.{Sighting}
 use Rattle.map_defs.specs.Statements.{Written, plain, call}
 use Rattle.statement_parser.specs.Lines.{Manner, define, edit}
 use Rattle.statement_parser.specs.Grammar.{IsLine}
 use Rattle.layer_tiles.specs.Cells.{IsCell}
-use Rattle.statement_parser.specs.Formed.{Each, IsTerm, IsRate, IsRadius, IsSighting, IsOp, IsWritten}
+use Rattle.statement_parser.specs.Formed.{Each, IsTerm, IsRate, IsRadius, IsSighting, IsHead, IsOp, IsWritten}
 use Rattle.statement_parser.specs.There.{IsWrittenThere}
-use Rattle.statement_parser.specs.Forms.{form_row}
-use Rattle.statement_parser.specs.Canonical.{cell_text, optional_texts, rates_texts, begin_texts, pair_texts, radius_texts, sight_texts, friction_texts, ignoring_texts, op_texts, tail_text, written_text}
+use Rattle.statement_parser.specs.Canonical.{cell_text, optional_texts, rates_texts, radius_texts, sight_texts, friction_texts, spread_texts, ignoring_texts, head_texts, op_texts, tail_text, written_text}
 use Rattle.statement_parser.specs.TermTexts.{term_text, terms_after, terms_texts, listed_after, listed}
 use Rattle.statement_parser.specs.Spacing.{spaced, joined}
-use Rattle.statement_parser.specs.Operations.{operation_text}
+use Rattle.statement_parser.specs.Operations.{operation_text, operation_of}
 use Rattle.statement_parser.specs.declared.operation.Operation.{Operation}
-use Rattle.statement_parser.specs.declared.operation.Operation.TheVariants.{Local, Difference, Ratio, Rating, Focal, Proximity, Insularity, Zonal, Incremental, Drainage}
+use Rattle.statement_parser.specs.declared.operation.Operation.TheVariants.{Local, Focal, Zonal, Incremental}
 use Rattle.statement_parser.specs.declared.op.Form.TheVariants.{Linkage}
 use Rattle.statement_parser.specs.Texts.{seen, is_short, LineText, worded}
 use Rattle.statement_parser.specs.Printing.{ReadsBack}
@@ -228,13 +227,13 @@ of_word = inl (λ e. cc, refl)
 and_word : IsWord (codes "and")
 and_word = inl (λ e. cc, refl)
 
-after_words : (ts : List Term) → Each IsTerm ts → Each IsWord (terms_after (codes "and") ts)
-after_words [] h = tt
-after_words (t ∷ ts) h = (and_word, (term_word t h.0, after_words ts h.1))
+after_words : (word : Text) (ts : List Term) → IsWord word → Each IsTerm ts → Each IsWord (terms_after word ts)
+after_words word [] w h = tt
+after_words word (t ∷ ts) w h = (w, (term_word t h.0, after_words word ts w h.1))
 
-terms_words : (ts : List Term) → Each IsTerm ts → Each IsWord (terms_texts ts)
-terms_words [] h = tt
-terms_words (t ∷ ts) h = (term_word t h.0, after_words ts h.1)
+terms_words : (word : Text) (ts : List Term) → IsWord word → Each IsTerm ts → Each IsWord (terms_texts word ts)
+terms_words word [] w h = tt
+terms_words word (t ∷ ts) w h = (term_word t h.0, after_words word ts w h.1)
 
 each-append : (ts us : List Text) → Each IsWord ts → Each IsWord us → Each IsWord (ts ++ us)
 each-append [] us h k = k
@@ -251,12 +250,6 @@ rates_words : (rs : List Rate) → Each IsRate rs → Each IsWord (rates_texts r
 rates_words [] h = tt
 rates_words (r ∷ rs) h =
     (inl (λ e. cc, refl), (cell_word r.give h.0.give, (inl (λ e. cc, refl), (number_word r.low h.0.low, each-append (optional_texts (codes "to") r.low r.high) (rates_texts rs) (optional_words (codes "to") r.low r.high (inl (λ e. cc, refl)) h.0.high) (rates_words rs h.1)))))
-
-begin_words : (o : Operation) (t : Term) → IsTerm t → Each IsWord (begin_texts (operation_text o) t)
-begin_words o t h = (operation_word o, (of_word, (term_word t h, tt)))
-
-pair_words : (o : Operation) (word : Text) (t u : Term) → IsWord word → IsTerm t → IsTerm u → Each IsWord (pair_texts (operation_text o) word t u)
-pair_words o word t u w h k = (operation_word o, (of_word, (term_word t h, (w, (term_word u k, tt)))))
 
 value_in : (n : ℕ) → n ≤ greatest_value → nat_le n greatest_value ≡ true
 value_in n h = grind (arith, nat_tests)
@@ -295,23 +288,25 @@ ignoring_words : (ignoring : Bool) → Each IsWord (ignoring_texts ignoring)
 ignoring_words true = (inl (λ e. cc, refl), (inl (λ e. cc, refl), tt))
 ignoring_words false = tt
 
+spread_words : (limit : ℕ) (t u : Term) → limit ≤ greatest_value → IsTerm t → IsTerm u → Each IsWord (spread_texts limit t u)
+spread_words limit t u most p q = (
+  term_word t p,
+  each-append (friction_texts u) (optional_texts (codes "within") vmax (pos limit)) (friction_words u q) (optional_count_words (codes "within") greatest_value limit (inl (λ e. cc, refl)) most),
+)
+
+head_words : (head : Head) (ts : List Term) → IsHead head → Each IsTerm ts → Each IsWord (head_texts head ts)
+head_words (local_head s ignoring) ts h k = each-append (terms_texts (codes "and") ts) (ignoring_texts ignoring) (terms_words (codes "and") ts and_word k) (ignoring_words ignoring)
+head_words (rating_head rs) ts h k = each-append (terms_texts (codes "and") ts) (rates_texts rs) (terms_words (codes "and") ts and_word k) (rates_words rs h.1)
+head_words (focal_head s r) ts h k = each-append (terms_texts (codes "and") ts) (radius_texts r) (terms_words (codes "and") ts and_word k) (radius_words r h.1)
+head_words (zonal_head s) ts h k = terms_words (codes "within") ts (inl (λ e. cc, refl)) k
+head_words flow_head ts h k = terms_words (codes "carrying") ts (inl (λ e. cc, refl)) k
+head_words (spread_head limit) (t ∷ u ∷ []) h k = spread_words limit t u h k.0 k.1.0
+head_words (nearest_head limit) (t ∷ u ∷ []) h k = spread_words limit t u h k.0 k.1.0
+head_words (sight_head s) (t ∷ u ∷ []) h k = (term_word t k.0, (inl (λ e. cc, refl), (inl (λ e. cc, refl), (term_word u k.1.0, sight_words s h))))
+head_words head ts h k = terms_words (codes "and") ts and_word k
+
 pub op_words : (o : Op) → IsOp o → Each IsWord (op_texts o)
-op_words (local_op s ignoring ts) h = (operation_word (Local s), (of_word, each-append (terms_texts ts) (ignoring_texts ignoring) (terms_words ts h.2) (ignoring_words ignoring)))
-op_words (difference_op l r) h = pair_words Difference (codes "and") l r and_word h.0 h.1
-op_words (ratio_op l r) h = pair_words Ratio (codes "and") l r and_word h.0 h.1
-op_words (rating_op t rs) h = (operation_word Rating, (of_word, (term_word t h.0, rates_words rs h.3)))
-op_words (focal_op s r t) h = each-append (begin_texts (operation_text (Focal s)) t) (radius_texts r) (begin_words (Focal s) t h.2) (radius_words r h.1)
-op_words (zonal_op s t u) h = pair_words (Zonal s) (codes "within") t u (inl (λ e. cc, refl)) h.1 h.2
-op_words (form_op f t) h = begin_words (Incremental (form_row f)) t h
-op_words (direction_op t) h = begin_words Drainage t h
-op_words (flow_op t u) h = pair_words Drainage (codes "carrying") t u (inl (λ e. cc, refl)) h.0 h.1
-op_words (spread_op limit t u) h =
-    each-append (begin_texts (operation_text Proximity) t) (friction_texts u ++ optional_texts (codes "within") vmax (pos limit)) (begin_words Proximity t h.1)
-    (each-append (friction_texts u) (optional_texts (codes "within") vmax (pos limit)) (friction_words u h.2) (optional_count_words (codes "within") greatest_value limit (inl (λ e. cc, refl)) h.0))
-op_words (sight_op s t u) h =
-    each-append (begin_texts (operation_text (Focal Sum)) t) (codes "radiating" ∷ codes "on" ∷ term_text u ∷ sight_texts s) (begin_words (Focal Sum) t h.1)
-    (inl (λ e. cc, refl), (inl (λ e. cc, refl), (term_word u h.2, sight_words s h.0)))
-op_words (region_op t) h = begin_words Insularity t h
+op_words o h = (operation_word (operation_of o.head), (of_word, head_words o.head o.terms h.0 h.2))
 
 -- ---- the words of a call
 

@@ -1,6 +1,7 @@
 -- The words of a formed statement are its line.
 use Rattle.std.proofs.Common.{◌≡◌, ℕ, zero, suc, ◌≤◌, ◌<◌, ◌^◌, ℤ, pos, Bool, true, false, cond, List, [], ◌∷◌, ◌++◌, length, Option, Some, None, refl, sym, ap, subst, ◌∙◌, append_assoc, arith}
-use Rattle.std.specs.Prelude.{codes, find, bytes_eq, option_map, IsTrue, nat_le, nat_abs, decimal}
+use Rattle.std.specs.List.{list_any}
+use Rattle.std.specs.Prelude.{◌||◌, codes, find, bytes_eq, option_map, IsTrue, nat_le, nat_abs, decimal}
 use Rattle.std.proofs.lemmas.Bool.Decides.{nat_tests}
 use Rattle.std.specs.Fmt.{signed_decimal}
 use Rattle.std.specs.Ordering.{int_eq}
@@ -16,30 +17,31 @@ use Rattle.map_words.specs.Numbers.{if_between}
 use Rattle.map_words.specs.Names.{is_plain, is_reserved, is_among}
 use Rattle.grammar_core.specs.Rules.{Rule, Derives, node, ends, on, next, after, also, or_rule}
 use Rattle.grammar_core.proofs.Ends.{next_derives, also_derives, rest_derives}
-use Rattle.map_defs.specs.Ops.{Term, layer_term, number_term, terms_of, Op, local_op, difference_op, ratio_op, rating_op, focal_op, zonal_op, form_op, direction_op, flow_op, spread_op, sight_op, region_op}
+use Rattle.map_defs.specs.Ops.{Term, layer_term, number_term, Head, local_head, difference_head, rating_head, focal_head, zonal_head, form_head, direction_head, flow_head, spread_head, nearest_head, sight_head, region_head, Op, of_one, of_two, local_op, rating_op, focal_op, direction_op, flow_op, sight_op}
+use Rattle.map_defs.specs.Facts.{HasTerms}
 use Rattle.map_defs.specs.Sight.{Sighting}
 use Rattle.map_defs.specs.Incremental as incremental
 use Rattle.map_defs.specs.Incremental.{linkage_form, length_form, partition_form, frontage_form, gradient_form, aspect_form}
 use Rattle.map_defs.specs.Statements.{Written, plain, call}
 use Rattle.statement_parser.specs.Lines.{Manner, define, Line, edit}
 use Rattle.statement_parser.specs.Scopes.{Scope, anywhere}
-use Rattle.statement_parser.specs.Operations.{operations, operation_text, find_operation, operation_named}
+use Rattle.statement_parser.specs.Operations.{operations, operation_text, operation_of, find_operation, operation_named}
 use Rattle.statement_parser.specs.Forms.{form_of, form_row}
 use Rattle.statement_parser.specs.Places.{the, maybe, name_of, value_of, count_of, disc_of, reach_of, limit_of, term_of, weights_of, cell_of, call_of}
 use Rattle.statement_parser.specs.Bodies.{term_after, further_terms, optional_part, ignoring_part, statistic_body, pair_body, single_body, rate_part, with_rates, rating_body, radius_part, sight_part, radiates, focal_body, friction_part, spread_body, drainage_op, drainage_body, operation_body, call_body, body_rule}
 use Rattle.statement_parser.specs.Commands.{command_text, commands, find_command, command_named}
 use Rattle.statement_parser.specs.Grammar.{define_rule, command_rule, IsLine}
 use Rattle.layer_tiles.specs.Cells.{IsCell}
-use Rattle.statement_parser.specs.Formed.{Each, InScope, AreInScope, IsTerm, IsRate, IsNoProduct, IsBetween, IsRadius, IsSighting, IsOp, IsWritten}
-use Rattle.statement_parser.specs.There.{HasRow, MayIgnore, IsOpThere, IsWrittenThere}
-use Rattle.statement_parser.specs.Canonical.{cell_text, optional_texts, rates_texts, radius_texts, sight_texts, friction_texts, ignoring_texts, op_texts}
+use Rattle.statement_parser.specs.Formed.{Each, InScope, AreInScope, IsTerm, IsRate, IsNoProduct, IsBetween, IsRadius, IsSighting, IsHead, IsOp, IsWritten}
+use Rattle.statement_parser.specs.There.{HasRow, MayBe, IsOpThere, IsWrittenThere}
+use Rattle.statement_parser.specs.Canonical.{cell_text, optional_texts, rates_texts, radius_texts, sight_texts, friction_texts, ignoring_texts, head_texts, op_texts}
 use Rattle.statement_parser.specs.TermTexts.{term_text, terms_after, terms_texts}
 use Rattle.statement_parser.specs.declared.operation.Operation.{Operation}
-use Rattle.statement_parser.specs.declared.operation.Operation.TheVariants.{Local, Difference, Ratio, Rating, Focal, Proximity, Insularity, Zonal, Incremental, Drainage}
+use Rattle.statement_parser.specs.declared.operation.Operation.TheVariants.{Local, Focal, Zonal, Incremental}
 use Rattle.statement_parser.specs.declared.op.Form.TheVariants.{Linkage}
 use Rattle.statement_parser.specs.declared.command.Command.{Command}
 use Rattle.statement_parser.proofs.Numerals.{number_decimal, value_back, no_plain, no_null}
-use Rattle.statement_parser.proofs.PlaceFacts.{operation_none, command_none}
+use Rattle.statement_parser.proofs.PlaceFacts.{operation_none, command_none, the_word}
 use Rattle.statement_parser.proofs.FormedLines.{IsRow}
 
 -- ---- one place
@@ -90,15 +92,23 @@ none_named {A} text (x ∷ xs) t each p = go (bytes_eq (text x) t) refl (none_na
     go true e ih = absurd (let same : text x ≡ t = (bytes_eq-Decides (text x) t).0 e in let f : is_plain t ≡ false = ap is_plain (sym same) ∙ each.0 in cc)
     go false e ih = ih
 
+each_false : {A : Type 0} (p : A → Bool) (xs : List A) → list_any p xs ≡ false → Each (λ x. p x ≡ false) xs
+each_false p [] e = tt
+each_false p (x ∷ xs) e = go (p x) refl e (each_false p xs)
+  where
+    go : (b : Bool) → p x ≡ b → (b || list_any p xs) ≡ false → (list_any p xs ≡ false → Each (λ x. p x ≡ false) xs) → Each (λ x. p x ≡ false) (x ∷ xs)
+    go true h e rest = absurd cc
+    go false h e rest = (h, rest e)
+
 -- no word of a command is a name, computed
 commands_reserved : Each (λ c. is_plain (command_text c) ≡ false) commands
 unfolding is_plain is_reserved is_among
-commands_reserved = (refl, (refl, (refl, (refl, (refl, (refl, (refl, (refl, (refl, (refl, (refl, (refl, (refl, (refl, (refl, (refl, (refl, tt)))))))))))))))))
+commands_reserved = each_false (λ c. is_plain (command_text c)) commands refl
 
 -- nor is that of an operation
 operations_reserved : Each (λ o. is_plain (operation_text o) ≡ false) operations
 unfolding is_plain is_reserved is_among
-operations_reserved = (refl, (refl, (refl, (refl, (refl, (refl, (refl, (refl, (refl, (refl, (refl, (refl, (refl, (refl, (refl, (refl, (refl, (refl, (refl, (refl, (refl, (refl, (refl, (refl, (refl, (refl, (refl, (refl, (refl, (refl, (refl, (refl, (refl, (refl, (refl, (refl, (refl, tt)))))))))))))))))))))))))))))))))))))
+operations_reserved = each_false (λ o. is_plain (operation_text o)) operations refl
 
 no_command_found : (n : Text) → is_plain n ≡ true → find_command n ≡ None
 unfolding find_command
@@ -130,6 +140,22 @@ without_optional word other default z ws none h = go (int_eq z default)
     go true w us e = h w us e
     go false w us e = let same : other ≡ w = cc in ap (the word) (sym same) ∙ none
 
+-- a formed head is written by a row of the table
+pub row_of : (head : Head) → IsHead head → IsRow (operation_of head)
+row_of (focal_head s r) h = h.0
+row_of (zonal_head s) h = h
+row_of head h = tt
+
+-- what holds of one term, or of two, holds of a list of as many
+of_one_term : (P : List Term → Type 0) (ts : List Term) → IsBetween 1 1 (length ts) → ((t : Term) → P (t ∷ [])) → P ts
+of_one_term P [] n h = absurd (let l = n.0 in omega arith)
+of_one_term P (t ∷ []) n h = h t
+of_one_term P (t ∷ u ∷ ts) n h = absurd (let l = n.1 in omega arith)
+
+of_two_terms : (P : List Term → Type 0) (ts : List Term) → IsBetween 2 2 (length ts) → ((t u : Term) → P (t ∷ u ∷ [])) → P ts
+of_two_terms P [] n h = absurd (let l = n.0 in omega arith)
+of_two_terms P (t ∷ ts) n h = of_one_term (λ us. P (t ∷ us)) ts ((let l = n.0 in omega arith), (let l = n.1 in omega arith)) (h t)
+
 -- the words of a call, after its name
 abbrev pub given_texts : List Term → List Text
 given_texts [] = codes "(" ∷ codes ")" ∷ []
@@ -150,18 +176,7 @@ module _ (scope : Scope) where
   IsIn t = IsTermIn scope t
 
   abbrev IsOpIn : Op → Type 0
-  IsOpIn (local_op s ignoring ts) = (2 ≤ length ts) × (length ts ≤ 8) × Each IsIn ts
-  IsOpIn (difference_op l r) = IsIn l × IsIn r
-  IsOpIn (ratio_op l r) = IsIn l × IsIn r
-  IsOpIn (rating_op t rs) = IsIn t × (1 ≤ length rs) × (length rs ≤ 32) × Each IsRate rs
-  IsOpIn (focal_op s r t) = IsNoProduct s × IsRadius r × IsIn t
-  IsOpIn (zonal_op s t u) = IsNoProduct s × IsIn t × IsIn u
-  IsOpIn (form_op f t) = IsIn t
-  IsOpIn (direction_op t) = IsIn t
-  IsOpIn (flow_op t u) = IsIn t × IsIn u
-  IsOpIn (spread_op limit t u) = (limit ≤ greatest_value) × IsIn t × IsIn u
-  IsOpIn (sight_op s t u) = IsSighting s × IsIn t × IsIn u
-  IsOpIn (region_op t) = IsIn t
+  IsOpIn o = IsHead o.head × HasTerms o × Each IsIn o.terms
 
   abbrev pub IsWrittenIn : Written → Type 0
   IsWrittenIn (plain o) = IsOpIn o
@@ -171,19 +186,8 @@ module _ (scope : Scope) where
   each_in [] h k = tt
   each_in (t ∷ ts) h k = ((h.0, k.0), each_in ts h.1 k.1)
 
-  op_in : (o : Op) → IsOp o → Each (InScope scope) (terms_of o) → IsOpIn o
-  op_in (local_op s ignoring ts) h k = (h.0, h.1, each_in ts h.2 k)
-  op_in (difference_op l r) h k = ((h.0, k.0), (h.1, k.1.0))
-  op_in (ratio_op l r) h k = ((h.0, k.0), (h.1, k.1.0))
-  op_in (rating_op t rs) h k = ((h.0, k.0), h.1, h.2, h.3)
-  op_in (focal_op s r t) h k = (h.0, h.1, (h.2, k.0))
-  op_in (zonal_op s t u) h k = (h.0, (h.1, k.0), (h.2, k.1.0))
-  op_in (form_op f t) h k = (h, k.0)
-  op_in (direction_op t) h k = (h, k.0)
-  op_in (flow_op t u) h k = ((h.0, k.0), (h.1, k.1.0))
-  op_in (spread_op limit t u) h k = (h.0, (h.1, k.0), (h.2, k.1.0))
-  op_in (sight_op s t u) h k = (h.0, (h.1, k.0), (h.2, k.1.0))
-  op_in (region_op t) h k = (h, k.0)
+  op_in : (o : Op) → IsOp o → Each (InScope scope) o.terms → IsOpIn o
+  op_in o h k = (h.0, h.1, each_in o.terms h.2 k)
 
   pub written_in : (w : Written) → IsWritten w → AreInScope scope w → IsWrittenIn w
   written_in (plain o) h k = op_in o h k
@@ -204,11 +208,11 @@ module _ (scope : Scope) where
     abbrev last : Op → Rule Text Line
     last op = ends (mk op)
 
-    pair_back : (word : Text) (make : Term → Term → Op) (a b : Term) → the word word ≡ Some tt → IsIn a → IsIn b → Derives (pair_body scope word make last) (codes "of" ∷ term_text a ∷ word ∷ term_text b ∷ []) (mk (make a b))
-    pair_back word make a b same p q =
-        next_derives (term_of scope) _ (term_text a) a (word ∷ term_text b ∷ []) (mk (make a b)) (term_back scope a p)
-        (next_derives (the word) _ word tt (term_text b ∷ []) (mk (make a b)) same
-        (next_derives (term_of scope) (λ b. last (make a b)) (term_text b) b [] (mk (make a b)) (term_back scope b q) refl))
+    pair_back : (word : Text) (head : Head) (a b : Term) → IsIn a → IsIn b → Derives (pair_body scope word head last) (codes "of" ∷ term_text a ∷ word ∷ term_text b ∷ []) (mk (of_two head a b))
+    pair_back word head a b p q =
+        let x = mk (of_two head a b) in
+        next_derives (term_of scope) _ (term_text a) a (word ∷ term_text b ∷ []) x (term_back scope a p)
+        (next_derives (the word) _ word tt (term_text b ∷ []) x (the_word word) (next_derives (term_of scope) (λ b. last (of_two head a b)) (term_text b) b [] x (term_back scope b q) refl))
 
   no_to : (rs : List Rate) → Without (codes "to") (rates_texts rs)
   no_to [] w us e = absurd cc
@@ -245,14 +249,14 @@ module _ (scope : Scope) where
         (rate_back g r (rates_texts rs) (mk (front ++ r ∷ rs)) h.0 (no_to rs)
         (subst (λ (us : List Rate). Derives (g r) (rates_texts rs) (mk us)) (append_assoc front (r ∷ []) rs) (with_back n rs (front ++ r ∷ []) (omega arith) h.1)))
 
-  rating_back : (mk : Op → Line) (t : Term) (rs : List Rate) → IsOpIn (rating_op t rs) → Derives (rating_body scope (λ op. ends (mk op))) (codes "of" ∷ term_text t ∷ rates_texts rs) (mk (rating_op t rs))
-  rating_back mk t [] h = absurd (let l = h.1 in omega arith)
-  rating_back mk t (r ∷ rs) h =
+  rating_back : (mk : Op → Line) (t : Term) (rs : List Rate) → IsHead (rating_head rs) → IsIn t → Derives (rating_body scope (λ op. ends (mk op))) (codes "of" ∷ term_text t ∷ rates_texts rs) (mk (rating_op t rs))
+  rating_back mk t [] h p = absurd (let l = h.0.0 in omega arith)
+  rating_back mk t (r ∷ rs) h p =
       let x = mk (rating_op t (r ∷ rs)) in
-      let l = h.2 in
+      let l = h.0.1 in
       let g = λ (one : Rate). with_rates (λ rs. ends (mk (rating_op t rs))) 31 (one ∷ []) in
-      next_derives (term_of scope) _ (term_text t) t (rates_texts (r ∷ rs)) x (term_back scope t h.0)
-      (rate_back g r (rates_texts rs) x h.3.0 (no_to rs) (with_back (λ rs. mk (rating_op t rs)) 31 rs (r ∷ []) (omega arith) h.3.1))
+      next_derives (term_of scope) _ (term_text t) t (rates_texts (r ∷ rs)) x (term_back scope t p)
+      (rate_back g r (rates_texts rs) x h.1.0 (no_to rs) (with_back (λ rs. mk (rating_op t rs)) 31 rs (r ∷ []) (omega arith) h.1.1))
 
   -- a part of one place that may be left out
   part_back : {A : Type 0} (word : Text) (place : Text → Option A) (default v : A) (t : Text) (b : Bool) (g : A → Rule Text Line) (ws : List Text) (x : Line) → the word word ≡ Some tt → (b ≡ true → v ≡ default) → place t ≡ Some v → Without word ws
@@ -289,30 +293,30 @@ module _ (scope : Scope) where
     maybe_there true word e same = same
     maybe_there false word e same = absurd cc
 
-    ignoring_back : (ignoring : Bool) (g : Bool → Rule Text Line) (x : Line) → MayIgnore m ignoring → Derives (g ignoring) [] x → Derives (ignoring_part m g) (ignoring_texts ignoring) x
-    ignoring_back true g x there d =
+    ignoring_back : (s : Stat) (ignoring : Bool) (g : Bool → Rule Text Line) (x : Line) → MayBe m (local_head s ignoring) → Derives (g ignoring) [] x → Derives (ignoring_part m g) (ignoring_texts ignoring) x
+    ignoring_back s true g x there d =
         also_derives (maybe m.ignoring (the (codes "ignoring"))) (λ _. next (the (codes "nulls")) (λ _. g true)) (g false) (codes "ignoring") tt (codes "nulls" ∷ []) x (maybe_there m.ignoring (codes "ignoring") there refl)
         (next_derives (the (codes "nulls")) (λ _. g true) (codes "nulls") tt [] x refl d)
-    ignoring_back false g x there d =
+    ignoring_back s false g x there d =
         rest_derives (maybe m.ignoring (the (codes "ignoring"))) (λ _. next (the (codes "nulls")) (λ _. g true)) (g false) [] x (λ w us e. absurd cc) d
 
     no_and : (ignoring : Bool) → Without (codes "and") (ignoring_texts ignoring)
     no_and true w us e = let same : codes "ignoring" ≡ w = cc in ap (the (codes "and")) (sym same)
     no_and false w us e = absurd cc
 
-    statistic_back : (s : Stat) (ignoring : Bool) (ts : List Term) → MayIgnore m ignoring → IsOpIn (local_op s ignoring ts)
-        → Derives (statistic_body scope m s ended) (codes "of" ∷ (terms_texts ts ++ ignoring_texts ignoring)) (mk (local_op s ignoring ts))
-    statistic_back s ignoring [] there h = absurd (let l = h.0 in omega arith)
-    statistic_back s ignoring (a ∷ []) there h = absurd (let l = h.0 in omega arith)
-    statistic_back s ignoring (a ∷ b ∷ us) there h =
+    statistic_back : (s : Stat) (ignoring : Bool) (ts : List Term) → IsBetween 2 8 (length ts) → MayBe m (local_head s ignoring) → Each IsIn ts
+        → Derives (statistic_body scope m s ended) (codes "of" ∷ (terms_texts (codes "and") ts ++ ignoring_texts ignoring)) (mk (local_op s ignoring ts))
+    statistic_back s ignoring [] n there h = absurd (let l = n.0 in omega arith)
+    statistic_back s ignoring (a ∷ []) n there h = absurd (let l = n.0 in omega arith)
+    statistic_back s ignoring (a ∷ b ∷ us) n there h =
         let x = mk (local_op s ignoring (a ∷ b ∷ us)) in
-        let l = h.1 in
+        let l = n.1 in
         let f = λ (ts : List Term). ignoring_part m (λ i. ended (local_op s i ts)) in
         let rest = terms_after (codes "and") us ++ ignoring_texts ignoring in
-        next_derives (term_of scope) _ (term_text a) a (codes "and" ∷ term_text b ∷ rest) x (term_back scope a h.2.0)
-        (next_derives (term_of scope) (λ b. further_terms scope (codes "and") f 6 (a ∷ b ∷ [])) (term_text b) b rest x (term_back scope b h.2.1.0)
-        (further_back (codes "and") f (ignoring_texts ignoring) x refl (no_and ignoring) 6 us (a ∷ b ∷ []) (omega arith) h.2.1.1
-        (ignoring_back ignoring (λ i. ended (local_op s i (a ∷ b ∷ us))) x there refl)))
+        next_derives (term_of scope) _ (term_text a) a (codes "and" ∷ term_text b ∷ rest) x (term_back scope a h.0)
+        (next_derives (term_of scope) (λ b. further_terms scope (codes "and") f 6 (a ∷ b ∷ [])) (term_text b) b rest x (term_back scope b h.1.0)
+        (further_back (codes "and") f (ignoring_texts ignoring) x refl (no_and ignoring) 6 us (a ∷ b ∷ []) (omega arith) h.1.1
+        (ignoring_back s ignoring (λ i. ended (local_op s i (a ∷ b ∷ us))) x there refl)))
 
     no_radiating : (b : Bool) (r : Option ℕ) (w : Text) (us : List Text) → radius_texts r ≡ w ∷ us → maybe b (the (codes "radiating")) w ≡ None
     no_radiating b None w us e = absurd cc
@@ -360,18 +364,19 @@ module _ (scope : Scope) where
             also_derives (the (codes "spreading")) (λ _. term_after scope (codes "in") g) (g (number_term (pos 1))) (codes "spreading") tt (codes "in" ∷ signed_decimal z ∷ ws) x refl
             (next_derives (term_of scope) g (signed_decimal z) (number_term z) ws x (term_back scope (number_term z) h) d)
 
-    spread_back : (limit : ℕ) (t u : Term) → IsOpIn (spread_op limit t u) → Derives (spread_body scope ended) (codes "of" ∷ term_text t ∷ (friction_texts u ++ optional_texts (codes "within") vmax (pos limit))) (mk (spread_op limit t u))
-    spread_back limit t u h =
-        let x = mk (spread_op limit t u) in
+    spread_back : (make : ℕ → Head) (limit : ℕ) (t u : Term) → limit ≤ greatest_value → IsIn t → IsIn u
+        → Derives (spread_body scope make ended) (codes "of" ∷ term_text t ∷ (friction_texts u ++ optional_texts (codes "within") vmax (pos limit))) (mk (of_two (make limit) t u))
+    spread_back make limit t u most p q =
+        let x = mk (of_two (make limit) t u) in
         let within = optional_texts (codes "within") vmax (pos limit) in
-        let lt : limit < 2 ^ 64 = (let l = h.0 in omega arith) in
+        let lt : limit < 2 ^ 64 = omega arith in
         let no_spreading : Without (codes "spreading") within = subst (Without (codes "spreading")) (append-nil within) (without_optional (codes "spreading") (codes "within") vmax (pos limit) [] refl (without_nil (codes "spreading"))) in
-        next_derives (term_of scope) _ (term_text t) t (friction_texts u ++ within) x (term_back scope t h.1)
-        (friction_back (λ friction. optional_part (codes "within") limit_of greatest_value (λ limit. ended (spread_op limit t friction))) u within x h.2 no_spreading
-        (count_part_back (codes "within") 0 greatest_value greatest_value limit (λ limit. ended (spread_op limit t u)) x refl (omega arith, h.0) lt refl))
+        next_derives (term_of scope) _ (term_text t) t (friction_texts u ++ within) x (term_back scope t p)
+        (friction_back (λ friction. optional_part (codes "within") limit_of greatest_value (λ limit. ended (of_two (make limit) t friction))) u within x q no_spreading
+        (count_part_back (codes "within") 0 greatest_value greatest_value limit (λ limit. ended (of_two (make limit) t u)) x refl (omega arith, most) lt refl))
 
-    single_back : (make : Term → Op) (t : Term) → IsIn t → Derives (single_body scope make ended) (codes "of" ∷ term_text t ∷ []) (mk (make t))
-    single_back make t p = next_derives (term_of scope) (λ a. ended (make a)) (term_text t) t [] (mk (make t)) (term_back scope t p) refl
+    single_back : (head : Head) (t : Term) → IsIn t → Derives (single_body scope head ended) (codes "of" ∷ term_text t ∷ []) (mk (of_one head t))
+    single_back head t p = next_derives (term_of scope) (λ a. ended (of_one head a)) (term_text t) t [] (mk (of_one head t)) (term_back scope t p) refl
 
     direction_back : (t : Term) → IsIn t → Derives (drainage_body scope ended) (codes "of" ∷ term_text t ∷ []) (mk (direction_op t))
     direction_back t p = next_derives (term_of scope) (λ a. optional_part (codes "carrying") (weights_of scope) None (λ w. ended (drainage_op a w))) (term_text t) t [] (mk (direction_op t)) (term_back scope t p) refl
@@ -393,6 +398,26 @@ module _ (scope : Scope) where
   form_back gradient_form = refl
   form_back aspect_form = refl
 
+  module _ (m : Manner) (mk : Op → Line) where
+    -- a head and its terms are read back
+    abbrev IsBack : Head → List Term → Type 0
+    IsBack head ts = Each IsIn ts → Derives (operation_body scope m (λ op. ends (mk op)) (operation_of head)) (codes "of" ∷ head_texts head ts) (mk (record { head = head; terms = ts }))
+
+    head_back : (head : Head) (ts : List Term) → IsHead head → HasTerms (record { head = head; terms = ts }) → MayBe m head → IsBack head ts
+    head_back (local_head s ignoring) ts h n may = statistic_back m mk s ignoring ts n may
+    head_back (rating_head rs) ts h n may = of_one_term (IsBack (rating_head rs)) ts n (λ t p. rating_back mk t rs h p.0)
+    head_back (focal_head s r) ts h n may = of_one_term (IsBack (focal_head s r)) ts n (λ t p. focal_back m mk s r t h.1 p.0)
+    head_back (zonal_head s) ts h n may = of_two_terms (IsBack (zonal_head s)) ts n (λ t u p. pair_back mk (codes "within") (zonal_head s) t u p.0 p.1.0)
+    head_back (form_head f) ts h n may = of_one_term (IsBack (form_head f)) ts n (λ t p.
+        subst (λ g. Derives (single_body scope (form_head (form_of (form_row f))) (λ op. ends (mk op))) (codes "of" ∷ term_text t ∷ []) (mk (of_one (form_head g) t))) (form_back f) (single_back m mk (form_head (form_of (form_row f))) t p.0))
+    head_back region_head ts h n may = of_one_term (IsBack region_head) ts n (λ t p. single_back m mk region_head t p.0)
+    head_back direction_head ts h n may = of_one_term (IsBack direction_head) ts n (λ t p. direction_back m mk t p.0)
+    head_back flow_head ts h n may = of_two_terms (IsBack flow_head) ts n (λ t u p. flow_back m mk t u p.0 p.1.0)
+    head_back (spread_head limit) ts h n may = of_two_terms (IsBack (spread_head limit)) ts n (λ t u p. spread_back m mk spread_head limit t u h p.0 p.1.0)
+    head_back (nearest_head limit) ts h n may = of_two_terms (IsBack (nearest_head limit)) ts n (λ t u p. spread_back m mk nearest_head limit t u h p.0 p.1.0)
+    head_back (sight_head s) ts h n may = of_two_terms (IsBack (sight_head s)) ts n (λ t u p. sight_back m mk s t u may h p.0 p.1.0)
+    head_back head ts h n may = of_two_terms (IsBack head) ts n (λ t u p. pair_back mk (codes "and") head t u p.0 p.1.0)
+
   module _ (m : Manner) (mk : Written → Line) where
     abbrev whole : Written → Rule Text Line
     whole w = ends (mk w)
@@ -408,23 +433,7 @@ module _ (scope : Scope) where
     by_name o ws x there row d = also_derives (operation_named m) (operation_body scope m (λ op. ends (done op))) (node None (on (call_of m) callers)) (operation_text o) o ws x (named_back m o there row) d
 
     op_back : (o : Op) → IsOpIn o → IsOpThere m o → Derives (body_rule scope m whole) (op_texts o) (mk (plain o))
-    op_back (local_op s ignoring ts) h there =
-        by_name (Local s) (codes "of" ∷ (terms_texts ts ++ ignoring_texts ignoring)) (done (local_op s ignoring ts)) there.0 tt (statistic_back m done s ignoring ts there.1 h)
-    op_back (difference_op l r) h there = by_name Difference (codes "of" ∷ term_text l ∷ codes "and" ∷ term_text r ∷ []) (done (difference_op l r)) there tt (pair_back done (codes "and") difference_op l r refl h.0 h.1)
-    op_back (ratio_op l r) h there = by_name Ratio (codes "of" ∷ term_text l ∷ codes "and" ∷ term_text r ∷ []) (done (ratio_op l r)) there tt (pair_back done (codes "and") ratio_op l r refl h.0 h.1)
-    op_back (rating_op t rs) h there = by_name Rating (codes "of" ∷ term_text t ∷ rates_texts rs) (done (rating_op t rs)) there tt (rating_back done t rs h)
-    op_back (focal_op s r t) h there = by_name (Focal s) (codes "of" ∷ term_text t ∷ radius_texts r) (done (focal_op s r t)) there h.0 (focal_back m done s r t h.1 h.2)
-    op_back (zonal_op s t u) h there = by_name (Zonal s) (codes "of" ∷ term_text t ∷ codes "within" ∷ term_text u ∷ []) (done (zonal_op s t u)) there h.0 (pair_back done (codes "within") (zonal_op s) t u refl h.1 h.2)
-    op_back (form_op f t) h there =
-        by_name (Incremental (form_row f)) (codes "of" ∷ term_text t ∷ []) (done (form_op f t)) there tt
-        (subst (λ g. Derives (single_body scope (form_op (form_of (form_row f))) (λ op. ends (done op))) (codes "of" ∷ term_text t ∷ []) (done (form_op g t))) (form_back f) (single_back m done (form_op (form_of (form_row f))) t h))
-    op_back (direction_op t) h there = by_name Drainage (codes "of" ∷ term_text t ∷ []) (done (direction_op t)) there tt (direction_back m done t h)
-    op_back (flow_op t u) h there = by_name Drainage (codes "of" ∷ term_text t ∷ codes "carrying" ∷ term_text u ∷ []) (done (flow_op t u)) there tt (flow_back m done t u h.0 h.1)
-    op_back (spread_op limit t u) h there =
-        by_name Proximity (codes "of" ∷ term_text t ∷ (friction_texts u ++ optional_texts (codes "within") vmax (pos limit))) (done (spread_op limit t u)) there tt (spread_back m done limit t u h)
-    op_back (sight_op s t u) h there =
-        by_name (Focal Sum) (codes "of" ∷ term_text t ∷ codes "radiating" ∷ codes "on" ∷ term_text u ∷ sight_texts s) (done (sight_op s t u)) there.0 tt (sight_back m done s t u there.1 h.0 h.1 h.2)
-    op_back (region_op t) h there = by_name Insularity (codes "of" ∷ term_text t ∷ []) (done (region_op t)) there tt (single_back m done region_op t h)
+    op_back o h there = by_name (operation_of o.head) (codes "of" ∷ head_texts o.head o.terms) (done o) there.0 (row_of o.head h.0) (head_back m done o.head o.terms h.0 h.1 there.1 h.2)
 
     call_there : (b : Bool) (p : Text) → b ≡ true → is_plain p ≡ true → maybe b name_of p ≡ Some p
     call_there true p e h = name_back p h
@@ -458,7 +467,7 @@ all_anywhere (layer_term n ∷ ts) = (refl, all_anywhere ts)
 all_anywhere (number_term z ∷ ts) = (tt, all_anywhere ts)
 
 written_anywhere : (w : Written) → AreInScope anywhere w
-written_anywhere (plain o) = all_anywhere (terms_of o)
+written_anywhere (plain o) = all_anywhere o.terms
 written_anywhere (call p ts) = all_anywhere ts
 
 pub words_back : (m : Manner) (n : Text) (w : Written) → IsTrue (is_plain n) → IsWritten w → IsWrittenThere m w → IsLine m (written_texts n w) (edit (define n w))

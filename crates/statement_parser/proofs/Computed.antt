@@ -12,7 +12,7 @@ use Rattle.statement_parser.specs.Places.{tests}
 use Rattle.statement_parser.specs.Operations.{find_operation, operation_named}
 use Rattle.statement_parser.specs.Commands.{find_command, command_named}
 use Rattle.statement_parser.specs.Grammar.{line_rule}
-use Rattle.statement_parser.specs.ReadBodies.{nulls_at, ignoring_at, statistic_at, pair_at, difference_at, ratio_at, rating_at, radius_at, sight_at, reaching_at, focal_at, spread_at, given_at, call_at, plain_at, body_at}
+use Rattle.statement_parser.specs.ReadBodies.{nulls_at, ignoring_at, statistic_at, pair_at, two_at, rating_at, radius_at, sight_at, reaching_at, focal_at, costs_at, spread_at, given_at, call_at, plain_at, body_at}
 use Rattle.statement_parser.specs.ReadParts.{term_after_at, further_at, optional_at, range_at, rate_at, with_at, friction_at}
 use Rattle.statement_parser.specs.ReadLine.{define_at, line_at, quit_at}
 use Rattle.statement_parser.specs.ReadProcedures.{names_at, parameters_at, inner_at, result_at, named_inner_at, statements_at, procedure_at}
@@ -34,7 +34,7 @@ refused_row : (m : Manner) (bytes : Text) (f : Fault) → is_short bytes ≡ tru
 refused_row m bytes f s e g h = bad_word f.kind f.left s e g (refused_so (tests m) (line_rule m) (seen bytes) f (healthy_line m).sound refl (sym (line_reads m (seen bytes)) ∙ h))
 
 procedure_rows : WorkedProcedures
-unfolding line_at names_at parameters_at inner_at result_at named_inner_at statements_at procedure_at bytes_at label_at symbol_at define_at defined_at corners_at painted_at laid_at dropped_at looked_at paint_at new_at drop_at undo_at value_at any_line_at table_at model_at list_at quit_at term_after_at further_at optional_at nulls_at ignoring_at statistic_at pair_at difference_at ratio_at range_at rate_at with_at rating_at radius_at sight_at reaching_at focal_at friction_at spread_at given_at call_at plain_at body_at operation_named find_operation command_named find_command is_plain is_dotted is_reserved is_among number_text
+unfolding line_at names_at parameters_at inner_at result_at named_inner_at statements_at procedure_at bytes_at label_at symbol_at define_at defined_at corners_at painted_at laid_at dropped_at looked_at paint_at new_at drop_at undo_at value_at any_line_at table_at model_at list_at quit_at term_after_at further_at optional_at nulls_at ignoring_at statistic_at pair_at two_at range_at rate_at with_at rating_at radius_at sight_at reaching_at focal_at friction_at costs_at spread_at given_at call_at plain_at body_at operation_named find_operation command_named find_command is_plain is_dotted is_reserved is_among number_text
 procedure_rows = record {
   made = line_row all_rows (codes "procedure Twice(P, K): x = LocalSum of P and K; result = LocalProduct of x and 2") _ refl refl refl refl;
   no_result = refused_row all_rows (codes "procedure Q(P): x = LocalSum of P and 1") (record { kind = Syntax; left = 0 }) refl refl refl refl;
@@ -46,7 +46,7 @@ procedure_rows = record {
 }
 
 language_rows : WorkedLanguages
-unfolding line_at names_at parameters_at inner_at result_at named_inner_at statements_at procedure_at bytes_at label_at symbol_at define_at defined_at corners_at painted_at laid_at dropped_at looked_at paint_at new_at drop_at undo_at value_at any_line_at table_at model_at list_at quit_at term_after_at further_at optional_at nulls_at ignoring_at statistic_at pair_at difference_at ratio_at range_at rate_at with_at rating_at radius_at sight_at reaching_at focal_at friction_at spread_at given_at call_at plain_at body_at operation_named find_operation command_named find_command is_plain is_dotted is_reserved is_among number_text
+unfolding line_at names_at parameters_at inner_at result_at named_inner_at statements_at procedure_at bytes_at label_at symbol_at define_at defined_at corners_at painted_at laid_at dropped_at looked_at paint_at new_at drop_at undo_at value_at any_line_at table_at model_at list_at quit_at term_after_at further_at optional_at nulls_at ignoring_at statistic_at pair_at two_at range_at rate_at with_at rating_at radius_at sight_at reaching_at focal_at friction_at costs_at spread_at given_at call_at plain_at body_at operation_named find_operation command_named find_command is_plain is_dotted is_reserved is_among number_text
 language_rows = record {
   ignoring = line_row all_rows (codes "C = LocalSum of A and B ignoring nulls") _ refl refl refl refl;
   not_ignoring = refused_row first_rows (codes "C = LocalSum of A and B ignoring nulls") _ refl refl refl refl;
@@ -62,7 +62,7 @@ language_rows = record {
 }
 
 branch_rows : WorkedBranches
-unfolding line_at names_at parameters_at inner_at result_at named_inner_at statements_at procedure_at bytes_at label_at symbol_at define_at defined_at corners_at painted_at laid_at dropped_at looked_at item_at item_behind_at ended_at items_at branches_at most_items paint_at new_at drop_at undo_at value_at any_line_at table_at model_at list_at quit_at term_after_at further_at optional_at nulls_at ignoring_at statistic_at pair_at difference_at ratio_at range_at rate_at with_at rating_at radius_at sight_at reaching_at focal_at friction_at spread_at given_at call_at plain_at body_at operation_named find_operation command_named find_command is_plain is_dotted is_reserved is_among number_text
+unfolding line_at names_at parameters_at inner_at result_at named_inner_at statements_at procedure_at bytes_at label_at symbol_at define_at defined_at corners_at painted_at laid_at dropped_at looked_at item_at item_behind_at ended_at items_at branches_at most_items paint_at new_at drop_at undo_at value_at any_line_at table_at model_at list_at quit_at term_after_at further_at optional_at nulls_at ignoring_at statistic_at pair_at two_at range_at rate_at with_at rating_at radius_at sight_at reaching_at focal_at friction_at costs_at spread_at given_at call_at plain_at body_at operation_named find_operation command_named find_command is_plain is_dotted is_reserved is_among number_text
 branch_rows = record {
   one = line_row all_rows (codes "branch drop A end") _ refl refl refl refl;
   two = line_row all_rows (codes "branch new B null; value A.b 1 2 branch paint B 1 2 3 4 5 end") _ refl refl refl refl;
@@ -80,7 +80,7 @@ branch_rows = record {
 }
 
 pub rows : Worked
-unfolding line_at names_at parameters_at inner_at result_at named_inner_at statements_at procedure_at bytes_at label_at symbol_at define_at defined_at corners_at painted_at laid_at dropped_at looked_at paint_at new_at drop_at undo_at value_at any_line_at table_at model_at list_at quit_at term_after_at further_at optional_at nulls_at ignoring_at statistic_at pair_at difference_at ratio_at range_at rate_at with_at rating_at radius_at sight_at reaching_at focal_at friction_at spread_at given_at call_at plain_at body_at operation_named find_operation command_named find_command is_plain is_dotted is_reserved is_among number_text
+unfolding line_at names_at parameters_at inner_at result_at named_inner_at statements_at procedure_at bytes_at label_at symbol_at define_at defined_at corners_at painted_at laid_at dropped_at looked_at paint_at new_at drop_at undo_at value_at any_line_at table_at model_at list_at quit_at term_after_at further_at optional_at nulls_at ignoring_at statistic_at pair_at two_at range_at rate_at with_at rating_at radius_at sight_at reaching_at focal_at friction_at costs_at spread_at given_at call_at plain_at body_at operation_named find_operation command_named find_command is_plain is_dotted is_reserved is_among number_text
 rows = record {
   empty = silent refl refl;
   note = silent refl refl;
@@ -110,6 +110,7 @@ rows = record {
   near = line_row all_rows (codes "C = FocalSum of A at 2") _ refl refl refl refl;
   sighted = line_row all_rows (codes "C = FocalSum of A radiating on B to 5") _ refl refl refl refl;
   spread = line_row all_rows (codes "C = FocalProximity of A spreading in 2 within 7") _ refl refl refl refl;
+  nearest = line_row all_rows (codes "C = FocalNeighbor of A within 7") _ refl refl refl refl;
   called = line_row all_rows (codes "C=Twice(A,3)") _ refl refl refl refl;
   tabled = line_row all_rows (codes "table A.b C") _ refl refl refl refl;
   labelled = line_row all_rows (codes "label A 5=x  y ") _ refl refl refl refl;

@@ -13,7 +13,8 @@ use Rattle.map_words.specs.Names.{is_plain, is_dotted}
 use Rattle.map_words.specs.Numbers.{number_text, if_between}
 use Rattle.grammar_core.specs.Rules.{Rule, ends, on, next, also}
 use Rattle.grammar_core.proofs.Ends.{AllEnds, each_end, ends_on, ends_next, ends_or, ends_also}
-use Rattle.map_defs.specs.Ops.{Term, layer_term, number_term, terms_of, Op, local_op, difference_op, ratio_op, rating_op, focal_op, zonal_op, form_op, direction_op, flow_op, spread_op, sight_op, region_op}
+use Rattle.map_defs.specs.Ops.{Term, layer_term, number_term, Head, local_head, rating_head, focal_head, direction_head, flow_head, sight_head, Op, of_one, of_two, local_op, rating_op, focal_op, direction_op, flow_op, sight_op}
+use Rattle.map_defs.specs.Facts.{facts, HasTerms}
 use Rattle.map_defs.specs.Sight.{Sighting}
 use Rattle.map_defs.specs.Statements.{Written, plain, call, Inner}
 use Rattle.statement_parser.specs.Lines.{Manner, define, paint, new_layer, drop, put_label, put_symbol, Item, make as an_item, look_at, ask_value, ask_grid, ask_show, ask_legend, ask_table, ask_stamps, ask_list, ask_branches, Line, edit, undo, ask, model, quit}
@@ -24,9 +25,10 @@ use Rattle.statement_parser.specs.BranchRules.{opening_of, opened_rule, item_rul
 use Rattle.statement_parser.specs.declared.opening.Opening.{Opening}
 use Rattle.statement_parser.specs.declared.opening.Opening.TheVariants.{Named}
 use Rattle.statement_parser.specs.declared.opening.Opening.TheVariants as openings
-use Rattle.statement_parser.specs.Operations.{operations, operation_text, find_operation, has_row, operation_named}
+use Rattle.statement_parser.specs.Operations.{operations, operation_text, operation_of, find_operation, has_row, operation_named}
+use Rattle.statement_parser.specs.Syntax.{Syntax, one_term, two_terms, many_terms, rated, around, spreading, draining, syntax_of}
 use Rattle.statement_parser.specs.Places.{the, maybe, name_of, any_of, value_of, count_of, side_of, disc_of, reach_of, limit_of, version_of, term_of, weights_of, cell_of, call_of}
-use Rattle.statement_parser.specs.Bodies.{term_after, further_terms, optional_part, ignoring_part, statistic_body, pair_body, rate_part, with_rates, rating_body, radius_part, sight_part, radiates, focal_body, friction_part, spread_body, drainage_op, drainage_body, operation_body, call_body, body_rule}
+use Rattle.statement_parser.specs.Bodies.{term_after, further_terms, optional_part, ignoring_part, statistic_body, single_body, pair_body, rate_part, with_rates, rating_body, radius_part, sight_part, radiates, focal_body, friction_part, spread_body, drainage_op, drainage_body, syntax_body, operation_body, call_body, body_rule}
 use Rattle.statement_parser.specs.Commands.{commands, command_text, find_command, has_command, command_named}
 use Rattle.statement_parser.specs.Grammar.{define_rule, command_rule, line_rule}
 use Rattle.std.specs.Prelude.{IfOk, Result, Ok, Err}
@@ -34,14 +36,14 @@ use Rattle.statement_parser.specs.declared.refusal.LineRefusal.{LineRefusal}
 use Rattle.statement_parser.specs.Texts.{seen, LineText, silent, worded}
 use Rattle.statement_parser.specs.Parsed.{IsParsed}
 use Rattle.layer_tiles.specs.Cells.{IsCell}
-use Rattle.statement_parser.specs.Formed.{Each, InScope, AreInScope, IsFresh, AreFresh, IsInner, AreInner, IsBody, IsTerm, IsRate, IsNoProduct, IsBetween, IsRadius, IsSighting, IsOp, IsWritten, IsSide, IsAny, IsItem, IsBranch, IsFormed}
-use Rattle.statement_parser.specs.There.{HasRow, HasCommand, MayIgnore, IsOpThere, IsWrittenThere, AreInnerThere, IsItemThere, IsThere}
+use Rattle.statement_parser.specs.Formed.{Each, InScope, AreInScope, IsFresh, AreFresh, IsInner, AreInner, IsBody, IsTerm, IsRate, IsNoProduct, IsBetween, IsRadius, IsSighting, IsHead, IsOp, IsWritten, IsSide, IsAny, IsItem, IsBranch, IsFormed}
+use Rattle.statement_parser.specs.There.{HasRow, HasCommand, MayBe, IsOpThere, IsWrittenThere, AreInnerThere, IsItemThere, IsThere}
 use Rattle.statement_parser.proofs.LabelRules.{text_ends, sign_ends}
 use Rattle.std.proofs.lemmas.Slice.Eq.{bytes_eq-Decides}
 use Rattle.statement_parser.specs.declared.op.Form.{Form}
 use Rattle.statement_parser.specs.declared.op.Form.TheVariants.{Linkage, Length, Partition, Frontage, Gradient, Aspect}
 use Rattle.statement_parser.specs.declared.operation.Operation.{Operation}
-use Rattle.statement_parser.specs.declared.operation.Operation.TheVariants.{Local, Difference, Ratio, Rating, Focal, Proximity, Insularity, Zonal, Incremental, Drainage}
+use Rattle.statement_parser.specs.declared.operation.Operation.TheVariants.{Local, Rating, Focal, Proximity, Neighbor, Zonal, Incremental, Drainage}
 use Rattle.statement_parser.specs.declared.command.Command.{Command}
 use Rattle.statement_parser.specs.declared.command.Command.TheVariants.{Model, Procedure, Paint, New, Drop, Label, Symbol, Undo, Branch, Value, Grid, Show, Legend, Table, Stamps, List as Listing, Quit}
 
@@ -161,7 +163,7 @@ IsRow (Zonal s) = IsNoProduct s
 IsRow o = Unit {0}
 
 all_rows : Each IsRow operations
-all_rows = (tt, (tt, (tt, (tt, (tt, (tt, (tt, (tt, (tt, (tt, (tt, (tt, (tt, (tt, (tt, (tt, (tt, (tt, (tt, (tt, (tt, (tt, (tt, (tt, (tt, (tt, (tt, (tt, (tt, (tt, (tt, (tt, (tt, (tt, (tt, (tt, (tt, tt)))))))))))))))))))))))))))))))))))))
+all_rows = (tt, (tt, (tt, (tt, (tt, (tt, (tt, (tt, (tt, (tt, (tt, (tt, (tt, (tt, (tt, (tt, (tt, (tt, (tt, (tt, (tt, (tt, (tt, (tt, (tt, (tt, (tt, (tt, (tt, (tt, (tt, (tt, (tt, (tt, (tt, (tt, (tt, (tt, tt))))))))))))))))))))))))))))))))))))))
 
 operation_formed_row : (m : Manner) (w : Text) (o : Operation) → operation_named m w ≡ Some o → HasRow m o × IsRow o
 unfolding operation_named find_operation
@@ -254,7 +256,17 @@ module _ (m : Manner) where
 
     -- an operation that may stand in the scope
     abbrev IsKept : Op → Type 0
-    IsKept op = IsOp op × IsOpThere m op × Each (InScope scope) (terms_of op)
+    IsKept op = IsOp op × IsOpThere m op × Each (InScope scope) op.terms
+
+    -- a head that may be written
+    abbrev IsGoodHead : Head → Type 0
+    IsGoodHead head = IsHead head × HasRow m (operation_of head) × MayBe m head
+
+    abbrev Takes : ℕ → Head → Type 0
+    Takes n head = ((facts head).least ≤ n) × (n ≤ (facts head).most)
+
+    kept : (op : Op) → IsGoodHead op.head → Takes (length op.terms) op.head → Each IsIn op.terms → IsKept op
+    kept op h n p = ((h.0, n, all_left IsTerm (InScope scope) op.terms p), (h.1, h.2), all_right IsTerm (InScope scope) op.terms p)
 
     then_term : (r : Term → Rule Text Line) → Keeps IsIn r → Formed (next (term_of scope) r)
     then_term r h = ends_next IsGood (term_of scope) r (λ w t e. h t (term_formed scope w t e))
@@ -272,21 +284,23 @@ module _ (m : Manner) where
     optional_formed : {A : Type 0} (word : Text) (place : Text → Option A) (default : A) (f : A → Rule Text Line) → Formed (next place f) → Formed (f default) → Formed (optional_part word place default f)
     optional_formed word place default f there left_out = ends_also IsGood (the word) (λ _. next place f) (f default) (λ w v e. there) left_out
 
-    ignoring_formed : (f : Bool → Rule Text Line) → Keeps (MayIgnore m) f → Formed (ignoring_part m f)
-    ignoring_formed f h =
+    ignoring_formed : (s : Stat) (f : Bool → Rule Text Line) → Keeps (λ ignoring. MayBe m (local_head s ignoring)) f → Formed (ignoring_part m f)
+    ignoring_formed s f h =
         ends_also IsGood (maybe m.ignoring (the (codes "ignoring"))) (λ _. next (the (codes "nulls")) (λ _. f true)) (f false)
         (λ w v e. then_the (codes "nulls") (λ _. f true) (h true (maybe_some m.ignoring (the (codes "ignoring")) w v e).0)) (h false tt)
 
-    statistic_formed : (s : Stat) (f : Op → Rule Text Line) → ((ignoring : Bool) (ts : List Term) → IsOp (local_op s ignoring ts) → MayIgnore m ignoring → Each (InScope scope) ts → Formed (f (local_op s ignoring ts)))
-        → Formed (statistic_body scope m s f)
-    statistic_formed s f h =
+    statistic_formed : (s : Stat) (f : Op → Rule Text Line) → HasRow m (Local s) → Keeps IsKept f → Formed (statistic_body scope m s f)
+    statistic_formed s f there h =
         after_formed (codes "of") _ (λ a p. after_formed (codes "and") _ (λ b q.
         further_formed (codes "and") 2 8 (λ ts. ignoring_part m (λ ignoring. f (local_op s ignoring ts))) (λ ts r.
-        ignoring_formed (λ ignoring. f (local_op s ignoring ts)) (λ ignoring there. h ignoring ts (r.0, r.1, all_left IsTerm (InScope scope) ts r.2) there (all_right IsTerm (InScope scope) ts r.2)))
+        ignoring_formed s (λ ignoring. f (local_op s ignoring ts)) (λ ignoring may. h (local_op s ignoring ts) (kept (local_op s ignoring ts) (tt, there, may) (r.0, r.1) r.2)))
         6 (a ∷ b ∷ []) (omega arith, omega arith, (p, (q, tt)))))
 
-    pair_formed : (word : Text) (make : Term → Term → Op) (f : Op → Rule Text Line) → ((a b : Term) → IsIn a → IsIn b → Formed (f (make a b))) → Formed (pair_body scope word make f)
-    pair_formed word make f h = after_formed (codes "of") _ (λ a p. after_formed word _ (λ b q. h a b p q))
+    single_formed : (head : Head) (f : Op → Rule Text Line) → Takes 1 head → IsGoodHead head → Keeps IsKept f → Formed (single_body scope head f)
+    single_formed head f n good h = after_formed (codes "of") _ (λ a p. h (of_one head a) (kept (of_one head a) good n (p, tt)))
+
+    pair_formed : (word : Text) (head : Head) (f : Op → Rule Text Line) → Takes 2 head → IsGoodHead head → Keeps IsKept f → Formed (pair_body scope word head f)
+    pair_formed word head f n good h = after_formed (codes "of") _ (λ a p. after_formed word _ (λ b q. h (of_two head a b) (kept (of_two head a b) good n (p, (q, tt)))))
 
     rate_formed : (f : Rate → Rule Text Line) → Keeps IsRate f → Formed (rate_part f)
     rate_formed f h =
@@ -301,10 +315,10 @@ module _ (m : Manner) where
         ends_also IsGood (the (codes "with")) (λ _. rate_part (λ one. with_rates f n (rs ++ one ∷ []))) (f rs)
         (λ w v e. rate_formed (λ one. with_rates f n (rs ++ one ∷ [])) (λ one p. with_formed f h n (rs ++ one ∷ []) (run-push IsRate 1 32 n rs one r p))) (h rs (r.0, omega arith, r.2))
 
-    rating_formed : (f : Op → Rule Text Line) → ((t : Term) (rs : List Rate) → IsOp (rating_op t rs) → InScope scope t → Formed (f (rating_op t rs))) → Formed (rating_body scope f)
-    rating_formed f h =
+    rating_formed : (f : Op → Rule Text Line) → HasRow m Rating → Keeps IsKept f → Formed (rating_body scope f)
+    rating_formed f there h =
         after_formed (codes "of") _ (λ a p. then_the (codes "with") _ (rate_formed (λ one. with_rates (λ rs. f (rating_op a rs)) 31 (one ∷ [])) (λ one q.
-        with_formed (λ rs. f (rating_op a rs)) (λ rs r. h a rs (p.0, r.0, r.1, r.2) p.1) 31 (one ∷ []) (omega arith, omega arith, (q, tt)))))
+        with_formed (λ rs. f (rating_op a rs)) (λ rs r. h (rating_op a rs) (kept (rating_op a rs) (((r.0, r.1), r.2), there, tt) (omega arith, omega arith) (p, tt))) 31 (one ∷ []) (omega arith, omega arith, (q, tt)))))
 
     radius_formed : (s : Stat) (a : Term) (f : Op → Rule Text Line) → ((r : Option ℕ) → IsRadius r → Formed (f (focal_op s r a))) → Formed (radius_part s a f)
     radius_formed s a f h =
@@ -334,17 +348,18 @@ module _ (m : Manner) where
         after_formed (codes "of") _ (λ a p.
         ends_also IsGood (maybe (radiates m s) (the (codes "radiating"))) (λ _. sight_part scope a f) (radius_part s a f)
         (λ w v e. (let sum = radiates_sum s (maybe_some (radiates m s) (the (codes "radiating")) w v e).0 in
-        sight_formed a f (λ sighting u q r. h (sight_op sighting a u) ((q, p.0, r.0), (subst (λ s. HasRow m (Focal s)) sum.0 there, sum.1), (p.1, (r.1, tt))))))
-        (radius_formed s a f (λ r q. h (focal_op s r a) ((row, q, p.0), there, (p.1, tt)))))
+        sight_formed a f (λ sighting u q r. h (sight_op sighting a u) (kept (sight_op sighting a u) (q, subst (λ s. HasRow m (Focal s)) sum.0 there, sum.1) (omega arith, omega arith) (p, (r, tt))))))
+        (radius_formed s a f (λ r q. h (focal_op s r a) (kept (focal_op s r a) ((row, q), there, tt) (omega arith, omega arith) (p, tt)))))
 
     friction_formed : (f : Term → Rule Text Line) → Keeps IsIn f → Formed (friction_part scope f)
     friction_formed f h = ends_also IsGood (the (codes "spreading")) (λ _. term_after scope (codes "in") f) (f (number_term (pos 1))) (λ w v e. after_formed (codes "in") f h) (h (number_term (pos 1)) (refl, tt))
 
-    spread_formed : (f : Op → Rule Text Line) → ((limit : ℕ) (a u : Term) → IsOp (spread_op limit a u) → InScope scope a → InScope scope u → Formed (f (spread_op limit a u))) → Formed (spread_body scope f)
-    spread_formed f h =
-        after_formed (codes "of") _ (λ a p. friction_formed (λ u. optional_part (codes "within") limit_of greatest_value (λ limit. f (spread_op limit a u))) (λ u q.
-        optional_formed (codes "within") limit_of greatest_value (λ limit. f (spread_op limit a u))
-        (ends_next IsGood limit_of (λ limit. f (spread_op limit a u)) (λ w n e. h n a u ((count_formed 0 greatest_value w n e).1, p.0, q.0) p.1 q.1)) (h greatest_value a u (omega arith, p.0, q.0) p.1 q.1)))
+    spread_formed : (make : ℕ → Head) (f : Op → Rule Text Line) → ((limit : ℕ) → limit ≤ greatest_value → Takes 2 (make limit) × IsGoodHead (make limit)) → Keeps IsKept f → Formed (spread_body scope make f)
+    spread_formed make f good h =
+        let made = λ (a u : Term) (p : IsIn a) (q : IsIn u) (limit : ℕ) (most : limit ≤ greatest_value). h (of_two (make limit) a u) (kept (of_two (make limit) a u) (good limit most).1 (good limit most).0 (p, (q, tt))) in
+        after_formed (codes "of") _ (λ a p. friction_formed (λ u. optional_part (codes "within") limit_of greatest_value (λ limit. f (of_two (make limit) a u))) (λ u q.
+        optional_formed (codes "within") limit_of greatest_value (λ limit. f (of_two (make limit) a u))
+        (ends_next IsGood limit_of (λ limit. f (of_two (make limit) a u)) (λ w n e. made a u p q n (count_formed 0 greatest_value w n e).1)) (made a u p q greatest_value (omega arith))))
 
     drainage_formed : (f : Op → Rule Text Line) → HasRow m Drainage → Keeps IsKept f → Formed (drainage_body scope f)
     drainage_formed f there h =
@@ -352,20 +367,37 @@ module _ (m : Manner) where
         optional_formed (codes "carrying") (weights_of scope) None (λ w. f (drainage_op a w)) (ends_next IsGood (weights_of scope) (λ w. f (drainage_op a w)) (λ t w e. carried a p w (weights_formed scope t w e))) (carried a p None tt))
       where
         carried : (a : Term) → IsIn a → (w : Option Term) → AreWeights scope w → Formed (f (drainage_op a w))
-        carried a p None q = h (direction_op a) (p.0, there, (p.1, tt))
-        carried a p (Some u) q = h (flow_op a u) ((p.0, q.0), there, (p.1, (q.1, tt)))
+        carried a p None q = h (direction_op a) (kept (direction_op a) (tt, there, tt) (omega arith, omega arith) (p, tt))
+        carried a p (Some u) q = h (flow_op a u) (kept (flow_op a u) (tt, there, tt) (omega arith, omega arith) (p, (q, tt)))
 
-    operation_formed : (f : Op → Rule Text Line) → Keeps IsKept f → (o : Operation) → HasRow m o → IsRow o → Formed (operation_body scope m f o)
-    operation_formed f h (Local s) there row = statistic_formed s f (λ ignoring ts p may k. h (local_op s ignoring ts) (p, (there, may), k))
-    operation_formed f h Difference there row = pair_formed (codes "and") difference_op f (λ a b p q. h (difference_op a b) ((p.0, q.0), there, (p.1, (q.1, tt))))
-    operation_formed f h Ratio there row = pair_formed (codes "and") ratio_op f (λ a b p q. h (ratio_op a b) ((p.0, q.0), there, (p.1, (q.1, tt))))
-    operation_formed f h Rating there row = rating_formed f (λ t rs p k. h (rating_op t rs) (p, there, (k, tt)))
-    operation_formed f h (Focal s) there row = focal_formed s f row there h
-    operation_formed f h Proximity there row = spread_formed f (λ limit a u p k l. h (spread_op limit a u) (p, there, (k, (l, tt))))
-    operation_formed f h Insularity there row = after_formed (codes "of") _ (λ a p. h (region_op a) (p.0, there, (p.1, tt)))
-    operation_formed f h (Zonal s) there row = pair_formed (codes "within") (zonal_op s) f (λ a b p q. h (zonal_op s a b) ((row, p.0, q.0), there, (p.1, (q.1, tt))))
-    operation_formed f h (Incremental form) there row = after_formed (codes "of") _ (λ a p. h (form_op (form_of form) a) (p.0, subst (λ g. HasRow m (Incremental g)) (form_again form) there, (p.1, tt)))
-    operation_formed f h Drainage there row = drainage_formed f there h
+    -- the heads of a form may be written with as many terms
+    abbrev IsGoodForm : Syntax → Type 0
+    IsGoodForm (one_term head) = Takes 1 head × IsGoodHead head
+    IsGoodForm (two_terms word head) = Takes 2 head × IsGoodHead head
+    IsGoodForm (many_terms s) = HasRow m (Local s)
+    IsGoodForm rated = HasRow m Rating
+    IsGoodForm (around s) = IsNoProduct s × HasRow m (Focal s)
+    IsGoodForm (spreading make) = (limit : ℕ) → limit ≤ greatest_value → Takes 2 (make limit) × IsGoodHead (make limit)
+    IsGoodForm draining = HasRow m Drainage
+
+    good_form : (o : Operation) → HasRow m o → IsRow o → IsGoodForm (syntax_of o)
+    good_form (Local s) there row = there
+    good_form Rating there row = there
+    good_form (Focal s) there row = (row, there)
+    good_form Proximity there row = λ limit most. ((omega arith, omega arith), (most, there, tt))
+    good_form Neighbor there row = λ limit most. ((omega arith, omega arith), (most, there, tt))
+    good_form (Incremental form) there row = ((omega arith, omega arith), (tt, subst (λ g. HasRow m (Incremental g)) (form_again form) there, tt))
+    good_form Drainage there row = there
+    good_form o there row = ((omega arith, omega arith), (row, there, tt))
+
+    syntax_formed : (f : Op → Rule Text Line) → Keeps IsKept f → (s : Syntax) → IsGoodForm s → Formed (syntax_body scope m f s)
+    syntax_formed f h (one_term head) good = single_formed head f good.0 good.1 h
+    syntax_formed f h (two_terms word head) good = pair_formed word head f good.0 good.1 h
+    syntax_formed f h (many_terms s) there = statistic_formed s f there h
+    syntax_formed f h rated there = rating_formed f there h
+    syntax_formed f h (around s) good = focal_formed s f good.0 good.1 h
+    syntax_formed f h (spreading make) good = spread_formed make f good h
+    syntax_formed f h draining there = drainage_formed f there h
 
     call_formed : (p : Text) (f : List Term → Rule Text Line) → ((ts : List Term) → (1 ≤ length ts) × (length ts ≤ 8) × Each IsTerm ts → Each (InScope scope) ts → Formed (f ts)) → Formed (call_body scope f)
     call_formed p f h =
@@ -376,7 +408,7 @@ module _ (m : Manner) where
       tt,
       ends_or IsGood (on (operation_named m) (operation_body scope m (λ op. f (plain op)))) (on (call_of m) (λ q. call_body scope (λ ts. f (call q ts))))
           (ends_on IsGood (operation_named m) (operation_body scope m (λ op. f (plain op))) (λ w o e. (let row = operation_formed_row m w o e in
-          operation_formed (λ op. f (plain op)) (λ op q. h (plain op) q.0 q.1 q.2) o row.0 row.1)))
+          syntax_formed (λ op. f (plain op)) (λ op q. h (plain op) q.0 q.1 q.2) (syntax_of o) (good_form o row.0 row.1))))
           (ends_on IsGood (call_of m) (λ q. call_body scope (λ ts. f (call q ts))) (λ w q e. (let there = maybe_some m.calls name_of w q e in
           call_formed q (λ ts. f (call q ts)) (λ ts r k. h (call q ts) (name_formed w q there.1, r.0, r.1, r.2) there.0 k)))),
     )

@@ -9,19 +9,17 @@ use Rattle.grammar_core.specs.declared.Kind.{Kind}
 use Rattle.grammar_core.specs.Refusals.{is_unknown, opens_next}
 use Rattle.grammar_core.specs.Run.{refused}
 use Rattle.grammar_core.specs.Readers.{◌>>=◌, Read, taken, one_at, starts}
-use Rattle.map_defs.specs.Ops.{Term, number_term, Op, local_op, difference_op, ratio_op, rating_op, focal_op, zonal_op, form_op, spread_op, sight_op, region_op}
+use Rattle.map_defs.specs.Ops.{Term, number_term, Head, Op, of_one, of_two, local_op, rating_op, focal_op, sight_op}
 use Rattle.map_defs.specs.Statements.{plain, call}
 use Rattle.statement_parser.specs.Lines.{Manner}
 use Rattle.statement_parser.specs.Scopes.{Scope}
-use Rattle.statement_parser.specs.Forms.{form_of}
 use Rattle.statement_parser.specs.Places.{the, maybe, value_of, disc_of, reach_of, limit_of, term_of, weights_of, cell_of, call_of, tests, reading}
 use Rattle.statement_parser.specs.Operations.{operation_named}
+use Rattle.statement_parser.specs.Syntax.{Syntax, one_term, two_terms, many_terms, rated, around, spreading, draining, syntax_of}
 use Rattle.statement_parser.specs.Bodies.{radiates, drainage_op}
 use Rattle.statement_parser.specs.ReadParts.{term_after_at, further_at, optional_at, range_at, rate_at, with_at, friction_at}
-use Rattle.statement_parser.specs.ReadBodies.{nulls_at, ignoring_at, statistic_at, pair_at, difference_at, ratio_at, rating_at, radius_at, sight_at, reaching_at, focal_at, spread_at, region_at, zonal_at, incremental_at, drainage_at, operation_at, given_at, call_at, plain_at, named_at, body_at}
-use Rattle.statement_parser.specs.declared.op.Form.{Form}
+use Rattle.statement_parser.specs.ReadBodies.{nulls_at, ignoring_at, statistic_at, pair_at, two_at, single_at, rating_at, radius_at, sight_at, reaching_at, focal_at, costs_at, spread_at, drainage_at, syntax_at, operation_at, given_at, call_at, plain_at, named_at, body_at}
 use Rattle.statement_parser.specs.declared.operation.Operation.{Operation}
-use Rattle.statement_parser.specs.declared.operation.Operation.TheVariants.{Local as Statistic, Difference, Ratio, Rating, Focal, Proximity, Insularity, Zonal, Incremental, Drainage}
 
 -- nothing follows, or a semicolon
 abbrev pub IsStop : List Text → Type 0
@@ -117,17 +115,13 @@ module _ (us : List Text) (stop : IsStop us) where
         let second = λ (a : Term) (ws : List Text). term_after_at scope word ws >>= λ b. last a b.0 b.1 in
         bind (term_after_at scope (codes "of")) second (after_local (codes "of")) (λ a. bind (term_after_at scope word) (last a) (after_local word) (λ b. pure (a, b)))
 
-    difference_local : Local (difference_at scope)
-    unfolding difference_at
-    difference_local = bind (pair_at scope (codes "and")) (λ p ws. Ok (difference_op p.0 p.1, ws)) (pair_local (codes "and")) (λ p. pure (difference_op p.0 p.1))
+    two_local : (word : Text) (head : Head) → Local (two_at scope word head)
+    unfolding two_at
+    two_local word head = bind (pair_at scope word) (λ p ws. Ok (of_two head p.0 p.1, ws)) (pair_local word) (λ p. pure (of_two head p.0 p.1))
 
-    ratio_local : Local (ratio_at scope)
-    unfolding ratio_at
-    ratio_local = bind (pair_at scope (codes "and")) (λ p ws. Ok (ratio_op p.0 p.1, ws)) (pair_local (codes "and")) (λ p. pure (ratio_op p.0 p.1))
-
-    zonal_local : (s : Stat) → Local (zonal_at scope s)
-    unfolding zonal_at
-    zonal_local s = bind (pair_at scope (codes "within")) (λ p ws. Ok (zonal_op s p.0 p.1, ws)) (pair_local (codes "within")) (λ p. pure (zonal_op s p.0 p.1))
+    single_local : (head : Head) → Local (single_at scope head)
+    unfolding single_at
+    single_local head = bind (term_after_at scope (codes "of")) (λ a ws. Ok (of_one head a, ws)) (after_local (codes "of")) (λ a. pure (of_one head a))
 
     rating_local : Local (rating_at scope)
     unfolding rating_at
@@ -192,22 +186,18 @@ module _ (us : List Text) (stop : IsStop us) where
         choice (the (codes "spreading")) (λ ws. one_at reading (the (codes "spreading")) false ws >>= λ u. term_after_at scope (codes "in") u.1) (λ ws. Ok (number_term (pos 1), ws)) refl
         (bind (one_at reading (the (codes "spreading")) false) (λ u ws. term_after_at scope (codes "in") ws) (one (the (codes "spreading")) false) (λ u. after_local (codes "in"))) (pure (number_term (pos 1)))
 
-    spread_local : Local (spread_at scope)
-    unfolding spread_at
-    spread_local =
-        let last = λ (a friction : Term) (ws : List Text). optional_at (codes "within") limit_of greatest_value ws >>= λ limit. Ok (spread_op limit.0 a friction, limit.1) in
+    costs_local : Local (costs_at scope)
+    unfolding costs_at
+    costs_local =
+        let last = λ (a friction : Term) (ws : List Text). optional_at (codes "within") limit_of greatest_value ws >>= λ limit. Ok ((a, friction, limit.0), limit.1) in
         let second = λ (a : Term) (ws : List Text). friction_at scope ws >>= λ friction. last a friction.0 friction.1 in
         bind (term_after_at scope (codes "of")) second (after_local (codes "of")) (λ a.
         bind (friction_at scope) (last a) friction_local (λ friction.
-        bind (optional_at (codes "within") limit_of greatest_value) (λ limit ws. Ok (spread_op limit a friction, ws)) (optional_local (codes "within") limit_of greatest_value refl) (λ limit. pure (spread_op limit a friction))))
+        bind (optional_at (codes "within") limit_of greatest_value) (λ limit ws. Ok ((a, friction, limit), ws)) (optional_local (codes "within") limit_of greatest_value refl) (λ limit. pure (a, friction, limit))))
 
-    region_local : Local (region_at scope)
-    unfolding region_at
-    region_local = bind (term_after_at scope (codes "of")) (λ a ws. Ok (region_op a, ws)) (after_local (codes "of")) (λ a. pure (region_op a))
-
-    incremental_local : (form : Form) → Local (incremental_at scope form)
-    unfolding incremental_at
-    incremental_local form = bind (term_after_at scope (codes "of")) (λ a ws. Ok (form_op (form_of form) a, ws)) (after_local (codes "of")) (λ a. pure (form_op (form_of form) a))
+    spread_local : (make : ℕ → Head) → Local (spread_at scope make)
+    unfolding spread_at
+    spread_local make = bind (costs_at scope) (λ c ws. Ok (of_two (make c.2) c.0 c.1, ws)) costs_local (λ c. pure (of_two (make c.2) c.0 c.1))
 
     drainage_local : Local (drainage_at scope)
     unfolding drainage_at
@@ -216,17 +206,14 @@ module _ (us : List Text) (stop : IsStop us) where
         bind (term_after_at scope (codes "of")) last (after_local (codes "of")) (λ a.
         bind (optional_at (codes "carrying") (weights_of scope) None) (λ w ws. Ok (drainage_op a w, ws)) (optional_local (codes "carrying") (weights_of scope) None refl) (λ w. pure (drainage_op a w)))
 
-    operation_local : (o : Operation) → Local (operation_at scope m o)
-    operation_local (Statistic s) = statistic_local s
-    operation_local Difference = difference_local
-    operation_local Ratio = ratio_local
-    operation_local Rating = rating_local
-    operation_local (Focal s) = focal_local s
-    operation_local Proximity = spread_local
-    operation_local Insularity = region_local
-    operation_local (Zonal s) = zonal_local s
-    operation_local (Incremental form) = incremental_local form
-    operation_local Drainage = drainage_local
+    syntax_local : (s : Syntax) → Local (syntax_at scope m s)
+    syntax_local (one_term head) = single_local head
+    syntax_local (two_terms word head) = two_local word head
+    syntax_local (many_terms s) = statistic_local s
+    syntax_local rated = rating_local
+    syntax_local (around s) = focal_local s
+    syntax_local (spreading make) = spread_local make
+    syntax_local draining = drainage_local
 
     given_local : Local (given_at scope)
     unfolding given_at
@@ -243,7 +230,7 @@ module _ (us : List Text) (stop : IsStop us) where
 
     plain_local : (o : Operation) → Local (plain_at scope m o)
     unfolding plain_at
-    plain_local o = bind (operation_at scope m o) (λ op ws. Ok (plain op, ws)) (operation_local o) (λ op. pure (plain op))
+    plain_local o = bind (operation_at scope m o) (λ op ws. Ok (plain op, ws)) (syntax_local (syntax_of o)) (λ op. pure (plain op))
 
     named_local : (o : Option Operation) (p : Option Text) → Local (named_at scope m o p)
     named_local None None ws v rest e = absurd cc

@@ -1,6 +1,7 @@
 -- What the places of lines take, and what they don't.
 use Rattle.std.proofs.Common.{◌≡◌, pos, Bool, true, false, cond, ◌∷◌, Option, Some, None, refl, ap}
 use Rattle.std.specs.Prelude.{codes, is_some, bytes_eq}
+use Rattle.std.proofs.lemmas.Slice.Eq.{bytes_eq-Decides}
 use Rattle.map_nums.specs.declared.Stat.TheVariants as stats
 use Rattle.map_words.specs.Bytes.{Text}
 use Rattle.map_words.specs.Names.{is_plain, is_dotted, is_reserved, is_among}
@@ -10,9 +11,11 @@ use Rattle.map_defs.specs.Ops.{number_term}
 use Rattle.statement_parser.specs.Lines.{Manner}
 use Rattle.statement_parser.specs.Scopes.{Scope}
 use Rattle.statement_parser.specs.Operations.{find_operation, has_row, operation_named}
+use Rattle.statement_parser.specs.Syntax.{Syntax, two_terms, syntax_of}
 use Rattle.statement_parser.specs.Places.{the, maybe, name_of, any_of, value_of, side_of, disc_of, reach_of, limit_of, version_of, term_of, weights_of, cell_of, call_of, tests}
 use Rattle.statement_parser.specs.Commands.{find_command, has_command, command_named}
-use Rattle.statement_parser.specs.declared.operation.Operation.TheVariants.{Local}
+use Rattle.statement_parser.specs.declared.operation.Operation.{Operation}
+use Rattle.statement_parser.specs.declared.operation.Operation.TheVariants.{Local, Difference}
 use Rattle.statement_parser.specs.declared.language.Language.TheVariants.{One}
 
 -- each takes some word
@@ -96,6 +99,14 @@ no_name_number : name_of (codes "01") ≡ None
 unfolding is_plain
 no_name_number = refl
 
+pub the_word : (word : Text) → the word word ≡ Some tt
+the_word word = rw ((bytes_eq-Decides word word).1 refl) refl
+
+-- the word before the last term
+abbrev pub word_in : Syntax → Text
+word_in (two_terms word head) = word
+word_in s = codes "of"
+
 module _ (m : Manner) where
   pub operation_takes : operation_named m (codes "LocalSum") ≡ Some (Local stats.Sum)
   unfolding operation_named
@@ -104,6 +115,10 @@ module _ (m : Manner) where
   -- no operation stands there, and where a number is due
   pub the_place : (word : Text) → bytes_eq (codes "LocalSum") word ≡ false → bytes_eq (codes "01") word ≡ false → IsPlace (tests m) (the word) false
   the_place word e f = record { free = rw e refl; number = rw f refl }
+
+  pub word_place : (o : Operation) → IsPlace (tests m) (the (word_in (syntax_of o))) false
+  word_place Difference = the_place (codes "and") refl refl
+  word_place o = the_place (word_in (syntax_of o)) refl refl
 
   pub name_place : IsPlace (tests m) name_of false
   unfolding is_plain is_reserved is_among

@@ -10,21 +10,19 @@ use Rattle.grammar_core.specs.Refusals.{is_unknown}
 use Rattle.grammar_core.specs.Run.{run, is_node}
 use Rattle.grammar_core.specs.Readers.{◌>>=◌, Read, one_at, starts}
 use Rattle.grammar_core.proofs.Reading.{assoc, cond_k, pick, IsPlace, Reads, IsTail, also_tail, also_reads, or_else, or_refused, next_tail}
-use Rattle.map_defs.specs.Ops.{Term, number_term, Op, local_op, difference_op, ratio_op, rating_op, focal_op, zonal_op, form_op, spread_op, sight_op, region_op}
+use Rattle.map_defs.specs.Ops.{Term, number_term, Head, Op, of_one, of_two, local_op, rating_op, focal_op, sight_op}
 use Rattle.map_defs.specs.Statements.{Written, plain, call}
 use Rattle.map_nums.specs.Numbers.{greatest_value}
 use Rattle.statement_parser.specs.Lines.{Manner, Line}
 use Rattle.statement_parser.specs.Scopes.{Scope}
 use Rattle.statement_parser.specs.Operations.{operation_named}
-use Rattle.statement_parser.specs.Forms.{form_of}
+use Rattle.statement_parser.specs.Syntax.{Syntax, one_term, two_terms, many_terms, rated, around, spreading, draining, syntax_of}
 use Rattle.statement_parser.specs.Places.{the, maybe, value_of, disc_of, reach_of, limit_of, term_of, weights_of, cell_of, call_of, tests, reading}
-use Rattle.statement_parser.specs.Bodies.{term_after, further_terms, optional_part, ignoring_part, statistic_body, pair_body, single_body, rate_part, with_rates, rating_body, radius_part, sight_part, radiates, focal_body, friction_part, spread_body, drainage_op, drainage_body, operation_body, call_body, body_rule}
-use Rattle.statement_parser.specs.ReadBodies.{nulls_at, ignoring_at, statistic_at, pair_at, difference_at, ratio_at, rating_at, radius_at, sight_at, reaching_at, focal_at, spread_at, region_at, zonal_at, incremental_at, drainage_at, operation_at, given_at, call_at, plain_at, named_at, body_at}
+use Rattle.statement_parser.specs.Bodies.{term_after, further_terms, optional_part, ignoring_part, statistic_body, pair_body, single_body, rate_part, with_rates, rating_body, radius_part, sight_part, radiates, focal_body, friction_part, spread_body, drainage_op, drainage_body, syntax_body, operation_body, call_body, body_rule}
+use Rattle.statement_parser.specs.ReadBodies.{nulls_at, ignoring_at, statistic_at, pair_at, two_at, single_at, rating_at, radius_at, sight_at, reaching_at, focal_at, costs_at, spread_at, drainage_at, syntax_at, operation_at, given_at, call_at, plain_at, named_at, body_at}
 use Rattle.statement_parser.specs.ReadParts.{term_after_at, further_at, optional_at, range_at, rate_at, with_at, friction_at}
-use Rattle.statement_parser.specs.declared.op.Form.{Form}
 use Rattle.statement_parser.specs.declared.operation.Operation.{Operation}
-use Rattle.statement_parser.specs.declared.operation.Operation.TheVariants.{Local, Difference, Ratio, Rating, Focal, Proximity, Insularity, Zonal, Incremental, Drainage}
-use Rattle.statement_parser.proofs.PlaceFacts.{maybe_free, the_place, term_place, weights_place, value_place, disc_place, reach_place, limit_place, cell_place, call_place, operation_takes, operation_number}
+use Rattle.statement_parser.proofs.PlaceFacts.{maybe_free, the_place, term_place, weights_place, value_place, disc_place, reach_place, limit_place, cell_place, call_place, operation_takes, operation_number, word_in, word_place}
 use Rattle.statement_parser.proofs.Placing.{placed, placed_k, maybe_reads, either_place}
 
 module _ (m : Manner) (scope : Scope) where
@@ -161,23 +159,20 @@ module _ (m : Manner) (scope : Scope) where
       ∙ ignoring_reads (λ ignoring. k (local_op s ignoring ts)) (λ ignoring. r (local_op s ignoring ts)) (λ ignoring. tails (local_op s ignoring ts)) (λ ignoring. reads (local_op s ignoring ts)) ws)
       6 (a ∷ b ∷ []) ws))
 
-  pair_reads : (word : Text) (make : Term → Term → Op) (k : Goes Op) (r : Op → Rule Text Line) → IsPlace (tests m) (the word) false → AreTails r → Reads (tests m) k r → (ws : List Text)
-      → (pair_at scope word ws >>= λ p. k (make p.0.0 p.0.1) p.1) ≡ run (tests m) (pair_body scope word make r) ws
+  pair_reads : (word : Text) (head : Head) (k : Goes Op) (r : Op → Rule Text Line) → IsPlace (tests m) (the word) false → AreTails r → Reads (tests m) k r → (ws : List Text)
+      → (pair_at scope word ws >>= λ p. k (of_two head p.0.0 p.0.1) p.1) ≡ run (tests m) (pair_body scope word head r) ws
   unfolding pair_at
-  pair_reads word make k r p tails reads =
-      let h : Goes (Term × Term) = λ p ws. k (make p.0 p.1) ws in
+  pair_reads word head k r p tails reads =
+      let h : Goes (Term × Term) = λ p ws. k (of_two head p.0 p.1) ws in
       let last = λ (a b : Term) (ws : List Text). let x : Read Text (Term × Term) = Ok ((a, b), ws) in x in
       let second = λ (a : Term) (ws : List Text). term_after_at scope word ws >>= λ b. last a b.0 b.1 in
       after_reads_k (codes "of") second h _ of_place (λ a. refl) (λ a.
-      after_reads_k word (last a) h (λ b. r (make a b)) p (λ b. (tails (make a b)).node) (λ b. reads (make a b)))
+      after_reads_k word (last a) h (λ b. r (of_two head a b)) p (λ b. (tails (of_two head a b)).node) (λ b. reads (of_two head a b)))
 
-  difference_reads : (k : Goes Op) (r : Op → Rule Text Line) → AreTails r → Reads (tests m) k r → (ws : List Text) → (difference_at scope ws >>= λ p. k p.0 p.1) ≡ run (tests m) (pair_body scope (codes "and") difference_op r) ws
-  unfolding difference_at
-  difference_reads k r tails reads ws = assoc (pair_at scope (codes "and") ws) (λ p. Ok (difference_op p.0.0 p.0.1, p.1)) (λ p. k p.0 p.1) ∙ pair_reads (codes "and") difference_op k r and_place tails reads ws
-
-  ratio_reads : (k : Goes Op) (r : Op → Rule Text Line) → AreTails r → Reads (tests m) k r → (ws : List Text) → (ratio_at scope ws >>= λ p. k p.0 p.1) ≡ run (tests m) (pair_body scope (codes "and") ratio_op r) ws
-  unfolding ratio_at
-  ratio_reads k r tails reads ws = assoc (pair_at scope (codes "and") ws) (λ p. Ok (ratio_op p.0.0 p.0.1, p.1)) (λ p. k p.0 p.1) ∙ pair_reads (codes "and") ratio_op k r and_place tails reads ws
+  two_reads : (word : Text) (head : Head) (k : Goes Op) (r : Op → Rule Text Line) → IsPlace (tests m) (the word) false → AreTails r → Reads (tests m) k r → (ws : List Text)
+      → (two_at scope word head ws >>= λ p. k p.0 p.1) ≡ run (tests m) (pair_body scope word head r) ws
+  unfolding two_at
+  two_reads word head k r p tails reads ws = assoc (pair_at scope word ws) (λ p. Ok (of_two head p.0.0 p.0.1, p.1)) (λ p. k p.0 p.1) ∙ pair_reads word head k r p tails reads ws
 
   rate_reads : (k : Goes Rate) (r : Rate → Rule Text Line) → AreTails r → Reads (tests m) k r → (ws : List Text) → (rate_at ws >>= λ p. k p.0 p.1) ≡ run (tests m) (rate_part r) ws
   unfolding rate_at range_at
@@ -220,20 +215,9 @@ module _ (m : Manner) (scope : Scope) where
       assoc (with_at 31 (one ∷ []) ws) (λ rs. Ok (rating_op a rs.0, rs.1)) (λ p. k p.0 p.1)
       ∙ with_reads (λ rs. k (rating_op a rs)) (λ rs. r (rating_op a rs)) (λ rs. tails (rating_op a rs)) (λ rs. reads (rating_op a rs)) 31 (one ∷ []) ws) ws))
 
-  single_reads : (make : Term → Op) (k : Goes Op) (r : Op → Rule Text Line) → AreTails r → Reads (tests m) k r → (ws : List Text) → (term_after_at scope (codes "of") ws >>= λ a. k (make a.0) a.1) ≡ run (tests m) (single_body scope make r) ws
-  single_reads make k r tails reads ws = after_reads (codes "of") (λ a. k (make a)) (λ a. r (make a)) of_place (λ a. (tails (make a)).node) (λ a. reads (make a)) ws
-
-  region_reads : (k : Goes Op) (r : Op → Rule Text Line) → AreTails r → Reads (tests m) k r → (ws : List Text) → (region_at scope ws >>= λ p. k p.0 p.1) ≡ run (tests m) (single_body scope region_op r) ws
-  unfolding region_at
-  region_reads k r tails reads ws = assoc (term_after_at scope (codes "of") ws) (λ a. Ok (region_op a.0, a.1)) (λ p. k p.0 p.1) ∙ single_reads region_op k r tails reads ws
-
-  incremental_reads : (form : Form) (k : Goes Op) (r : Op → Rule Text Line) → AreTails r → Reads (tests m) k r → (ws : List Text) → (incremental_at scope form ws >>= λ p. k p.0 p.1) ≡ run (tests m) (single_body scope (form_op (form_of form)) r) ws
-  unfolding incremental_at
-  incremental_reads form k r tails reads ws = assoc (term_after_at scope (codes "of") ws) (λ a. Ok (form_op (form_of form) a.0, a.1)) (λ p. k p.0 p.1) ∙ single_reads (form_op (form_of form)) k r tails reads ws
-
-  zonal_reads : (s : Stat) (k : Goes Op) (r : Op → Rule Text Line) → AreTails r → Reads (tests m) k r → (ws : List Text) → (zonal_at scope s ws >>= λ p. k p.0 p.1) ≡ run (tests m) (pair_body scope (codes "within") (zonal_op s) r) ws
-  unfolding zonal_at
-  zonal_reads s k r tails reads ws = assoc (pair_at scope (codes "within") ws) (λ p. Ok (zonal_op s p.0.0 p.0.1, p.1)) (λ p. k p.0 p.1) ∙ pair_reads (codes "within") (zonal_op s) k r within_place tails reads ws
+  single_reads : (head : Head) (k : Goes Op) (r : Op → Rule Text Line) → AreTails r → Reads (tests m) k r → (ws : List Text) → (single_at scope head ws >>= λ p. k p.0 p.1) ≡ run (tests m) (single_body scope head r) ws
+  unfolding single_at
+  single_reads head k r tails reads = after_reads_k (codes "of") (λ a ws. Ok (of_one head a, ws)) k _ of_place (λ a. (tails (of_one head a)).node) (λ a. reads (of_one head a))
 
   -- a part that may be left out, and then k
   optional_tail : {A : Type 0} (word : Text) (f : Text → Option A) (default : A) (r : A → Rule Text Line) → IsPlace (tests m) (the word) false → IsTail (tests m) (r default) → IsTail (tests m) (optional_part word f default r)
@@ -300,16 +284,22 @@ module _ (m : Manner) (scope : Scope) where
       (placed_k m (the (codes "spreading")) false (λ u ws. term_after_at scope (codes "in") ws) k _ spreading_place (λ u. refl) (λ u. after_reads (codes "in") k r in_place (λ t. (tails t).node) reads))
       (reads (number_term (pos 1))) ws
 
-  spread_reads : (k : Goes Op) (r : Op → Rule Text Line) → AreTails r → Reads (tests m) k r → (ws : List Text) → (spread_at scope ws >>= λ p. k p.0 p.1) ≡ run (tests m) (spread_body scope r) ws
-  unfolding spread_at
-  spread_reads k r tails reads =
-      let last = λ (a friction : Term) (ws : List Text). optional_at (codes "within") limit_of greatest_value ws >>= λ limit. Ok (spread_op limit.0 a friction, limit.1) in
+  costs_reads : (make : ℕ → Head) (k : Goes Op) (r : Op → Rule Text Line) → AreTails r → Reads (tests m) k r → (ws : List Text) → (costs_at scope ws >>= λ p. k (of_two (make p.0.2) p.0.0 p.0.1) p.1) ≡ run (tests m) (spread_body scope make r) ws
+  unfolding costs_at
+  costs_reads make k r tails reads =
+      let goes : Goes (Term × Term × ℕ) = λ p ws. k (of_two (make p.2) p.0 p.1) ws in
+      let last = λ (a friction : Term) (ws : List Text). optional_at (codes "within") limit_of greatest_value ws >>= λ limit. Ok ((a, friction, limit.0), limit.1) in
       let second = λ (a : Term) (ws : List Text). friction_at scope ws >>= λ friction. last a friction.0 friction.1 in
-      let rule = λ (a friction : Term). optional_part (codes "within") limit_of greatest_value (λ limit. r (spread_op limit a friction)) in
-      after_reads_k (codes "of") second k _ of_place (λ a. refl) (λ a ws.
-      assoc (friction_at scope ws) (λ friction. last a friction.0 friction.1) (λ p. k p.0 p.1)
-      ∙ friction_reads (λ friction ws. last a friction ws >>= λ p. k p.0 p.1) (λ friction. rule a friction) (λ friction. optional_tail (codes "within") limit_of greatest_value (λ limit. r (spread_op limit a friction)) within_place (tails (spread_op greatest_value a friction))) (λ friction.
-      optional_reads_k (codes "within") limit_of greatest_value (λ limit ws. Ok (spread_op limit a friction, ws)) k (λ limit. r (spread_op limit a friction)) within_place (limit_place m) (λ limit. tails (spread_op limit a friction)) (λ limit. reads (spread_op limit a friction))) ws)
+      let made = λ (a friction : Term) (limit : ℕ). of_two (make limit) a friction in
+      let rule = λ (a friction : Term). optional_part (codes "within") limit_of greatest_value (λ limit. r (made a friction limit)) in
+      after_reads_k (codes "of") second goes _ of_place (λ a. refl) (λ a ws.
+      assoc (friction_at scope ws) (λ friction. last a friction.0 friction.1) (λ p. goes p.0 p.1)
+      ∙ friction_reads (λ friction ws. last a friction ws >>= λ p. goes p.0 p.1) (λ friction. rule a friction) (λ friction. optional_tail (codes "within") limit_of greatest_value (λ limit. r (made a friction limit)) within_place (tails (made a friction greatest_value))) (λ friction.
+      optional_reads_k (codes "within") limit_of greatest_value (λ limit ws. Ok ((a, friction, limit), ws)) goes (λ limit. r (made a friction limit)) within_place (limit_place m) (λ limit. tails (made a friction limit)) (λ limit. reads (made a friction limit))) ws)
+
+  spread_reads : (make : ℕ → Head) (k : Goes Op) (r : Op → Rule Text Line) → AreTails r → Reads (tests m) k r → (ws : List Text) → (spread_at scope make ws >>= λ p. k p.0 p.1) ≡ run (tests m) (spread_body scope make r) ws
+  unfolding spread_at
+  spread_reads make k r tails reads ws = assoc (costs_at scope ws) (λ c. Ok (of_two (make c.0.2) c.0.0 c.0.1, c.1)) (λ p. k p.0 p.1) ∙ costs_reads make k r tails reads ws
 
   drainage_reads : (k : Goes Op) (r : Op → Rule Text Line) → AreTails r → Reads (tests m) k r → (ws : List Text) → (drainage_at scope ws >>= λ p. k p.0 p.1) ≡ run (tests m) (drainage_body scope r) ws
   unfolding drainage_at
@@ -318,29 +308,21 @@ module _ (m : Manner) (scope : Scope) where
       after_reads_k (codes "of") last k _ of_place (λ a. refl) (λ a.
       optional_reads_k (codes "carrying") (weights_of scope) None (λ w ws. Ok (drainage_op a w, ws)) k (λ w. r (drainage_op a w)) carrying_place (weights_place m scope) (λ w. tails (drainage_op a w)) (λ w. reads (drainage_op a w)))
 
-  operation_reads : (k : Goes Op) (r : Op → Rule Text Line) → AreTails r → Reads (tests m) k r → (o : Operation) (ws : List Text) → (operation_at scope m o ws >>= λ p. k p.0 p.1) ≡ run (tests m) (operation_body scope m r o) ws
-  operation_reads k r tails reads (Local s) = statistic_reads s k r tails reads
-  operation_reads k r tails reads Difference = difference_reads k r tails reads
-  operation_reads k r tails reads Ratio = ratio_reads k r tails reads
-  operation_reads k r tails reads Rating = rating_reads k r tails reads
-  operation_reads k r tails reads (Focal s) = focal_reads s k r tails reads
-  operation_reads k r tails reads Proximity = spread_reads k r tails reads
-  operation_reads k r tails reads Insularity = region_reads k r tails reads
-  operation_reads k r tails reads (Zonal s) = zonal_reads s k r tails reads
-  operation_reads k r tails reads (Incremental form) = incremental_reads form k r tails reads
-  operation_reads k r tails reads Drainage = drainage_reads k r tails reads
+  syntax_reads : (k : Goes Op) (r : Op → Rule Text Line) → AreTails r → Reads (tests m) k r → (s : Syntax) → IsPlace (tests m) (the (word_in s)) false → (ws : List Text) → (syntax_at scope m s ws >>= λ p. k p.0 p.1) ≡ run (tests m) (syntax_body scope m r s) ws
+  syntax_reads k r tails reads (one_term head) p = single_reads head k r tails reads
+  syntax_reads k r tails reads (two_terms word head) p = two_reads word head k r p tails reads
+  syntax_reads k r tails reads (many_terms s) p = statistic_reads s k r tails reads
+  syntax_reads k r tails reads rated p = rating_reads k r tails reads
+  syntax_reads k r tails reads (around s) p = focal_reads s k r tails reads
+  syntax_reads k r tails reads (spreading make) p = spread_reads make k r tails reads
+  syntax_reads k r tails reads draining p = drainage_reads k r tails reads
 
-  operation_node : (r : Op → Rule Text Line) (o : Operation) → is_node (operation_body scope m r o) ≡ true
-  operation_node r (Local s) = refl
-  operation_node r Difference = refl
-  operation_node r Ratio = refl
-  operation_node r Rating = refl
-  operation_node r (Focal s) = refl
-  operation_node r Proximity = refl
-  operation_node r Insularity = refl
-  operation_node r (Zonal s) = refl
-  operation_node r (Incremental form) = refl
-  operation_node r Drainage = refl
+  operation_reads : (k : Goes Op) (r : Op → Rule Text Line) → AreTails r → Reads (tests m) k r → (o : Operation) (ws : List Text) → (operation_at scope m o ws >>= λ p. k p.0 p.1) ≡ run (tests m) (operation_body scope m r o) ws
+  operation_reads k r tails reads o = syntax_reads k r tails reads (syntax_of o) (word_place m o)
+
+  syntax_node : (r : Op → Rule Text Line) (s : Syntax) → is_node (syntax_body scope m r s) ≡ true
+  syntax_node r (one_term head) = refl
+  syntax_node r s = refl
 
   -- ---- calls
 
@@ -376,4 +358,4 @@ module _ (m : Manner) (scope : Scope) where
   body_reads k r tails reads (w ∷ ws) =
       pick (is_unknown (tests m) (w ∷ ws)) (suc (length ws)) (named_at scope m (operation_named m w) (call_of m w) ws) _ (λ w. k w.0 w.1) (named_then (operation_named m w) (call_of m w) k ws)
       ∙ either_place m (operation_named m) (call_of m) (λ o ws. plain_at scope m o ws >>= λ w. k w.0 w.1) (λ p ws. call_at scope p ws >>= λ w. k w.0 w.1) (operation_body scope m (λ op. r (plain op))) (λ p. call_body scope (λ ts. r (call p ts)))
-      (ap is_some (operation_takes m)) (operation_number m) (call_place m) (operation_node (λ op. r (plain op))) (λ p. refl) (plain_reads k r tails reads) (λ p. call_reads p k r tails reads) w ws
+      (ap is_some (operation_takes m)) (operation_number m) (call_place m) (λ o. syntax_node (λ op. r (plain op)) (syntax_of o)) (λ p. refl) (plain_reads k r tails reads) (λ p. call_reads p k r tails reads) w ws

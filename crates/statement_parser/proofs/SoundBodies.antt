@@ -11,18 +11,17 @@ use Rattle.grammar_core.specs.Refusals.{Begins, opens_next}
 use Rattle.grammar_core.proofs.FirstFault.{Sound, KnownBodies, nothing, next_sound}
 use Rattle.grammar_core.proofs.Ends.{rest_derives}
 use Rattle.grammar_core.proofs.Parts.{Healthy, Tail, through, healthy_node, all_on, all_or, tail_next, tail_also}
-use Rattle.map_defs.specs.Ops.{Term, number_term, Op, local_op, difference_op, ratio_op, rating_op, focal_op, zonal_op, form_op, spread_op, sight_op, region_op}
+use Rattle.map_defs.specs.Ops.{Term, number_term, Head, Op, of_one, of_two, local_op, rating_op, focal_op, sight_op}
 use Rattle.map_defs.specs.Statements.{Written, plain, call}
 use Rattle.map_nums.specs.Numbers.{greatest_value}
-use Rattle.statement_parser.specs.Forms.{form_of}
 use Rattle.statement_parser.specs.Lines.{Manner, Line}
 use Rattle.statement_parser.specs.Scopes.{Scope}
 use Rattle.statement_parser.specs.Operations.{operation_named}
+use Rattle.statement_parser.specs.Syntax.{Syntax, one_term, two_terms, many_terms, rated, around, spreading, draining, syntax_of}
 use Rattle.statement_parser.specs.Places.{the, maybe, value_of, disc_of, reach_of, limit_of, term_of, weights_of, cell_of, call_of, tests}
-use Rattle.statement_parser.specs.Bodies.{term_after, further_terms, optional_part, ignoring_part, statistic_body, pair_body, single_body, rate_part, with_rates, rating_body, radius_part, sight_part, radiates, focal_body, friction_part, spread_body, drainage_op, drainage_body, operation_body, call_body, body_rule}
+use Rattle.statement_parser.specs.Bodies.{term_after, further_terms, optional_part, ignoring_part, statistic_body, pair_body, single_body, rate_part, with_rates, rating_body, radius_part, sight_part, radiates, focal_body, friction_part, spread_body, drainage_op, drainage_body, syntax_body, operation_body, call_body, body_rule}
 use Rattle.statement_parser.specs.declared.operation.Operation.{Operation}
-use Rattle.statement_parser.specs.declared.operation.Operation.TheVariants.{Local, Difference, Ratio, Rating, Focal, Proximity, Insularity, Zonal, Incremental, Drainage}
-use Rattle.statement_parser.proofs.PlaceFacts.{term_takes, term_place, weights_takes, weights_place, value_takes, value_place, disc_takes, disc_place, reach_takes, reach_place, limit_takes, limit_place, cell_takes, cell_place, operation_takes}
+use Rattle.statement_parser.proofs.PlaceFacts.{term_takes, term_place, weights_takes, weights_place, value_takes, value_place, disc_takes, disc_place, reach_takes, reach_place, limit_takes, limit_place, cell_takes, cell_place, operation_takes, word_in, word_place, the_word}
 
 module _ (m : Manner) (scope : Scope) where
   abbrev pub Tails : {A : Type 0} → (A → Rule Text Line) → Type 0
@@ -61,8 +60,8 @@ module _ (m : Manner) (scope : Scope) where
       → Tail (tests m) (optional_part word place default f)
   tail_optional word place default f same free there left_out = tail_also (tests m) (the word) (λ _. next place f) (f default) word tt same free (λ u. there) left_out
 
-  tail_pair : (word : Text) (make : Term → Term → Op) (f : Op → Rule Text Line) → the word word ≡ Some tt → IsFree word → Tails f → Tail (tests m) (pair_body scope word make f)
-  tail_pair word make f same free h = tail_after (codes "of") _ refl refl (λ a. (tail_after word _ same free (λ b. (h (make a b)).healthy)).healthy)
+  tail_pair : (word : Text) (head : Head) (f : Op → Rule Text Line) → IsFree word → Tails f → Tail (tests m) (pair_body scope word head f)
+  tail_pair word head f free h = tail_after (codes "of") _ refl refl (λ a. (tail_after word _ (the_word word) free (λ b. (h (of_two head a b)).healthy)).healthy)
 
   tail_rate : (f : Rate → Rule Text Line) → Tails f → Tail (tests m) (rate_part f)
   tail_rate f h =
@@ -81,8 +80,8 @@ module _ (m : Manner) (scope : Scope) where
       tail_after (codes "of") _ refl refl (λ a. (the_tail (codes "with") _ refl refl (tail_rate _ (λ r.
       tail_with (λ rs. f (rating_op a rs)) 31 (r ∷ []) (λ rs. h (rating_op a rs)))).healthy).healthy)
 
-  tail_single : (make : Term → Op) (f : Op → Rule Text Line) → Tails f → Tail (tests m) (single_body scope make f)
-  tail_single make f h = tail_after (codes "of") _ refl refl (λ a. (h (make a)).healthy)
+  tail_single : (head : Head) (f : Op → Rule Text Line) → Tails f → Tail (tests m) (single_body scope head f)
+  tail_single head f h = tail_after (codes "of") _ refl refl (λ a. (h (of_one head a)).healthy)
 
   -- a part that may be left out, of one place
   tail_part : {A : Type 0} (word : Text) (place : Text → Option A) (v default : A) (f : A → Rule Text Line) → the word word ≡ Some tt → IsFree word → place (codes "1") ≡ Some v → place (codes "LocalSum") ≡ None → Tails f → Tail (tests m) (optional_part word place default f)
@@ -125,26 +124,26 @@ module _ (m : Manner) (scope : Scope) where
   tail_friction f h =
       tail_also (tests m) (the (codes "spreading")) (λ _. term_after scope (codes "in") f) (f (number_term (pos 1))) (codes "spreading") tt refl refl (λ u. tail_after (codes "in") f refl refl (λ t. (h t).healthy)) (h (number_term (pos 1)))
 
-  tail_spread : (f : Op → Rule Text Line) → Tails f → Tail (tests m) (spread_body scope f)
-  tail_spread f h =
-      tail_after (codes "of") _ refl refl (λ a. (tail_friction (λ friction. optional_part (codes "within") limit_of greatest_value (λ limit. f (spread_op limit a friction))) (λ friction.
-      tail_part (codes "within") limit_of 1 greatest_value (λ limit. f (spread_op limit a friction)) refl refl limit_takes (limit_place m).free (λ limit. h (spread_op limit a friction)))).healthy)
+  tail_spread : (make : ℕ → Head) (f : Op → Rule Text Line) → Tails f → Tail (tests m) (spread_body scope make f)
+  tail_spread make f h =
+      tail_after (codes "of") _ refl refl (λ a. (tail_friction (λ friction. optional_part (codes "within") limit_of greatest_value (λ limit. f (of_two (make limit) a friction))) (λ friction.
+      tail_part (codes "within") limit_of 1 greatest_value (λ limit. f (of_two (make limit) a friction)) refl refl limit_takes (limit_place m).free (λ limit. h (of_two (make limit) a friction)))).healthy)
 
   tail_drainage : (f : Op → Rule Text Line) → Tails f → Tail (tests m) (drainage_body scope f)
   tail_drainage f h =
       tail_after (codes "of") _ refl refl (λ a. (tail_part (codes "carrying") (weights_of scope) (Some (number_term (pos 1))) None (λ w. f (drainage_op a w)) refl refl (weights_takes scope) (weights_place m scope).free (λ w. h (drainage_op a w))).healthy)
 
+  tail_syntax : (f : Op → Rule Text Line) → Tails f → (s : Syntax) → IsFree (word_in s) → Tail (tests m) (syntax_body scope m f s)
+  tail_syntax f h (one_term head) free = tail_single head f h
+  tail_syntax f h (two_terms word head) free = tail_pair word head f free h
+  tail_syntax f h (many_terms s) free = tail_statistic s f h
+  tail_syntax f h rated free = tail_rating f h
+  tail_syntax f h (around s) free = tail_focal s f h
+  tail_syntax f h (spreading make) free = tail_spread make f h
+  tail_syntax f h draining free = tail_drainage f h
+
   pub tail_operation : (f : Op → Rule Text Line) → Tails f → (o : Operation) → Tail (tests m) (operation_body scope m f o)
-  tail_operation f h (Local s) = tail_statistic s f h
-  tail_operation f h Difference = tail_pair (codes "and") difference_op f refl refl h
-  tail_operation f h Ratio = tail_pair (codes "and") ratio_op f refl refl h
-  tail_operation f h Rating = tail_rating f h
-  tail_operation f h (Focal s) = tail_focal s f h
-  tail_operation f h Proximity = tail_spread f h
-  tail_operation f h Insularity = tail_single region_op f h
-  tail_operation f h (Zonal s) = tail_pair (codes "within") (zonal_op s) f refl refl h
-  tail_operation f h (Incremental form) = tail_single (form_op (form_of form)) f h
-  tail_operation f h Drainage = tail_drainage f h
+  tail_operation f h o = tail_syntax f h (syntax_of o) (word_place m o).free
 
   tail_call : (f : List Term → Rule Text Line) → Tails f → Tail (tests m) (call_body scope f)
   tail_call f h =

@@ -5,16 +5,15 @@ use Rattle.map_nums.specs.declared.Stat.TheVariants.{Sum}
 use Rattle.map_nums.specs.declared.Rate.{Rate}
 use Rattle.map_nums.specs.Numbers.{greatest_value}
 use Rattle.map_words.specs.Bytes.{Text}
-use Rattle.map_defs.specs.Ops.{Term, number_term, Op, local_op, difference_op, ratio_op, rating_op, focal_op, zonal_op, form_op, direction_op, flow_op, spread_op, sight_op, region_op}
+use Rattle.map_defs.specs.Ops.{Term, number_term, Head, Op, of_one, of_two, local_op, rating_op, focal_op, direction_op, flow_op, sight_op}
 use Rattle.grammar_core.specs.Rules.{Rule, node, on, next, also, ◌<|>◌}
 use Rattle.map_defs.specs.Statements.{Written, plain, call}
 use Rattle.statement_parser.specs.Lines.{Manner, Line}
 use Rattle.statement_parser.specs.Scopes.{Scope}
-use Rattle.statement_parser.specs.Forms.{form_of}
 use Rattle.statement_parser.specs.Operations.{operation_named}
+use Rattle.statement_parser.specs.Syntax.{Syntax, one_term, two_terms, many_terms, rated, around, spreading, draining, syntax_of}
 use Rattle.statement_parser.specs.Places.{the, maybe, value_of, disc_of, reach_of, limit_of, term_of, weights_of, cell_of, call_of}
 use Rattle.statement_parser.specs.declared.operation.Operation.{Operation}
-use Rattle.statement_parser.specs.declared.operation.Operation.TheVariants.{Local, Difference, Ratio, Rating, Focal, Proximity, Insularity, Zonal, Incremental, Drainage}
 
 -- word term
 abbrev pub term_after : Scope → Text → (Term → Rule Text Line) → Rule Text Line
@@ -40,12 +39,12 @@ statistic_body scope m s f =
     further_terms scope (codes "and") (λ ts. ignoring_part m (λ ignoring. f (local_op s ignoring ts))) 6 (a ∷ b ∷ [])))
 
 -- "of" term
-abbrev pub single_body : Scope → (Term → Op) → (Op → Rule Text Line) → Rule Text Line
-single_body scope make f = term_after scope (codes "of") (λ a. f (make a))
+abbrev pub single_body : Scope → Head → (Op → Rule Text Line) → Rule Text Line
+single_body scope head f = term_after scope (codes "of") (λ a. f (of_one head a))
 
 -- "of" term word term
-abbrev pub pair_body : Scope → Text → (Term → Term → Op) → (Op → Rule Text Line) → Rule Text Line
-pair_body scope word make f = term_after scope (codes "of") (λ a. term_after scope word (λ b. f (make a b)))
+abbrev pub pair_body : Scope → Text → Head → (Op → Rule Text Line) → Rule Text Line
+pair_body scope word head f = term_after scope (codes "of") (λ a. term_after scope word (λ b. f (of_two head a b)))
 
 -- cell "for" VALUE ["to" VALUE]
 abbrev pub rate_part : (Rate → Rule Text Line) → Rule Text Line
@@ -90,9 +89,9 @@ abbrev pub friction_part : Scope → (Term → Rule Text Line) → Rule Text Lin
 friction_part scope f = also (on (the (codes "spreading")) (λ _. term_after scope (codes "in") f)) (f (number_term (pos 1)))
 
 -- "of" term ["spreading" "in" term] ["within" LIMIT]
-abbrev pub spread_body : Scope → (Op → Rule Text Line) → Rule Text Line
-spread_body scope f =
-    term_after scope (codes "of") (λ a. friction_part scope (λ friction. optional_part (codes "within") limit_of greatest_value (λ limit. f (spread_op limit a friction))))
+abbrev pub spread_body : Scope → (ℕ → Head) → (Op → Rule Text Line) → Rule Text Line
+spread_body scope make f =
+    term_after scope (codes "of") (λ a. friction_part scope (λ friction. optional_part (codes "within") limit_of greatest_value (λ limit. f (of_two (make limit) a friction))))
 
 -- the flow that carries weights, or else the direction
 abbrev pub drainage_op : Term → Option Term → Op
@@ -103,18 +102,18 @@ drainage_op a (Some weights) = flow_op a weights
 abbrev pub drainage_body : Scope → (Op → Rule Text Line) → Rule Text Line
 drainage_body scope f = term_after scope (codes "of") (λ a. optional_part (codes "carrying") (weights_of scope) None (λ w. f (drainage_op a w)))
 
+abbrev pub syntax_body : Scope → Manner → (Op → Rule Text Line) → Syntax → Rule Text Line
+syntax_body scope m f (one_term head) = single_body scope head f
+syntax_body scope m f (two_terms word head) = pair_body scope word head f
+syntax_body scope m f (many_terms s) = statistic_body scope m s f
+syntax_body scope m f rated = rating_body scope f
+syntax_body scope m f (around s) = focal_body scope m s f
+syntax_body scope m f (spreading make) = spread_body scope make f
+syntax_body scope m f draining = drainage_body scope f
+
 -- what follows the name of each operation
 abbrev pub operation_body : Scope → Manner → (Op → Rule Text Line) → Operation → Rule Text Line
-operation_body scope m f (Local s) = statistic_body scope m s f
-operation_body scope m f Difference = pair_body scope (codes "and") difference_op f
-operation_body scope m f Ratio = pair_body scope (codes "and") ratio_op f
-operation_body scope m f Rating = rating_body scope f
-operation_body scope m f (Focal s) = focal_body scope m s f
-operation_body scope m f Proximity = spread_body scope f
-operation_body scope m f Insularity = single_body scope region_op f
-operation_body scope m f (Zonal s) = pair_body scope (codes "within") (zonal_op s) f
-operation_body scope m f (Incremental form) = single_body scope (form_op (form_of form)) f
-operation_body scope m f Drainage = drainage_body scope f
+operation_body scope m f o = syntax_body scope m f (syntax_of o)
 
 -- "(" term {"," term} ")", 1 to 8 terms
 abbrev pub call_body : Scope → (List Term → Rule Text Line) → Rule Text Line

@@ -8,7 +8,8 @@ use Rattle.layer_tiles.specs.Cells.{IsCell}
 use Rattle.map_words.specs.Bytes.{Text, is_good}
 use Rattle.map_words.specs.Names.{is_plain, is_dotted}
 use Rattle.map_defs.specs.Sight.{Sighting}
-use Rattle.map_defs.specs.Ops.{Term, layer_term, number_term, terms_of, Op, local_op, difference_op, ratio_op, rating_op, focal_op, zonal_op, form_op, direction_op, flow_op, spread_op, sight_op, region_op}
+use Rattle.map_defs.specs.Ops.{Term, layer_term, number_term, Head, rating_head, focal_head, zonal_head, spread_head, nearest_head, sight_head, Op}
+use Rattle.map_defs.specs.Facts.{HasTerms}
 use Rattle.map_defs.specs.Statements.{Written, plain, call, Inner, Procedure}
 use Rattle.statement_parser.specs.Signs.{is_sign}
 use Rattle.statement_parser.specs.Scopes.{Scope, has_name, names_before}
@@ -44,19 +45,17 @@ pub record IsSighting (s : Sighting) : Type 0 where
   pub to : IsTrue (is_value s.to)
   pub reach : IsBetween 1 64 s.reach
 
+abbrev pub IsHead : Head → Type 0
+IsHead (rating_head rs) = IsBetween 1 32 (length rs) × Each IsRate rs
+IsHead (focal_head s r) = IsNoProduct s × IsRadius r
+IsHead (zonal_head s) = IsNoProduct s
+IsHead (spread_head limit) = limit ≤ greatest_value
+IsHead (nearest_head limit) = limit ≤ greatest_value
+IsHead (sight_head s) = IsSighting s
+IsHead head = Unit {0}
+
 abbrev pub IsOp : Op → Type 0
-IsOp (local_op s ignoring ts) = (2 ≤ length ts) × (length ts ≤ 8) × Each IsTerm ts
-IsOp (difference_op l r) = IsTerm l × IsTerm r
-IsOp (ratio_op l r) = IsTerm l × IsTerm r
-IsOp (rating_op t rs) = IsTerm t × (1 ≤ length rs) × (length rs ≤ 32) × Each IsRate rs
-IsOp (focal_op s r t) = IsNoProduct s × IsRadius r × IsTerm t
-IsOp (zonal_op s t u) = IsNoProduct s × IsTerm t × IsTerm u
-IsOp (form_op f t) = IsTerm t
-IsOp (direction_op t) = IsTerm t
-IsOp (flow_op t u) = IsTerm t × IsTerm u
-IsOp (spread_op limit t u) = (limit ≤ greatest_value) × IsTerm t × IsTerm u
-IsOp (sight_op s t u) = IsSighting s × IsTerm t × IsTerm u
-IsOp (region_op t) = IsTerm t
+IsOp o = IsHead o.head × HasTerms o × Each IsTerm o.terms
 
 abbrev pub IsWritten : Written → Type 0
 IsWritten (plain o) = IsOp o
@@ -72,7 +71,7 @@ InScope scope (layer_term n) = IsTrue (scope n)
 InScope scope (number_term z) = Unit {0}
 
 abbrev pub AreInScope : Scope → Written → Type 0
-AreInScope scope (plain o) = Each (InScope scope) (terms_of o)
+AreInScope scope (plain o) = Each (InScope scope) o.terms
 AreInScope scope (call p ts) = Each (InScope scope) ts
 
 -- the name is new after these

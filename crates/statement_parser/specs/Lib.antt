@@ -3,6 +3,7 @@ pub mod Tails
 pub mod Scopes
 pub mod Forms
 pub mod Operations
+pub mod Syntax
 pub mod Commands
 pub mod Places
 pub mod Signs

@@ -4,11 +4,13 @@ use Rattle.std.specs.List.{list_any}
 use Rattle.map_nums.specs.declared.Stat.{Stat}
 use Rattle.map_nums.specs.declared.Stat.TheVariants.{Sum, Product, Maximum, Minimum, Mean, Median, Majority, Minority, Variety}
 use Rattle.map_words.specs.Bytes.{Text}
+use Rattle.map_defs.specs.Ops.{Head, local_head, difference_head, ratio_head, rating_head, focal_head, zonal_head, form_head, direction_head, flow_head, spread_head, nearest_head, sight_head, region_head}
 use Rattle.statement_parser.specs.Lines.{Manner}
+use Rattle.statement_parser.specs.Forms.{form_row}
 use Rattle.statement_parser.specs.declared.op.Form.{Form}
 use Rattle.statement_parser.specs.declared.op.Form.TheVariants.{Linkage, Length, Partition, Frontage, Gradient, Aspect}
 use Rattle.statement_parser.specs.declared.operation.Operation.{Operation}
-use Rattle.statement_parser.specs.declared.operation.Operation.TheVariants.{Local, Difference, Ratio, Rating, Focal, Proximity, Insularity, Zonal, Incremental, Drainage}
+use Rattle.statement_parser.specs.declared.operation.Operation.TheVariants.{Local, Difference, Ratio, Rating, Focal, Proximity, Neighbor, Insularity, Zonal, Incremental, Drainage}
 
 abbrev pub stat_text : Stat → Text
 stat_text Sum = codes "Sum"
@@ -37,10 +39,27 @@ operation_text Ratio = codes "LocalRatio"
 operation_text Rating = codes "LocalRating"
 operation_text (Focal s) = codes "Focal" ++ stat_text s
 operation_text Proximity = codes "FocalProximity"
+operation_text Neighbor = codes "FocalNeighbor"
 operation_text Insularity = codes "FocalInsularity"
 operation_text (Zonal s) = codes "Zonal" ++ stat_text s
 operation_text (Incremental f) = codes "Incremental" ++ form_text f
 operation_text Drainage = codes "IncrementalDrainage"
+
+-- the operation that writes it
+abbrev pub operation_of : Head → Operation
+operation_of (local_head s ignoring) = Local s
+operation_of difference_head = Difference
+operation_of ratio_head = Ratio
+operation_of (rating_head rs) = Rating
+operation_of (focal_head s r) = Focal s
+operation_of (zonal_head s) = Zonal s
+operation_of (form_head f) = Incremental (form_row f)
+operation_of direction_head = Drainage
+operation_of flow_head = Drainage
+operation_of (spread_head limit) = Proximity
+operation_of (nearest_head limit) = Neighbor
+operation_of (sight_head s) = Focal Sum
+operation_of region_head = Insularity
 
 -- all operations: no product is Focal or Zonal
 abbrev pub operations : List Operation
@@ -48,7 +67,7 @@ operations =
     Local Sum ∷ Local Product ∷ Local Maximum ∷ Local Minimum ∷ Local Mean ∷ Local Median ∷ Local Majority ∷ Local Minority ∷ Local Variety
     ∷ Difference ∷ Ratio ∷ Rating
     ∷ Focal Sum ∷ Focal Maximum ∷ Focal Minimum ∷ Focal Mean ∷ Focal Median ∷ Focal Majority ∷ Focal Minority ∷ Focal Variety
-    ∷ Proximity ∷ Insularity
+    ∷ Proximity ∷ Neighbor ∷ Insularity
     ∷ Zonal Sum ∷ Zonal Maximum ∷ Zonal Minimum ∷ Zonal Mean ∷ Zonal Median ∷ Zonal Majority ∷ Zonal Minority ∷ Zonal Variety
     ∷ Incremental Linkage ∷ Incremental Length ∷ Incremental Partition ∷ Incremental Frontage ∷ Incremental Gradient ∷ Incremental Aspect ∷ Drainage ∷ []
 

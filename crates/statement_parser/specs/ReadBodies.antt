@@ -1,24 +1,22 @@
 -- Reading operations, on lists.
-use Rattle.std.specs.Prelude.{suc, pos, Bool, true, false, List, [], ◌∷◌, length, Option, Some, None, Ok, codes, if◌then◌else◌}
+use Rattle.std.specs.Prelude.{ℕ, suc, pos, Bool, true, false, List, [], ◌∷◌, length, Option, Some, None, Ok, codes, if◌then◌else◌}
 use Rattle.map_nums.specs.declared.Stat.{Stat}
 use Rattle.map_nums.specs.Numbers.{greatest_value}
 use Rattle.map_words.specs.Bytes.{Text}
-use Rattle.map_defs.specs.Ops.{Term, Op, local_op, difference_op, ratio_op, rating_op, focal_op, zonal_op, form_op, spread_op, sight_op, region_op}
+use Rattle.map_defs.specs.Ops.{Term, Head, Op, of_one, of_two, local_op, rating_op, focal_op, sight_op}
 use Rattle.map_defs.specs.Statements.{Written, plain, call}
-use Rattle.grammar_core.specs.declared.Kind.TheVariants.{Syntax, Operation as UnknownOperation}
+use Rattle.grammar_core.specs.declared.Kind.TheVariants as kinds
 use Rattle.grammar_core.specs.Refusals.{is_unknown}
 use Rattle.grammar_core.specs.Run.{refused}
 use Rattle.grammar_core.specs.Readers.{◌>>=◌, Read, one_at, starts}
 use Rattle.statement_parser.specs.Lines.{Manner}
 use Rattle.statement_parser.specs.Scopes.{Scope}
-use Rattle.statement_parser.specs.Forms.{form_of}
 use Rattle.statement_parser.specs.Places.{the, maybe, value_of, disc_of, reach_of, limit_of, weights_of, call_of, tests, reading}
 use Rattle.statement_parser.specs.Operations.{operation_named}
+use Rattle.statement_parser.specs.Syntax.{Syntax, one_term, two_terms, many_terms, rated, around, spreading, draining, syntax_of}
 use Rattle.statement_parser.specs.Bodies.{radiates, drainage_op}
 use Rattle.statement_parser.specs.ReadParts.{term_after_at, further_at, optional_at, rate_at, with_at, friction_at}
-use Rattle.statement_parser.specs.declared.op.Form.{Form}
 use Rattle.statement_parser.specs.declared.operation.Operation.{Operation}
-use Rattle.statement_parser.specs.declared.operation.Operation.TheVariants.{Local, Difference, Ratio, Rating, Focal, Proximity, Insularity, Zonal, Incremental, Drainage}
 
 unfoldable pub nulls_at : List Text → Read Text Bool
 nulls_at ws = do
@@ -43,15 +41,15 @@ pair_at scope word ws = do
   b ← term_after_at scope word a.1
   Ok ((a.0, b.0), b.1)
 
-unfoldable pub difference_at : Scope → List Text → Read Text Op
-difference_at scope ws = do
-  p ← pair_at scope (codes "and") ws
-  Ok (difference_op p.0.0 p.0.1, p.1)
+unfoldable pub two_at : Scope → Text → Head → List Text → Read Text Op
+two_at scope word head ws = do
+  p ← pair_at scope word ws
+  Ok (of_two head p.0.0 p.0.1, p.1)
 
-unfoldable pub ratio_at : Scope → List Text → Read Text Op
-ratio_at scope ws = do
-  p ← pair_at scope (codes "and") ws
-  Ok (ratio_op p.0.0 p.0.1, p.1)
+unfoldable pub single_at : Scope → Head → List Text → Read Text Op
+single_at scope head ws = do
+  a ← term_after_at scope (codes "of") ws
+  Ok (of_one head a.0, a.1)
 
 unfoldable pub rating_at : Scope → List Text → Read Text Op
 rating_at scope ws = do
@@ -83,27 +81,18 @@ focal_at scope m s ws = do
   a ← term_after_at scope (codes "of") ws
   reaching_at scope m s a.0 a.1
 
-unfoldable pub spread_at : Scope → List Text → Read Text Op
-spread_at scope ws = do
+-- sources, friction and limit
+unfoldable pub costs_at : Scope → List Text → Read Text (Term × Term × ℕ)
+costs_at scope ws = do
   a ← term_after_at scope (codes "of") ws
   friction ← friction_at scope a.1
   limit ← optional_at (codes "within") limit_of greatest_value friction.1
-  Ok (spread_op limit.0 a.0 friction.0, limit.1)
+  Ok ((a.0, friction.0, limit.0), limit.1)
 
-unfoldable pub region_at : Scope → List Text → Read Text Op
-region_at scope ws = do
-  a ← term_after_at scope (codes "of") ws
-  Ok (region_op a.0, a.1)
-
-unfoldable pub zonal_at : Scope → Stat → List Text → Read Text Op
-zonal_at scope s ws = do
-  p ← pair_at scope (codes "within") ws
-  Ok (zonal_op s p.0.0 p.0.1, p.1)
-
-unfoldable pub incremental_at : Scope → Form → List Text → Read Text Op
-incremental_at scope form ws = do
-  a ← term_after_at scope (codes "of") ws
-  Ok (form_op (form_of form) a.0, a.1)
+unfoldable pub spread_at : Scope → (ℕ → Head) → List Text → Read Text Op
+spread_at scope make ws = do
+  c ← costs_at scope ws
+  Ok (of_two (make c.0.2) c.0.0 c.0.1, c.1)
 
 unfoldable pub drainage_at : Scope → List Text → Read Text Op
 drainage_at scope ws = do
@@ -111,17 +100,17 @@ drainage_at scope ws = do
   w ← optional_at (codes "carrying") (weights_of scope) None a.1
   Ok (drainage_op a.0 w.0, w.1)
 
+abbrev pub syntax_at : Scope → Manner → Syntax → List Text → Read Text Op
+syntax_at scope m (one_term head) ws = single_at scope head ws
+syntax_at scope m (two_terms word head) ws = two_at scope word head ws
+syntax_at scope m (many_terms s) ws = statistic_at scope m s ws
+syntax_at scope m rated ws = rating_at scope ws
+syntax_at scope m (around s) ws = focal_at scope m s ws
+syntax_at scope m (spreading make) ws = spread_at scope make ws
+syntax_at scope m draining ws = drainage_at scope ws
+
 abbrev pub operation_at : Scope → Manner → Operation → List Text → Read Text Op
-operation_at scope m (Local s) ws = statistic_at scope m s ws
-operation_at scope m Difference ws = difference_at scope ws
-operation_at scope m Ratio ws = ratio_at scope ws
-operation_at scope m Rating ws = rating_at scope ws
-operation_at scope m (Focal s) ws = focal_at scope m s ws
-operation_at scope m Proximity ws = spread_at scope ws
-operation_at scope m Insularity ws = region_at scope ws
-operation_at scope m (Zonal s) ws = zonal_at scope s ws
-operation_at scope m (Incremental form) ws = incremental_at scope form ws
-operation_at scope m Drainage ws = drainage_at scope ws
+operation_at scope m o ws = syntax_at scope m (syntax_of o) ws
 
 -- the terms of a call, to its end
 unfoldable pub given_at : Scope → List Text → Read Text (List Term)
@@ -142,7 +131,7 @@ plain_at scope m o ws = do
   Ok (plain op.0, op.1)
 
 abbrev pub called_at : Scope → Option Text → List Text → Read Text Written
-called_at scope None ws = refused Syntax (suc (length ws))
+called_at scope None ws = refused kinds.Syntax (suc (length ws))
 called_at scope (Some p) ws = call_at scope p ws
 
 abbrev pub named_at : Scope → Manner → Option Operation → Option Text → List Text → Read Text Written
@@ -150,5 +139,5 @@ named_at scope m None p ws = called_at scope p ws
 named_at scope m (Some o) p ws = plain_at scope m o ws
 
 unfoldable pub body_at : Scope → Manner → List Text → Read Text Written
-body_at scope m [] = refused Syntax 0
-body_at scope m (w ∷ ws) = if is_unknown (tests m) (w ∷ ws) then refused UnknownOperation (suc (length ws)) else named_at scope m (operation_named m w) (call_of m w) ws
+body_at scope m [] = refused kinds.Syntax 0
+body_at scope m (w ∷ ws) = if is_unknown (tests m) (w ∷ ws) then refused kinds.Operation (suc (length ws)) else named_at scope m (operation_named m w) (call_of m w) ws

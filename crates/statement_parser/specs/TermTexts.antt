@@ -13,9 +13,10 @@ abbrev pub terms_after : Text → List Term → List Text
 terms_after word [] = []
 terms_after word (t ∷ ts) = word ∷ term_text t ∷ terms_after word ts
 
-abbrev pub terms_texts : List Term → List Text
-terms_texts [] = []
-terms_texts (t ∷ ts) = term_text t ∷ terms_after (codes "and") ts
+-- the terms with a word between
+abbrev pub terms_texts : Text → List Term → List Text
+terms_texts word [] = []
+terms_texts word (t ∷ ts) = term_text t ∷ terms_after word ts
 
 -- the terms with a comma and a space before each
 abbrev pub listed_after : List Term → Text

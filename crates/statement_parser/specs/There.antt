@@ -1,15 +1,14 @@
 -- Which lines are there: those whose rows are.
 use Rattle.std.specs.Prelude.{Bool, true, false, ◌∷◌, List, IsTrue}
 use Rattle.map_nums.specs.declared.Stat.TheVariants.{Sum}
-use Rattle.map_defs.specs.Ops.{Op, local_op, difference_op, ratio_op, rating_op, focal_op, zonal_op, form_op, direction_op, flow_op, spread_op, sight_op, region_op}
+use Rattle.map_defs.specs.Ops.{Head, local_head, sight_head, Op}
 use Rattle.map_defs.specs.Statements.{Written, plain, call, Inner}
 use Rattle.statement_parser.specs.Lines.{Manner, Edit, define, paint, new_layer, drop, define_procedure, put_label, put_symbol, Item, make, look_at, Request, ask_value, ask_grid, ask_show, ask_legend, ask_table, ask_stamps, ask_list, ask_branches, Line, blank, edit, undo, ask, model, quit}
 use Rattle.statement_parser.specs.Formed.{Each}
-use Rattle.statement_parser.specs.Forms.{form_row}
-use Rattle.statement_parser.specs.Operations.{operation_text, has_row}
+use Rattle.statement_parser.specs.Operations.{operation_text, operation_of, has_row}
 use Rattle.statement_parser.specs.Commands.{command_text, has_command}
 use Rattle.statement_parser.specs.declared.operation.Operation.{Operation}
-use Rattle.statement_parser.specs.declared.operation.Operation.TheVariants.{Local, Difference, Ratio, Rating, Focal, Proximity, Insularity, Zonal, Incremental, Drainage}
+use Rattle.statement_parser.specs.declared.operation.Operation.TheVariants.{Local}
 use Rattle.statement_parser.specs.declared.command.Command.{Command}
 use Rattle.statement_parser.specs.declared.command.Command.TheVariants.{Model, Procedure, Paint, New, Drop, Label, Symbol, Undo, Branch, Value, Grid, Show, Legend, Table, Stamps, List as Listing, Quit}
 
@@ -21,24 +20,14 @@ HasRow m o = IsTrue (has_row (Local Sum ∷ m.operations) (operation_text o))
 abbrev pub HasCommand : Manner → Command → Type 0
 HasCommand m c = IsTrue (has_command m.commands (command_text c))
 
--- nulls are ignored only where they may be
-abbrev pub MayIgnore : Manner → Bool → Type 0
-MayIgnore m true = IsTrue m.ignoring
-MayIgnore m false = Unit {0}
+-- what else it asks of the language: that nulls may be ignored, that FocalSum may radiate
+abbrev pub MayBe : Manner → Head → Type 0
+MayBe m (local_head s true) = IsTrue m.ignoring
+MayBe m (sight_head s) = IsTrue m.sight
+MayBe m head = Unit {0}
 
 abbrev pub IsOpThere : Manner → Op → Type 0
-IsOpThere m (local_op s ignoring ts) = HasRow m (Local s) × MayIgnore m ignoring
-IsOpThere m (difference_op l r) = HasRow m Difference
-IsOpThere m (ratio_op l r) = HasRow m Ratio
-IsOpThere m (rating_op t rs) = HasRow m Rating
-IsOpThere m (focal_op s r t) = HasRow m (Focal s)
-IsOpThere m (zonal_op s t u) = HasRow m (Zonal s)
-IsOpThere m (form_op f t) = HasRow m (Incremental (form_row f))
-IsOpThere m (direction_op t) = HasRow m Drainage
-IsOpThere m (flow_op t u) = HasRow m Drainage
-IsOpThere m (spread_op limit t u) = HasRow m Proximity
-IsOpThere m (sight_op s t u) = HasRow m (Focal Sum) × IsTrue m.sight
-IsOpThere m (region_op t) = HasRow m Insularity
+IsOpThere m o = HasRow m (operation_of o.head) × MayBe m o.head
 
 abbrev pub IsWrittenThere : Manner → Written → Type 0
 IsWrittenThere m (plain o) = IsOpThere m o

@@ -20,7 +20,7 @@ use Rattle.statement_parser.specs.declared.line.Request as requests
 use Rattle.statement_parser.specs.declared.line.Request.TheVariants as a_request
 use Rattle.statement_parser.specs.declared.line.Line as lines
 use Rattle.statement_parser.specs.declared.line.Line.TheVariants as a_line
-use Rattle.map_defs.specs.Ops.{Term, layer_term, number_term, Op, local_op, difference_op, ratio_op, rating_op, focal_op, zonal_op, form_op, direction_op, flow_op, spread_op, sight_op, region_op}
+use Rattle.map_defs.specs.Ops.{Term, layer_term, number_term, Op, local_op, difference_op, ratio_op, rating_op, focal_op, zonal_op, form_op, direction_op, flow_op, spread_op, nearest_op, sight_op, region_op}
 use Rattle.map_defs.specs.Statements as meant
 use Rattle.map_defs.specs.Statements.{Written, plain, call}
 use Rattle.statement_parser.specs.Forms.{form_of}
@@ -57,6 +57,7 @@ op_view (an_op.Incremental f t) = form_op (form_of f) (term_view t)
 op_view (an_op.Direction t) = direction_op (term_view t)
 op_view (an_op.Flow t u) = flow_op (term_view t) (term_view u)
 op_view (an_op.Spread t u limit) = spread_op (nat_abs limit) (term_view t) (term_view u)
+op_view (an_op.Neighbor t u limit) = nearest_op (nat_abs limit) (term_view t) (term_view u)
 op_view (an_op.Sight t u from to reach) = sight_op (record { from = from; to = to; reach = reach }) (term_view t) (term_view u)
 op_view (an_op.Region t) = region_op (term_view t)
 

@@ -2,7 +2,7 @@
 use Rattle.std.specs.Prelude.{pos, negsuc, true, false, [], ◌∷◌, ◌++◌, Some, None, codes}
 use Rattle.map_nums.specs.declared.Stat.TheVariants as stats
 use Rattle.map_words.specs.Bytes.{Text}
-use Rattle.map_defs.specs.Ops.{layer_term, number_term, local_op, rating_op, focal_op, spread_op, sight_op}
+use Rattle.map_defs.specs.Ops.{layer_term, number_term, local_op, rating_op, focal_op, spread_op, nearest_op, sight_op}
 use Rattle.map_defs.specs.Statements.{plain, call}
 use Rattle.statement_parser.specs.Lines.{Manner, define, define_procedure, paint, new_layer, drop, put_label, put_symbol, make, look_at, ask_grid, ask_table, ask_branches, Line, blank, edit, undo, ask, model}
 use Rattle.statement_parser.specs.Operations.{operations}
@@ -111,6 +111,7 @@ pub record Worked : Type 0 where
   pub near : IsOfAll (codes "C = FocalSum of A at 2") (edit (define (codes "C") (plain (focal_op stats.Sum (Some 2) (layer_term (codes "A"))))))
   pub sighted : IsOfAll (codes "C = FocalSum of A radiating on B to 5") (edit (define (codes "C") (plain (sight_op (record { from = pos 0; to = pos 5; reach = 64 }) (layer_term (codes "A")) (layer_term (codes "B"))))))
   pub spread : IsOfAll (codes "C = FocalProximity of A spreading in 2 within 7") (edit (define (codes "C") (plain (spread_op 7 (layer_term (codes "A")) (number_term (pos 2))))))
+  pub nearest : IsOfAll (codes "C = FocalNeighbor of A within 7") (edit (define (codes "C") (plain (nearest_op 7 (layer_term (codes "A")) (number_term (pos 1))))))
   pub called : IsOfAll (codes "C=Twice(A,3)") (edit (define (codes "C") (call (codes "Twice") (layer_term (codes "A") ∷ number_term (pos 3) ∷ []))))
   pub tabled : IsOfAll (codes "table A.b C") (ask (ask_table (codes "A.b") (codes "C")))
   pub labelled : IsOfAll (codes "label A 5=x  y ") (edit (put_label (codes "A") (pos 5) (codes "=x  y")))

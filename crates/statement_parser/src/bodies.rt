@@ -5,15 +5,16 @@ ghost use Rattle.statement_parser.specs.Views.{texts_of, term_view, terms_view, 
 ghost use Rattle.statement_parser.specs.Gives.{Gives};
 ghost use Rattle.grammar_core.specs.Readers.{starts};
 ghost use Rattle.map_nums.specs.Numbers.{greatest_value};
+ghost use Rattle.map_defs.specs.Ops.{spread_head, nearest_head};
 ghost use Rattle.statement_parser.specs.Bodies.{radiates, drainage_op};
 ghost use Rattle.statement_parser.specs.Places.{the as word_of, maybe, call_of, value_of, disc_of, reach_of, limit_of, weights_of};
-ghost use Rattle.statement_parser.specs.ReadBodies.{nulls_at, ignoring_at, statistic_at, pair_at, difference_at, ratio_at, rating_at, radius_at, sight_at, reaching_at, focal_at, spread_at, region_at, zonal_at, incremental_at, drainage_at, operation_at, given_at, call_at, plain_at, called_at, body_at};
+ghost use Rattle.statement_parser.specs.ReadBodies.{nulls_at, ignoring_at, statistic_at, pair_at, rating_at, radius_at, sight_at, reaching_at, focal_at, costs_at, spread_at, drainage_at, operation_at, given_at, call_at, plain_at, called_at, body_at};
 ghost use Rattle.statement_parser.specs.ScopeViews.{scope_of};
 ghost use Rattle.statement_parser.specs.ReadParts.{term_after_at, further_at, optional_at, range_at, rate_at, with_at, friction_at};
 
 use crate::fault::ReadError;
 use crate::line::Written;
-use crate::op::{Form, Op, Reach, Term};
+use crate::op::{Op, Reach, Term};
 use crate::operation::{Operation, operation_named};
 use crate::places::{
     cell, is_next, is_unknown_operation, limit, misfit, radius, reach, term, the, value, weights,
@@ -153,30 +154,6 @@ fn pair<'t, 'a>(
     let (left, rest) = term_after(alloc, scope, b"of", words)?;
     let (right, rest) = term_after(alloc, scope, word, rest)?;
     Ok(((left, right), rest))
-}
-
-#[tactic(auto, unfolding(crate::specs::ReadBodies::difference_at))]
-fn difference<'t, 'a>(
-    alloc: Global,
-    scope: &Scope<'_>,
-    words: &'t [Word<'a>],
-) -> Result<(Op, &'t [Word<'a>]), ReadError>
-    ensures { Gives (λ x. (op_view x.0, texts_of x.1.now)) result (difference_at (scope_of scope.now) (texts_of words.now)) }
-{
-    let ((left, right), rest) = pair(alloc, scope, b"and", words)?;
-    Ok((Op::Difference { left, right }, rest))
-}
-
-#[tactic(auto, unfolding(crate::specs::ReadBodies::ratio_at))]
-fn ratio<'t, 'a>(
-    alloc: Global,
-    scope: &Scope<'_>,
-    words: &'t [Word<'a>],
-) -> Result<(Op, &'t [Word<'a>]), ReadError>
-    ensures { Gives (λ x. (op_view x.0, texts_of x.1.now)) result (ratio_at (scope_of scope.now) (texts_of words.now)) }
-{
-    let ((left, right), rest) = pair(alloc, scope, b"and", words)?;
-    Ok((Op::Ratio { left, right }, rest))
 }
 
 /// What follows what a rate gives.
@@ -384,17 +361,30 @@ fn limit_part<'t, 'a>(words: &'t [Word<'a>]) -> Result<(Value, &'t [Word<'a>]), 
     limit(rest)
 }
 
+/// Sources, the friction and the limit.
+#[tactic(auto, unfolding(crate::specs::ReadBodies::costs_at))]
+fn costs<'t, 'a>(
+    alloc: Global,
+    scope: &Scope<'_>,
+    words: &'t [Word<'a>],
+) -> Result<((Term, Term, Value), &'t [Word<'a>]), ReadError>
+    ensures { Gives (λ x. ((term_view x.0.0, term_view x.0.1, nat_abs x.0.2), texts_of x.1.now)) result (costs_at (scope_of scope.now) (texts_of words.now)) }
+{
+    let (of, rest) = term_after(alloc, scope, b"of", words)?;
+    let (friction, rest) = friction_part(alloc, scope, rest)?;
+    let (limit, rest) = limit_part(rest)?;
+    Ok(((of, friction, limit), rest))
+}
+
 #[tactic(auto, unfolding(crate::specs::ReadBodies::spread_at))]
 fn spread<'t, 'a>(
     alloc: Global,
     scope: &Scope<'_>,
     words: &'t [Word<'a>],
 ) -> Result<(Op, &'t [Word<'a>]), ReadError>
-    ensures { Gives (λ x. (op_view x.0, texts_of x.1.now)) result (spread_at (scope_of scope.now) (texts_of words.now)) }
+    ensures { Gives (λ x. (op_view x.0, texts_of x.1.now)) result (spread_at (scope_of scope.now) spread_head (texts_of words.now)) }
 {
-    let (of, rest) = term_after(alloc, scope, b"of", words)?;
-    let (friction, rest) = friction_part(alloc, scope, rest)?;
-    let (limit, rest) = limit_part(rest)?;
+    let ((of, friction, limit), rest) = costs(alloc, scope, words)?;
     Ok((
         Op::Spread {
             of,
@@ -405,42 +395,23 @@ fn spread<'t, 'a>(
     ))
 }
 
-#[tactic(auto, unfolding(crate::specs::ReadBodies::region_at))]
-fn region<'t, 'a>(
+#[tactic(auto, unfolding(crate::specs::ReadBodies::spread_at))]
+fn neighbor<'t, 'a>(
     alloc: Global,
     scope: &Scope<'_>,
     words: &'t [Word<'a>],
 ) -> Result<(Op, &'t [Word<'a>]), ReadError>
-    ensures { Gives (λ x. (op_view x.0, texts_of x.1.now)) result (region_at (scope_of scope.now) (texts_of words.now)) }
+    ensures { Gives (λ x. (op_view x.0, texts_of x.1.now)) result (spread_at (scope_of scope.now) nearest_head (texts_of words.now)) }
 {
-    let (of, rest) = term_after(alloc, scope, b"of", words)?;
-    Ok((Op::Region { of }, rest))
-}
-
-#[tactic(auto, unfolding(crate::specs::ReadBodies::zonal_at))]
-fn zonal<'t, 'a>(
-    alloc: Global,
-    scope: &Scope<'_>,
-    stat: Stat,
-    words: &'t [Word<'a>],
-) -> Result<(Op, &'t [Word<'a>]), ReadError>
-    ensures { Gives (λ x. (op_view x.0, texts_of x.1.now)) result (zonal_at (scope_of scope.now) stat (texts_of words.now)) }
-{
-    let ((of, zones), rest) = pair(alloc, scope, b"within", words)?;
-    Ok((Op::Zonal { stat, of, zones }, rest))
-}
-
-#[tactic(auto, unfolding(crate::specs::ReadBodies::incremental_at))]
-fn incremental<'t, 'a>(
-    alloc: Global,
-    scope: &Scope<'_>,
-    form: Form,
-    words: &'t [Word<'a>],
-) -> Result<(Op, &'t [Word<'a>]), ReadError>
-    ensures { Gives (λ x. (op_view x.0, texts_of x.1.now)) result (incremental_at (scope_of scope.now) form (texts_of words.now)) }
-{
-    let (of, rest) = term_after(alloc, scope, b"of", words)?;
-    Ok((Op::Incremental { form, of }, rest))
+    let ((of, friction, limit), rest) = costs(alloc, scope, words)?;
+    Ok((
+        Op::Neighbor {
+            of,
+            friction,
+            limit,
+        },
+        rest,
+    ))
 }
 
 /// The weights after `carrying`, where they are there.
@@ -483,6 +454,7 @@ fn drainage<'t, 'a>(
 }
 
 /// What follows an operation's name.
+#[tactic(auto, unfolding(crate::specs::ReadBodies::two_at, crate::specs::ReadBodies::single_at))]
 fn operation<'t, 'a>(
     alloc: Global,
     scope: &Scope<'_>,
@@ -494,14 +466,30 @@ fn operation<'t, 'a>(
 {
     match operation {
         Operation::Local(stat) => statistic(alloc, scope, rows, stat, words),
-        Operation::Difference => difference(alloc, scope, words),
-        Operation::Ratio => ratio(alloc, scope, words),
+        Operation::Difference => {
+            let ((left, right), rest) = pair(alloc, scope, b"and", words)?;
+            Ok((Op::Difference { left, right }, rest))
+        }
+        Operation::Ratio => {
+            let ((left, right), rest) = pair(alloc, scope, b"and", words)?;
+            Ok((Op::Ratio { left, right }, rest))
+        }
         Operation::Rating => rating(alloc, scope, words),
         Operation::Focal(stat) => focal(alloc, scope, rows, stat, words),
         Operation::Proximity => spread(alloc, scope, words),
-        Operation::Insularity => region(alloc, scope, words),
-        Operation::Zonal(stat) => zonal(alloc, scope, stat, words),
-        Operation::Incremental(form) => incremental(alloc, scope, form, words),
+        Operation::Neighbor => neighbor(alloc, scope, words),
+        Operation::Insularity => {
+            let (of, rest) = term_after(alloc, scope, b"of", words)?;
+            Ok((Op::Region { of }, rest))
+        }
+        Operation::Zonal(stat) => {
+            let ((of, zones), rest) = pair(alloc, scope, b"within", words)?;
+            Ok((Op::Zonal { stat, of, zones }, rest))
+        }
+        Operation::Incremental(form) => {
+            let (of, rest) = term_after(alloc, scope, b"of", words)?;
+            Ok((Op::Incremental { form, of }, rest))
+        }
         Operation::Drainage => drainage(alloc, scope, words),
     }
 }

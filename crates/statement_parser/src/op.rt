@@ -85,6 +85,12 @@ pub enum Op {
         friction: Term,
         limit: Value,
     },
+    /// The number of the source whose path to a cell costs least; the least number where several do.
+    Neighbor {
+        of: Term,
+        friction: Term,
+        limit: Value,
+    },
     /// The viewers that see each cell. Heights `from` and `to` are added to the surface, `reach` counts cells.
     Sight {
         of: Term,
@@ -120,19 +126,20 @@ fn of_one(only: &Term, k: u32) -> Option<&Term>
 }
 
 impl Op {
-    ghost use Rattle.map_defs.specs.Ops.{terms_of};
     ghost use Rattle.statement_parser.specs.Views.{op_view};
 
     /// The term at this place, from 0, in the order in which a statement writes them; none past the last.
     pub fn term(&self, k: u32) -> Option<&Term>
-        ensures { option_map (λ t. term_view t.now) result ≡ slice_get (terms_of (op_view self.now)) k }
+        ensures { option_map (λ t. term_view t.now) result ≡ slice_get (op_view self.now).terms k }
     {
         match self {
             Op::Local { terms, .. } => terms.get(k as usize),
             Op::Difference { left, right } | Op::Ratio { left, right } => of_two(left, right, k),
             Op::Zonal { of, zones, .. } => of_two(of, zones, k),
             Op::Flow { of, weights } => of_two(of, weights, k),
-            Op::Spread { of, friction, .. } => of_two(of, friction, k),
+            Op::Spread { of, friction, .. } | Op::Neighbor { of, friction, .. } => {
+                of_two(of, friction, k)
+            }
             Op::Sight { of, surface, .. } => of_two(of, surface, k),
             Op::Rating { of, .. }
             | Op::Focal { of, .. }

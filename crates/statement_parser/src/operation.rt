@@ -19,6 +19,7 @@ pub enum Operation {
     Rating,
     Focal(Stat),
     Proximity,
+    Neighbor,
     Insularity,
     Zonal(Stat),
     Incremental(Form),
@@ -26,7 +27,7 @@ pub enum Operation {
 }
 
 /// All operations. No product is Focal or Zonal.
-const OPERATIONS: [Operation; 37] = [
+const OPERATIONS: [Operation; 38] = [
     Operation::Local(Stat::Sum),
     Operation::Local(Stat::Product),
     Operation::Local(Stat::Maximum),
@@ -48,6 +49,7 @@ const OPERATIONS: [Operation; 37] = [
     Operation::Focal(Stat::Minority),
     Operation::Focal(Stat::Variety),
     Operation::Proximity,
+    Operation::Neighbor,
     Operation::Insularity,
     Operation::Zonal(Stat::Sum),
     Operation::Zonal(Stat::Maximum),
@@ -138,6 +140,7 @@ pub fn operation_name(operation: Operation) -> &'static [u8]
         Operation::Rating => b"LocalRating",
         Operation::Focal(stat) => focal_name(stat),
         Operation::Proximity => b"FocalProximity",
+        Operation::Neighbor => b"FocalNeighbor",
         Operation::Insularity => b"FocalInsularity",
         Operation::Zonal(stat) => zonal_name(stat),
         Operation::Incremental(form) => incremental_name(form),

@@ -7,10 +7,10 @@ ghost use Rattle.map_nums.specs.declared.Stat.TheVariants.{Sum};
 ghost use Rattle.map_defs.specs.Ops.{sight_op};
 ghost use Rattle.map_defs.specs.Statements.{call};
 ghost use Rattle.statement_parser.specs.Views.{term_view, terms_view, reach_view, op_view, written_view};
-ghost use Rattle.statement_parser.specs.Canonical.{cell_text, optional_texts, rate_texts, rates_texts, begin_texts, pair_texts, radius_texts, sight_texts, is_one, friction_texts, ignoring_texts, op_texts, tail_text, written_text};
+ghost use Rattle.statement_parser.specs.Canonical.{cell_text, optional_texts, rate_texts, rates_texts, radius_texts, sight_texts, is_one, friction_texts, ignoring_texts, op_texts, tail_text, written_text};
 ghost use Rattle.statement_parser.specs.TermTexts.{term_text, terms_after, terms_texts, listed, listed_after};
 ghost use Rattle.statement_parser.specs.Operations.{operation_text};
-ghost use Rattle.statement_parser.specs.declared.operation.Operation.TheVariants.{Local, Focal, Proximity};
+ghost use Rattle.statement_parser.specs.declared.operation.Operation.TheVariants.{Local, Focal};
 ghost use Rattle.statement_parser.specs.Printing.{Adds, Grows, ReadsBack};
 
 use crate::line::Written;
@@ -71,7 +71,7 @@ fn and_terms(text: &mut Vec<u8>, terms: &[Term]) -> Result<(), AllocError>
 
 /// Terms, with `and` between.
 fn terms(text: &mut Vec<u8>, terms: &[Term]) -> Result<(), AllocError>
-    ensures { IfOk result (λ _. Adds text.old.items text.new.items (terms_texts (terms_view terms.now))) }
+    ensures { IfOk result (λ _. Adds text.old.items text.new.items (terms_texts (codes "and") (terms_view terms.now))) }
 {
     match terms {
         [] => Ok(()),
@@ -160,7 +160,7 @@ fn pair(
     left: &Term,
     right: &Term,
 ) -> Result<(), AllocError>
-    ensures { IfOk result (λ _. Adds text.old.items text.new.items (pair_texts name.now between.now (term_view left.now) (term_view right.now))) }
+    ensures { IfOk result (λ _. Adds text.old.items text.new.items (name.now ∷ codes "of" ∷ terms_texts between.now (term_view left.now ∷ term_view right.now ∷ []))) }
 {
     begin(text, name, left)?;
     word(text, between)?;
@@ -180,7 +180,7 @@ fn ignoring(text: &mut Vec<u8>, ignoring: bool) -> Result<(), AllocError>
 
 /// What follows the name of a statistic.
 fn operands(text: &mut Vec<u8>, given: &[Term], ignored: bool) -> Result<(), AllocError>
-    ensures { IfOk result (λ _. Adds text.old.items text.new.items (terms_texts (terms_view given.now) ++ ignoring_texts ignored)) }
+    ensures { IfOk result (λ _. Adds text.old.items text.new.items (terms_texts (codes "and") (terms_view given.now) ++ ignoring_texts ignored)) }
 {
     terms(text, given)?;
     ignoring(text, ignored)
@@ -192,7 +192,7 @@ fn statistic(
     given: &[Term],
     ignored: bool,
 ) -> Result<(), AllocError>
-    ensures { IfOk result (λ _. Adds text.old.items text.new.items (operation_text (Local stat) ∷ codes "of" ∷ (terms_texts (terms_view given.now) ++ ignoring_texts ignored))) }
+    ensures { IfOk result (λ _. Adds text.old.items text.new.items (operation_text (Local stat) ∷ codes "of" ∷ (terms_texts (codes "and") (terms_view given.now) ++ ignoring_texts ignored))) }
 {
     word(text, operation_name(Operation::Local(stat)))?;
     word(text, b"of")?;
@@ -220,7 +220,7 @@ fn reach(text: &mut Vec<u8>, reach: Reach) -> Result<(), AllocError>
 }
 
 fn focal(text: &mut Vec<u8>, stat: Stat, of: &Term, given: Reach) -> Result<(), AllocError>
-    ensures { IfOk result (λ _. Adds text.old.items text.new.items (begin_texts (operation_text (Focal stat)) (term_view of.now) ++ radius_texts (reach_view given))) }
+    ensures { IfOk result (λ _. Adds text.old.items text.new.items (operation_text (Focal stat) ∷ codes "of" ∷ term_text (term_view of.now) ∷ radius_texts (reach_view given))) }
 {
     begin(text, operation_name(Operation::Focal(stat)), of)?;
     reach(text, given)
@@ -269,10 +269,16 @@ fn costs(text: &mut Vec<u8>, given: &Term, most: &Value) -> Result<(), AllocErro
     limit(text, most)
 }
 
-fn spread(text: &mut Vec<u8>, of: &Term, given: &Term, most: &Value) -> Result<(), AllocError>
-    ensures { IfOk result (λ _. Adds text.old.items text.new.items (begin_texts (operation_text Proximity) (term_view of.now) ++ (friction_texts (term_view given.now) ++ optional_texts (codes "within") vmax (pos (nat_abs most.now))))) }
+fn spread(
+    text: &mut Vec<u8>,
+    operation: Operation,
+    of: &Term,
+    given: &Term,
+    most: &Value,
+) -> Result<(), AllocError>
+    ensures { IfOk result (λ _. Adds text.old.items text.new.items (operation_text operation ∷ codes "of" ∷ term_text (term_view of.now) ∷ (friction_texts (term_view given.now) ++ optional_texts (codes "within") vmax (pos (nat_abs most.now))))) }
 {
-    single(text, Operation::Proximity, of)?;
+    single(text, operation, of)?;
     costs(text, given, most)
 }
 
@@ -324,7 +330,7 @@ fn sight(
 
 /// An operation of one term.
 fn single(text: &mut Vec<u8>, operation: Operation, of: &Term) -> Result<(), AllocError>
-    ensures { IfOk result (λ _. Adds text.old.items text.new.items (begin_texts (operation_text operation) (term_view of.now))) }
+    ensures { IfOk result (λ _. Adds text.old.items text.new.items (operation_text operation ∷ codes "of" ∷ term_text (term_view of.now) ∷ [])) }
 {
     begin(text, operation_name(operation), of)
 }
@@ -337,7 +343,7 @@ fn double(
     left: &Term,
     right: &Term,
 ) -> Result<(), AllocError>
-    ensures { IfOk result (λ _. Adds text.old.items text.new.items (pair_texts (operation_text operation) between.now (term_view left.now) (term_view right.now))) }
+    ensures { IfOk result (λ _. Adds text.old.items text.new.items (operation_text operation ∷ codes "of" ∷ terms_texts between.now (term_view left.now ∷ term_view right.now ∷ []))) }
 {
     pair(text, operation_name(operation), between, left, right)
 }
@@ -368,7 +374,12 @@ fn op(text: &mut Vec<u8>, op: &Op) -> Result<(), AllocError>
             of,
             friction,
             limit,
-        } => spread(text, of, friction, limit),
+        } => spread(text, Operation::Proximity, of, friction, limit),
+        Op::Neighbor {
+            of,
+            friction,
+            limit,
+        } => spread(text, Operation::Neighbor, of, friction, limit),
         Op::Sight {
             of,
             surface,

@@ -112,6 +112,19 @@ impl Op {
                     limit: *limit,
                 })
             }
+            Op::Neighbor {
+                of,
+                friction,
+                limit,
+            } => {
+                let of = by.term(alloc, of)?;
+                let friction = by.term(alloc, friction)?;
+                Ok(Op::Neighbor {
+                    of,
+                    friction,
+                    limit: *limit,
+                })
+            }
             Op::Sight {
                 of,
                 surface,

@@ -1,5 +1,5 @@
 -- What is told of branches.
-use Rattle.std.specs.Prelude.{◌≡◌, ℕ, List, [], ◌∷◌, slice_index_or, Result, Ok, Err, Vec}
+use Rattle.std.specs.Prelude.{◌≡◌, ℕ, List, [], ◌∷◌, slice_index_or, Result, Err, Vec}
 use Rattle.std.specs.declared.alloc.Global.{Global}
 use Rattle.statement_parser.specs.Lines.{Item, make, look_at}
 use Rattle.map_edits.specs.LineEdits.{line_edit}

@@ -1,6 +1,7 @@
 //! Branches, tried side by side.
 
-ghost use Rattle.std.specs.Prelude.{◌≡◌, ◌<◌, ◌≤◌, length, IfOk};
+ghost use Rattle.std.specs.Prelude.{◌≡◌, ◌<◌, ◌≤◌, ◌/◌, max, length, IfOk};
+ghost use Rattle.map_nums.specs.Grids.{cells_in};
 ghost use Rattle.layer_tiles.specs.Tallies.{RisesBy, IsUndivided};
 ghost use Rattle.statement_parser.specs.Formed.{Each, IsItem};
 ghost use Rattle.statement_parser.specs.Views.{branches_view};
@@ -55,7 +56,7 @@ pub fn run_branches<M: Tally + Send, G: Gate + Sync, R: Threads + Sync>(
 
 /// How many branches may be at work at once on a map of this size; at least one.
 fn at_once(extent: Extent) -> u64
-    ensures { 1 ≤ result }
+    ensures { result ≡ max 1 (1500000 / cells_in extent) }
 {
     (CELLS_AT_WORK / u64::from(extent.cells())).max(1)
 }

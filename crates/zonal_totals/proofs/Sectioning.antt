@@ -1,16 +1,17 @@
 -- Sections of whole zones, and the one that has a zone.
-use Rattle.std.proofs.Common.{◌≡◌, inl, inr, ℕ, zero, suc, ◌+◌, ◌-◌, ◌<◌, ◌≤◌, List, [], ◌∷◌, ◌++◌, length, get_or, refl, sym, ◌∙◌, ap, subst, append_assoc, arith, ℤ, pos, ◌<ℤ◌, ◌≤ℤ◌}
+use Rattle.std.proofs.Common.{◌≡◌, inl, inr, ℕ, zero, suc, ◌+◌, ◌-◌, ◌<◌, ◌≤◌, List, [], ◌∷◌, ◌++◌, length, get_or, slice_get, Some, ◌↔◌, refl, sym, ◌∙◌, ap, subst, append_assoc, arith, ℤ, pos, ◌<ℤ◌, ◌≤ℤ◌}
 use Rattle.std.specs.Ordering.{int_eq}
 use Rattle.std.proofs.lemmas.Int.{ints, by_lt_z}
 use Rattle.std.proofs.lemmas.Bool.{cases_lt}
 use Rattle.std.proofs.lemmas.List.{append-nil, get_or_default}
 use Rattle.std.proofs.lemmas.List.Elements.{filter-append}
+use Rattle.std.proofs.lemmas.Option.{get_or_from_slice_get}
 use Rattle.map_nums.proofs.Ascending.{differs}
 use Rattle.zonal_totals.specs.declared.entries.Entry.{Entry}
 use Rattle.zonal_totals.specs.Pairs.{rank, floor, IsShort}
 use Rattle.zonal_totals.specs.Entries.{top_of, Climbs}
 use Rattle.zonal_totals.specs.Numbers.{part_of}
-use Rattle.zonal_totals.specs.Sections.{joined, end_of, lowest, last_zone, AreSections}
+use Rattle.zonal_totals.specs.Sections.{joined, end_of, lowest, last_zone, IsOneZone, AreSections}
 use Rattle.zonal_totals.proofs.Climbing.{climbs_from, climbs_join}
 
 -- ---- bounds
@@ -72,6 +73,19 @@ last_at z (e ∷ []) d h = refl
 last_at z (e ∷ f ∷ es) d h =
     let k : length (e ∷ f ∷ es) - 1 ≡ suc (length (f ∷ es) - 1) = omega arith in
     last_at e.pair.zone (f ∷ es) d (omega arith) ∙ sym (ap (λ n. (get_or (e ∷ f ∷ es) n d).pair.zone) k)
+
+-- entries that begin and end with the same zone
+pub one_zone_some : (es : List Entry) → IsOneZone es → 0 < length es
+one_zone_some [] o = absurd o
+one_zone_some (e ∷ es) o = omega arith
+
+pub one_zone : (es : List Entry) (first last : Entry) → Some first ≡ slice_get es 0 → Some last ≡ slice_get es (length es - 1) → (first.pair.zone ≡ last.pair.zone) ↔ IsOneZone es
+one_zone [] first last f l = absurd cc
+one_zone (e ∷ es) first last f l =
+    let same : first ≡ e = cc in
+    let end = last_at lowest (e ∷ es) last (omega arith) ∙ ap (λ (x : Entry). x.pair.zone) (get_or_from_slice_get (e ∷ es) (length (e ∷ es) - 1) last last (sym l)) in
+    let begin = ap (λ (x : Entry). x.pair.zone) same in
+    (λ h. sym begin ∙ h ∙ sym end, λ h. begin ∙ h ∙ end)
 
 -- ---- the section that has a zone
 

@@ -30,6 +30,11 @@ abbrev pub last_zone : ℤ → List Entry → ℤ
 last_zone z [] = z
 last_zone z (e ∷ es) = last_zone e.pair.zone es
 
+-- the first and the last entry have the same zone
+abbrev pub IsOneZone : List Entry → Type 0
+IsOneZone [] = ⊥
+IsOneZone (e ∷ es) = e.pair.zone ≡ last_zone e.pair.zone es
+
 -- each section has an entry, the ranks ascend, and no zone, nor z, is in a section and in one before
 abbrev pub AreSections : ℤ → List (List Entry) → Type 0
 AreSections z [] = Unit {0}

@@ -1,5 +1,5 @@
 //! Counts in sections of whole zones, which registers share.
-ghost use Rattle.std.specs.Prelude.{◌≡◌, ◌≢◌, ℕ, ◌-◌, ◌^◌, ◌<◌, ◌≤◌, ◌++◌, ◌≤ℤ◌, ◌<ℤ◌, ◌+ℤ◌, List, [], length, slice_index_or, IfSome, IfOk, OnOk, IsTrue};
+ghost use Rattle.std.specs.Prelude.{◌≡◌, ◌≢◌, ◌↔◌, ℕ, ◌-◌, ◌^◌, ◌<◌, ◌≤◌, ◌++◌, ◌≤ℤ◌, ◌<ℤ◌, ◌+ℤ◌, List, [], length, slice_index_or, IfSome, IfOk, OnOk, IsTrue};
 ghost use Rattle.map_nums.specs.Stats.{total_of};
 ghost use Rattle.zonal_totals.specs.declared.entries.Entry.{Entry};
 ghost use Rattle.zonal_totals.specs.declared.steps.Step.{Step};
@@ -9,7 +9,7 @@ ghost use Rattle.zonal_totals.specs.Numbers.{numbers, part_of};
 ghost use Rattle.zonal_totals.specs.Steps.{StepsClimb};
 ghost use Rattle.zonal_totals.specs.Rises.{rise_of};
 ghost use Rattle.zonal_totals.specs.Merges.{Fits, IsMerged};
-ghost use Rattle.zonal_totals.specs.Sections.{joined, end_of, lowest, last_zone, AreSections, IsRenewed};
+ghost use Rattle.zonal_totals.specs.Sections.{joined, end_of, lowest, last_zone, IsOneZone, AreSections, IsRenewed};
 
 use crate::entries::{Entry, zone_part};
 use crate::merges::merged;
@@ -205,8 +205,9 @@ fn steps_end(steps: &[Step], from: usize, last: &Entry) -> usize
     steps.len()
 }
 
+/// Whether the first and the last entry have the same zone.
 fn is_one_zone(entries: &[Entry]) -> bool
-    ensures { IsTrue result → 0 < length entries.now }
+    ensures { IsTrue result ↔ IsOneZone entries.now }
 {
     match (entries.first(), entries.last()) {
         (Some(first), Some(last)) => first.zone() == last.zone(),

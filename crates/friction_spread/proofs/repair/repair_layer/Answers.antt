@@ -56,8 +56,8 @@ returns-clause-worked g c = λ t u.
     ∙ work_of c.args.limit s (cells_before c.args.sources.now) c.args.sources.now.cells (cells_before c.args.friction.now) c.args.friction.now.cells old (patched s old c.in_ok-repair.repair.patch.tiles) c.deref.result.now t u (found_all g e)
 
 -- what both operands and the repair read, within the bounds of the whole
-whole : (looks tiles_moved n l m damage work : ℕ) (x y z : TallyState) → n ≡ l → l + m ≡ work → looks + 3 * tiles_moved ≤ 32 * damage → RisesBy looks (2 * l) x y → RisesBy (3 * tiles_moved) (378 * n + 840 * m) y z → RisesBy (32 * damage) (1000 * work) x z
-whole looks k n l m damage work x y z e f h p q = rises_within (looks + 3 * k) (2 * l + (378 * n + 840 * m)) (32 * damage) (1000 * work) x z h (omega (arith, e, f)) (rises_then looks (2 * l) (3 * k) (378 * n + 840 * m) x y z p q)
+whole : (looks tiles_moved n l m damage work : ℕ) (x y z : TallyState) → n ≡ l → l + m ≡ work → looks + 3 * tiles_moved ≤ 7 * damage → RisesBy looks (2 * l) x y → RisesBy (3 * tiles_moved) (378 * n + 628 * m) y z → RisesBy (7 * damage) (628 * work) x z
+whole looks k n l m damage work x y z e f h p q = rises_within (looks + 3 * k) (2 * l + (378 * n + 628 * m)) (7 * damage) (628 * work) x z h (omega (arith, e, f)) (rises_then looks (2 * l) (3 * k) (378 * n + 628 * m) x y z p q)
 
 pub returns-in_err-changed-clause-reads : goal.returns-in_err-changed-clause-reads
 returns-in_err-changed-clause-reads g c = λ a b t u cells right.
@@ -68,7 +68,7 @@ returns-in_err-changed-clause-reads g c = λ a b t u cells right.
     let test = has_changed (cells_before so ∷ cells_before fr ∷ []) (so.cells ∷ fr.cells ∷ []) in
     let l = repair_looks s c.args.limit so fr old cells t u refl c.requires.size c.extent-extent.ensures.change c.extent-friction.ensures.change c.requires.right.sources_there c.requires.right.friction_there a b in
     let w = work_is c.args.limit s (cells_before so ∷ cells_before fr ∷ []) (so.cells ∷ fr.cells ∷ []) old cells t u in
-    rises_within (2 * length so.touched + 2 * length fr.touched) (2 * length (filter test (places s))) (32 * length (op_damage (spread_op c.args.limit t u) s (cells_before so ∷ cells_before fr ∷ []) (so.cells ∷ fr.cells ∷ []) (Some old) cells)) (1000 * op_work (spread_op c.args.limit t u) s (cells_before so ∷ cells_before fr ∷ []) (so.cells ∷ fr.cells ∷ []) (Some old) cells) _ _ (omega (arith, l)) (omega (arith, w)) c.in_err-changed.ensures.looks
+    rises_within (2 * length so.touched + 2 * length fr.touched) (2 * length (filter test (places s))) (7 * length (op_damage (spread_op c.args.limit t u) s (cells_before so ∷ cells_before fr ∷ []) (so.cells ∷ fr.cells ∷ []) (Some old) cells)) (628 * op_work (spread_op c.args.limit t u) s (cells_before so ∷ cells_before fr ∷ []) (so.cells ∷ fr.cells ∷ []) (Some old) cells) _ _ (omega (arith, l)) (omega (arith, w)) c.in_err-changed.ensures.looks
 
 pub returns-in_err-repair-clause-reads : goal.returns-in_err-repair-clause-reads
 returns-in_err-repair-clause-reads g c = λ a b t u cells right.
@@ -79,7 +79,7 @@ returns-in_err-repair-clause-reads g c = λ a b t u cells right.
     let s = so.size in
     let n = length c.deref.result.now in
     let test = has_changed (cells_before so ∷ cells_before fr ∷ []) (so.cells ∷ fr.cells ∷ []) in
-    let P : GroundState → Type 0 = λ gr. IsSpread gr.size gr.sources gr.friction gr.limit cells → RisesBy (3 * length (filter (tile_has gr.size (differs old cells)) (tiles gr.size))) (378 * n + 840 * length (filter (differs old cells) (places gr.size))) (g.M.Tally.counts c.changed_places_of_both.new.tally) (g.M.Tally.counts c.repaired_costs.new.tally) in
+    let P : GroundState → Type 0 = λ gr. IsSpread gr.size gr.sources gr.friction gr.limit cells → RisesBy (3 * length (filter (tile_has gr.size (differs old cells)) (tiles gr.size))) (378 * n + 628 * length (filter (differs old cells) (places gr.size))) (g.M.Tally.counts c.changed_places_of_both.new.tally) (g.M.Tally.counts c.repaired_costs.new.tally) in
     let r = subst P c.new-ground.ensures (c.repaired_costs.ensures.reads cells) right in
     let l = repair_looks s c.args.limit so fr old cells t u refl c.requires.size c.extent-extent.ensures.change c.extent-friction.ensures.change c.requires.right.sources_there c.requires.right.friction_there a b in
     whole (2 * length so.touched + 2 * length fr.touched) (length (filter (tile_has s (differs old cells)) (tiles s))) n (length (filter test (places s))) (length (filter (differs old cells) (places s)))
@@ -95,7 +95,7 @@ returns-clause-reads g c = λ a b t u cells right.
     let s = so.size in
     let n = length c.deref.result.now in
     let test = has_changed (cells_before so ∷ cells_before fr ∷ []) (so.cells ∷ fr.cells ∷ []) in
-    let P : GroundState → Type 0 = λ gr. IsSpread gr.size gr.sources gr.friction gr.limit cells → RisesBy (3 * length (filter (tile_has gr.size (differs old cells)) (tiles gr.size))) (378 * n + 840 * length (filter (differs old cells) (places gr.size))) (g.M.Tally.counts c.changed_places_of_both.new.tally) (g.M.Tally.counts c.repaired_costs.new.tally) in
+    let P : GroundState → Type 0 = λ gr. IsSpread gr.size gr.sources gr.friction gr.limit cells → RisesBy (3 * length (filter (tile_has gr.size (differs old cells)) (tiles gr.size))) (378 * n + 628 * length (filter (differs old cells) (places gr.size))) (g.M.Tally.counts c.changed_places_of_both.new.tally) (g.M.Tally.counts c.repaired_costs.new.tally) in
     let r = subst P c.new-ground.ensures (c.repaired_costs.ensures.reads cells) right in
     let l = repair_looks s c.args.limit so fr old cells t u refl c.requires.size c.extent-extent.ensures.change c.extent-friction.ensures.change c.requires.right.sources_there c.requires.right.friction_there a b in
     whole (2 * length so.touched + 2 * length fr.touched) (length (filter (tile_has s (differs old cells)) (tiles s))) n (length (filter test (places s))) (length (filter (differs old cells) (places s)))

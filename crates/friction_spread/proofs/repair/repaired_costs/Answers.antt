@@ -62,7 +62,7 @@ returns-clause-worked g c =
     ap (λ k. length c.args.changed.now + k) (m ∙ ap (λ (xs : Cells). length (filter (differs old xs) (places gr.size))) (sym (cells_made g (goal.at.returns-clause-worked g c).In_ok-patch)))
 
 -- the picks of a whole repair
-picks_most : (g : GroundState) (old cells : Cells) (q n : ℕ) → AreCosts g.limit old → AreCosts g.limit cells → q ≤ 9 * n → 189 * n + (21 * q + 840 * changed (values g.limit old) (values g.limit cells) (cells_in g.size)) ≤ 378 * n + 840 * length (filter (differs old cells) (places g.size))
+picks_most : (g : GroundState) (old cells : Cells) (q n : ℕ) → AreCosts g.limit old → AreCosts g.limit cells → q ≤ 9 * n → 189 * n + (21 * q + 628 * changed (values g.limit old) (values g.limit cells) (cells_in g.size)) ≤ 378 * n + 628 * length (filter (differs old cells) (places g.size))
 picks_most g old cells q n a b l = omega (arith, l, moved_differs g old cells a b)
 
 pub returns-in_err-labels-clause-reads : goal.returns-in_err-labels-clause-reads
@@ -73,7 +73,7 @@ returns-in_err-look_at_all-clause-reads g c = λ cells right.
     let gr = c.args.ground.now in
     let old = c.args.base.now.cells in
     let n = length c.args.changed.now in
-    rises_within 0 (189 * n) (3 * length (filter (tile_has gr.size (differs old cells)) (tiles gr.size))) (378 * n + 840 * length (filter (differs old cells) (places gr.size))) _ _ (omega arith) (omega arith) c.look_at_all.ensures.picks
+    rises_within 0 (189 * n) (3 * length (filter (tile_has gr.size (differs old cells)) (tiles gr.size))) (378 * n + 628 * length (filter (differs old cells) (places gr.size))) _ _ (omega arith) (omega arith) c.look_at_all.ensures.picks
 
 pub returns-in_err-moved-clause-reads : goal.returns-in_err-moved-clause-reads
 returns-in_err-moved-clause-reads g c = λ cells right.
@@ -82,7 +82,7 @@ returns-in_err-moved-clause-reads g c = λ cells right.
     let n = length c.args.changed.now in
     let q = length c.look_at_all.new.queue in
     let t = 3 * length (filter (tile_has gr.size (differs old cells)) (tiles gr.size)) in
-    rises_within t (189 * n + (21 * q + 840 * changed (values gr.limit old) (values gr.limit cells) (cells_in gr.size))) t (378 * n + 840 * length (filter (differs old cells) (places gr.size))) _ _ (omega arith) (picks_most gr old cells q n c.requires.costs (costs_here gr cells right) (omega (arith, c.in_ok-look_at_all.ensures.len, ap length c.new-queue.ensures)))
+    rises_within t (189 * n + (21 * q + 628 * changed (values gr.limit old) (values gr.limit cells) (cells_in gr.size))) t (378 * n + 628 * length (filter (differs old cells) (places gr.size))) _ _ (omega arith) (picks_most gr old cells q n c.requires.costs (costs_here gr cells right) (omega (arith, c.in_ok-look_at_all.ensures.len, ap length c.new-queue.ensures)))
     (reads_failed gr cells old c.extent-extent.ensures.ground.size right c.in_ok-labels.labels c.settle.new.labels (ap base_of c.in_ok-labels.ensures.before) c.in_ok-labels.ensures.copied c.settle.ensures.same c.settle.ensures.caused (189 * n) q _ _ _ c.look_at_all.ensures.picks c.in_err-moved.ensures.due c.in_err-moved.ensures.wanted)
 
 pub returns-in_err-patch-clause-reads : goal.returns-in_err-patch-clause-reads
@@ -92,7 +92,7 @@ returns-in_err-patch-clause-reads g c = λ cells right.
     let n = length c.args.changed.now in
     let q = length c.look_at_all.new.queue in
     let t = 3 * length (filter (tile_has gr.size (differs old cells)) (tiles gr.size)) in
-    rises_within t (189 * n + (21 * q + 840 * changed (values gr.limit old) (values gr.limit cells) (cells_in gr.size))) t (378 * n + 840 * length (filter (differs old cells) (places gr.size))) _ _ (omega arith) (picks_most gr old cells q n c.requires.costs (costs_here gr cells right) (omega (arith, c.in_ok-look_at_all.ensures.len, ap length c.new-queue.ensures)))
+    rises_within t (189 * n + (21 * q + 628 * changed (values gr.limit old) (values gr.limit cells) (cells_in gr.size))) t (378 * n + 628 * length (filter (differs old cells) (places gr.size))) _ _ (omega arith) (picks_most gr old cells q n c.requires.costs (costs_here gr cells right) (omega (arith, c.in_ok-look_at_all.ensures.len, ap length c.new-queue.ensures)))
     (reads_done gr cells old c.extent-extent.ensures.ground.size right c.in_ok-labels.labels c.settle.new.labels (ap base_of c.in_ok-labels.ensures.before) c.in_ok-labels.ensures.copied c.settle.ensures.same c.settle.ensures.caused (189 * n) q _ _ _ c.look_at_all.ensures.picks _ c.in_ok-moved.ensures.tally c.into_patch.ensures.looks)
 
 pub returns-clause-reads : goal.returns-clause-reads
@@ -102,5 +102,5 @@ returns-clause-reads g c = λ cells right.
     let n = length c.args.changed.now in
     let q = length c.look_at_all.new.queue in
     let t = 3 * length (filter (tile_has gr.size (differs old cells)) (tiles gr.size)) in
-    rises_within t (189 * n + (21 * q + 840 * changed (values gr.limit old) (values gr.limit cells) (cells_in gr.size))) t (378 * n + 840 * length (filter (differs old cells) (places gr.size))) _ _ (omega arith) (picks_most gr old cells q n c.requires.costs (costs_here gr cells right) (omega (arith, c.in_ok-look_at_all.ensures.len, ap length c.new-queue.ensures)))
+    rises_within t (189 * n + (21 * q + 628 * changed (values gr.limit old) (values gr.limit cells) (cells_in gr.size))) t (378 * n + 628 * length (filter (differs old cells) (places gr.size))) _ _ (omega arith) (picks_most gr old cells q n c.requires.costs (costs_here gr cells right) (omega (arith, c.in_ok-look_at_all.ensures.len, ap length c.new-queue.ensures)))
     (reads_done gr cells old c.extent-extent.ensures.ground.size right c.in_ok-labels.labels c.settle.new.labels (ap base_of c.in_ok-labels.ensures.before) c.in_ok-labels.ensures.copied c.settle.ensures.same c.settle.ensures.caused (189 * n) q _ _ _ c.look_at_all.ensures.picks _ c.in_ok-moved.ensures.tally c.into_patch.ensures.looks)

@@ -1,63 +1,75 @@
-use Rattle.std.proofs.Common.{ℕ, ◌*◌, List, [], ◌∷◌, Option, Some, None, ap, sym, ◌∙◌, subst, arith, length}
+use Rattle.std.proofs.Common.{◌≡◌, ℕ, ◌*◌, [], ◌∷◌, Option, Some, None, ap, sym, ◌∙◌, subst, arith, length}
 use Rattle.std.specs.Prelude.{nat_abs}
 use Rattle.std.specs.Option.{option_copied}
 use Rattle.std.proofs.lemmas.Int.{to_z-of_z}
-use Rattle.map_nums.specs.Grids.{Size, Cells}
 use Rattle.map_nums.specs.Widths.{value_width}
 use Rattle.map_defs.specs.Damage.{op_damage}
-use Rattle.map_defs.specs.Ops.{Term, spread_op}
-use Rattle.map_defs.specs.Spread.{IsSpread}
+use Rattle.map_defs.specs.Ops.{spread_op}
 use Rattle.map_defs.specs.Work.{op_work}
-use Rattle.layer_tiles.specs.Changes.{cells_before}
+use Rattle.layer_tiles.specs.Changes.{ChangeState, cells_before}
 use Rattle.layer_tiles.specs.Layers.{LayerState}
 use Rattle.layer_tiles.specs.Tiles.{tiles_in}
 use Rattle.layer_tiles.specs.Tallies.{RisesBy, TallyState}
 use Rattle.layer_tiles.proofs.Rising.{rises_within}
 use Rattle.tile_work.specs.Working.{before_of}
+use Rattle.friction_spread.specs.Repairs.{ReadsWithin}
 use Rattle.friction_spread.proofs.Damaging.{first_looks}
 use Rattle.friction_spread.proofs.Works.{first_case}
+use Rattle.friction_spread.proofs.repair.spread_repair.Given.{Over}
 use Rattle.friction_spread.proofs.repair.spread_repair.Goals as goal
+use Rattle.friction_spread.proofs.repair.spread_repair.Goals.{After-repair_layer, After-first_costs}
 
--- the bounds of a whole evaluation
-abbrev Within : Size → ℕ → List Cells → List Cells → Term → Term → Cells → TallyState → TallyState → Option LayerState → Type 0
-Within s limit was now t u cells x y o = RisesBy (32 * length (op_damage (spread_op limit t u) s was now (before_of o) cells)) (1000 * op_work (spread_op limit t u) s was now (before_of o) cells) x y
+-- ---- reads, over a layer that there may be
 
-first_within : (s : Size) (limit : ℕ) (was now : List Cells) (t u : Term) (cells : Cells) (x y : TallyState) → RisesBy (2 * tiles_in s) 0 x y → Within s limit was now t u cells x y None
-first_within s limit was now t u cells x y r = rises_within (2 * tiles_in s) 0 (32 * length (op_damage (spread_op limit t u) s was now None cells)) (1000 * op_work (spread_op limit t u) s was now None cells) x y (first_looks s limit was now cells t u) (omega arith) r
+module _ (so fr : ChangeState) (limit : ℕ) (o : Option LayerState) (x y : TallyState) where
+  repair_reads : (n : ℕ) (layer : LayerState) → n ≡ limit → o ≡ Some layer → ReadsWithin 7 628 so fr n (Some layer.cells) x y → ReadsWithin 7 628 so fr limit (before_of o) x y
+  repair_reads n layer e is r =
+      let P : Option LayerState → Type 0 = λ k. ReadsWithin 7 628 so fr limit (before_of k) x y in
+      let R : ℕ → Type 0 = λ k. ReadsWithin 7 628 so fr k (Some layer.cells) x y in
+      subst P (sym is) (subst R e r)
+
+  first_reads : o ≡ None → RisesBy (2 * tiles_in so.size) 0 x y → ReadsWithin 7 628 so fr limit (before_of o) x y
+  first_reads is r =
+      let were = cells_before so ∷ cells_before fr ∷ [] in
+      let are = so.cells ∷ fr.cells ∷ [] in
+      let P : Option LayerState → Type 0 = λ k. ReadsWithin 7 628 so fr limit (before_of k) x y in
+      subst P (sym is) (λ a b t u cells right. rises_within (2 * tiles_in so.size) 0 (7 * length (op_damage (spread_op limit t u) so.size were are None cells)) (628 * op_work (spread_op limit t u) so.size were are None cells) x y (first_looks so.size limit were are cells t u) (omega arith) r)
+
+  whole_reads : ReadsWithin 7 628 so fr limit (before_of o) x y → ReadsWithin 32 1000 so fr limit (before_of o) x y
+  whole_reads r = λ a b t u cells right.
+      let damage = length (op_damage (spread_op limit t u) so.size (cells_before so ∷ cells_before fr ∷ []) (so.cells ∷ fr.cells ∷ []) (before_of o) cells) in
+      let work = op_work (spread_op limit t u) so.size (cells_before so ∷ cells_before fr ∷ []) (so.cells ∷ fr.cells ∷ []) (before_of o) cells in
+      rises_within (7 * damage) (628 * work) (32 * damage) (1000 * work) x y (omega arith) (omega arith) (r a b t u cells right)
+
+repaired : (g : Over) (c : After-repair_layer g) → ReadsWithin 7 628 c.args.sources.now c.args.friction.now (nat_abs c.args.limit) (before_of (option_copied c.args.base)) (g.M.Tally.counts c.args.tally.now) (g.M.Tally.counts c.repair_layer.new.tally)
+repaired g c = repair_reads c.args.sources.now c.args.friction.now (nat_abs c.args.limit) (option_copied c.args.base) _ _ _ c.in-Some.layer.now (c.limit_of-limit.ensures.value ∙ ap nat_abs (to_z-of_z value_width c.args.limit c.ranges.limit)) (ap option_copied c.in-Some.is) c.repair_layer.ensures.reads
+
+filled : (g : Over) (c : After-first_costs g) → ReadsWithin 7 628 c.args.sources.now c.args.friction.now (nat_abs c.args.limit) (before_of (option_copied c.args.base)) (g.M.Tally.counts c.args.tally.now) (g.M.Tally.counts c.first_costs.new.tally)
+filled g c = first_reads c.args.sources.now c.args.friction.now (nat_abs c.args.limit) (option_copied c.args.base) _ _ (ap option_copied c.in-None.is) c.first_costs.ensures.looks
+
+pub returns-in_err-repair-in-Some-clause-inner : goal.returns-in_err-repair-in-Some-clause-inner
+returns-in_err-repair-in-Some-clause-inner g c = repaired g (goal.at.returns-in_err-repair-in-Some-clause-inner g c).After-repair_layer
 
 pub returns-in_err-repair-in-Some-clause-reads : goal.returns-in_err-repair-in-Some-clause-reads
-returns-in_err-repair-in-Some-clause-reads g c = λ a b t u cells right.
-    let so = c.args.sources.now in
-    let fr = c.args.friction.now in
-    let P : Option LayerState → Type 0 = Within so.size (nat_abs c.args.limit) (cells_before so ∷ cells_before fr ∷ []) (so.cells ∷ fr.cells ∷ []) t u cells (g.M.Tally.counts c.args.tally.now) (g.M.Tally.counts c.repair_layer.new.tally) in
-    let R : ℕ → Type 0 = λ n. IsSpread so.size so.cells fr.cells n cells → Within so.size n (cells_before so ∷ cells_before fr ∷ []) (so.cells ∷ fr.cells ∷ []) t u cells (g.M.Tally.counts c.args.tally.now) (g.M.Tally.counts c.repair_layer.new.tally) (Some c.in-Some.layer.now) in
-    subst P (sym (ap option_copied c.in-Some.is)) (subst R (c.limit_of-limit.ensures.value ∙ ap nat_abs (to_z-of_z value_width c.args.limit c.ranges.limit)) (c.repair_layer.ensures.reads a b t u cells) right)
+returns-in_err-repair-in-Some-clause-reads g c = whole_reads c.args.sources.now c.args.friction.now (nat_abs c.args.limit) (option_copied c.args.base) _ _ (repaired g (goal.at.returns-in_err-repair-in-Some-clause-reads g c).After-repair_layer)
+
+pub returns-in_ok-repair-in-Some-clause-inner : goal.returns-in_ok-repair-in-Some-clause-inner
+returns-in_ok-repair-in-Some-clause-inner g c = repaired g (goal.at.returns-in_ok-repair-in-Some-clause-inner g c).After-repair_layer
 
 pub returns-in_ok-repair-in-Some-clause-reads : goal.returns-in_ok-repair-in-Some-clause-reads
-returns-in_ok-repair-in-Some-clause-reads g c = λ a b t u cells right.
-    let so = c.args.sources.now in
-    let fr = c.args.friction.now in
-    let P : Option LayerState → Type 0 = Within so.size (nat_abs c.args.limit) (cells_before so ∷ cells_before fr ∷ []) (so.cells ∷ fr.cells ∷ []) t u cells (g.M.Tally.counts c.args.tally.now) (g.M.Tally.counts c.repair_layer.new.tally) in
-    let R : ℕ → Type 0 = λ n. IsSpread so.size so.cells fr.cells n cells → Within so.size n (cells_before so ∷ cells_before fr ∷ []) (so.cells ∷ fr.cells ∷ []) t u cells (g.M.Tally.counts c.args.tally.now) (g.M.Tally.counts c.repair_layer.new.tally) (Some c.in-Some.layer.now) in
-    subst P (sym (ap option_copied c.in-Some.is)) (subst R (c.limit_of-limit.ensures.value ∙ ap nat_abs (to_z-of_z value_width c.args.limit c.ranges.limit)) (c.repair_layer.ensures.reads a b t u cells) right)
+returns-in_ok-repair-in-Some-clause-reads g c = whole_reads c.args.sources.now c.args.friction.now (nat_abs c.args.limit) (option_copied c.args.base) _ _ (repaired g (goal.at.returns-in_ok-repair-in-Some-clause-reads g c).After-repair_layer)
+
+pub returns-in_err-repair-in-None-clause-inner : goal.returns-in_err-repair-in-None-clause-inner
+returns-in_err-repair-in-None-clause-inner g c = filled g (goal.at.returns-in_err-repair-in-None-clause-inner g c).After-first_costs
 
 pub returns-in_err-repair-in-None-clause-reads : goal.returns-in_err-repair-in-None-clause-reads
-returns-in_err-repair-in-None-clause-reads g c = λ a b t u cells right.
-    let so = c.args.sources.now in
-    let fr = c.args.friction.now in
-    let x = g.M.Tally.counts c.args.tally.now in
-    let y = g.M.Tally.counts c.first_costs.new.tally in
-    let P : Option LayerState → Type 0 = Within so.size (nat_abs c.args.limit) (cells_before so ∷ cells_before fr ∷ []) (so.cells ∷ fr.cells ∷ []) t u cells x y in
-    subst P (sym (ap option_copied c.in-None.is)) (first_within so.size (nat_abs c.args.limit) (cells_before so ∷ cells_before fr ∷ []) (so.cells ∷ fr.cells ∷ []) t u cells x y c.first_costs.ensures.looks)
+returns-in_err-repair-in-None-clause-reads g c = whole_reads c.args.sources.now c.args.friction.now (nat_abs c.args.limit) (option_copied c.args.base) _ _ (filled g (goal.at.returns-in_err-repair-in-None-clause-reads g c).After-first_costs)
+
+pub returns-in_ok-repair-in-None-clause-inner : goal.returns-in_ok-repair-in-None-clause-inner
+returns-in_ok-repair-in-None-clause-inner g c = filled g (goal.at.returns-in_ok-repair-in-None-clause-inner g c).After-first_costs
 
 pub returns-in_ok-repair-in-None-clause-reads : goal.returns-in_ok-repair-in-None-clause-reads
-returns-in_ok-repair-in-None-clause-reads g c = λ a b t u cells right.
-    let so = c.args.sources.now in
-    let fr = c.args.friction.now in
-    let x = g.M.Tally.counts c.args.tally.now in
-    let y = g.M.Tally.counts c.first_costs.new.tally in
-    let P : Option LayerState → Type 0 = Within so.size (nat_abs c.args.limit) (cells_before so ∷ cells_before fr ∷ []) (so.cells ∷ fr.cells ∷ []) t u cells x y in
-    subst P (sym (ap option_copied c.in-None.is)) (first_within so.size (nat_abs c.args.limit) (cells_before so ∷ cells_before fr ∷ []) (so.cells ∷ fr.cells ∷ []) t u cells x y c.first_costs.ensures.looks)
+returns-in_ok-repair-in-None-clause-reads g c = whole_reads c.args.sources.now c.args.friction.now (nat_abs c.args.limit) (option_copied c.args.base) _ _ (filled g (goal.at.returns-in_ok-repair-in-None-clause-reads g c).After-first_costs)
 
 pub returns-in_ok-repair-in-None-clause-worked : goal.returns-in_ok-repair-in-None-clause-worked
 returns-in_ok-repair-in-None-clause-worked g c = λ t u.

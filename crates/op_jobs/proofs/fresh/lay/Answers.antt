@@ -8,3 +8,6 @@ returns-clause-ground g c =
 
 pub returns-clause-looks : goal.returns-clause-looks
 returns-clause-looks g c = lists_rise c.args.extent c.args.operands.now c.both_of.result.0.now c.both_of.result.1.now _ _ _ c.both_of.ensures c.requires.operands_are.each c.cells_of.ensures.looks c.cells_of-2.ensures.looks
+
+pub returns-in_err-second-clause-looks : goal.returns-in_err-second-clause-looks
+returns-in_err-second-clause-looks g c = lists_rise c.args.extent c.args.operands.now c.both_of.result.0.now c.both_of.result.1.now _ _ _ c.both_of.ensures c.requires.operands_are.each c.cells_of.ensures.looks c.cells_of-2.ensures.looks

@@ -1,6 +1,7 @@
 use Rattle.std.proofs.Common.{length, ap}
+use Rattle.map_defs.specs.Ops.{Op}
 use Rattle.statement_parser.specs.Views.{op_view}
-use Rattle.op_jobs.proofs.FreshOps.{costs_part, flows_part}
+use Rattle.op_jobs.proofs.FreshOps.{band_is}
 use Rattle.op_jobs.proofs.LayerLists.{ok_all, flow_listed, spread_listed}
 use Rattle.op_jobs.proofs.WholeOps.{limit_is}
 use Rattle.op_jobs.proofs.fresh.make_of_both.Goals as goal
@@ -9,12 +10,12 @@ pub spread_by-requires-clause-each : goal.spread_by-requires-clause-each
 spread_by-requires-clause-each c = λ k p e.
     let from = c.requires.found.from in
     let is = limit_is (op_view c.args.op.now) _ c.in-Spread.limit _ _ (ap op_view c.in-Spread.is) from.formed c.unsigned_abs-limit.ensures.value in
-    costs_part c.args.extent (op_view c.args.op.now) c.args._operands.now c.args.ground.first.items c.args.ground.second.items _ _ from.first from.second (length c.args.parts.items) k p _ is (c.requires.found.each k p e)
+    band_is c.args.extent (op_view c.args.op.now) c.args._operands.now c.args.ground.first.items c.args.ground.second.items _ from.first from.second (ap (λ (o : Op). o.head) is) (length c.args.parts.items) k p (c.requires.found.each k p e)
 
 pub flow_by-requires-clause-each : goal.flow_by-requires-clause-each
 flow_by-requires-clause-each c = λ k p e.
     let from = c.requires.found.from in
-    flows_part c.args.extent (op_view c.args.op.now) c.args._operands.now c.args.ground.first.items c.args.ground.second.items _ _ from.first from.second (length c.args.parts.items) k p (ap op_view c.in-Flow.is) (c.requires.found.each k p e)
+    band_is c.args.extent (op_view c.args.op.now) c.args._operands.now c.args.ground.first.items c.args.ground.second.items _ from.first from.second (ap (λ o. (op_view o).head) c.in-Flow.is) (length c.args.parts.items) k p (c.requires.found.each k p e)
 
 pub returns-in_ok-costs-in-Spread : goal.returns-in_ok-costs-in-Spread
 returns-in_ok-costs-in-Spread c =

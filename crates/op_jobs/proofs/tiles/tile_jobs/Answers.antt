@@ -1,4 +1,5 @@
 use Rattle.std.proofs.Common.{refl}
+use Rattle.map_defs.specs.Facts.{class_of}
 use Rattle.layer_tiles.specs.Operands.{cells_after}
 use Rattle.statement_parser.specs.Views.{op_view}
 use Rattle.map_waves.specs.Keeping.{kept_now, was_of}
@@ -10,7 +11,7 @@ returns-clause-jobs g c =
     let s = c.args.extent in
     let op = op_view c.args.op.now in
     let operands = c.args.operands.now in
-    let t = plain_is s op (cells_after operands) c.requires.plain in
+    let t = plain_is s (class_of op) (cells_after operands) c.requires.plain in
     record {
       tiles = listed_is s op (was_of (kept_now c.args.kept)) operands c.felt_within.result c.in_ok-set.set c.in_ok-tiles.tiles.items t.by c.felt_within.ensures.reach c.in_ok-set.ensures.set c.in_ok-tiles.ensures;
       local_is = c.in_ok-local.ensures;

@@ -1,14 +1,16 @@
-use Rattle.std.proofs.Common.{sym, ◌∙◌, ap}
-use Rattle.op_jobs.specs.Sound.{StatementJobs}
-use Rattle.op_jobs.proofs.Kept.{whole_fits, whole_repaired}
+use Rattle.std.proofs.Common.{Ok, subst}
+use Rattle.op_jobs.specs.Sound.{IsPiece}
+use Rattle.op_jobs.specs.declared.pieces.Piece.{Piece}
+use Rattle.op_jobs.specs.declared.pieces.Piece.TheVariants.{Tile, Whole}
+use Rattle.op_jobs.proofs.Kept.{whole_is}
 use Rattle.op_jobs.proofs.whole_jobs.gather_whole.Goals as goal
 
-pub made_whole-requires : goal.made_whole-requires
-made_whole-requires c =
-    let own = ap (λ (j : StatementJobs). j.own) (sym c.jobs.view_is) ∙ c.in-Whole.is in
-    whole_fits c.args.jobs.now c.in-Whole.set c.first_piece-piece.result c.requires.sound own (c.requires.each 0 c.first_piece-piece.result c.first_piece-piece.ensures)
+pub unreachable-requires : goal.unreachable-requires
+unreachable-requires c =
+    let j = c.args._jobs.now in
+    whole_is j (Ok (Tile c.in-Tile.field-0)) c.requires.whole (subst (λ (p : Piece). IsPiece j 0 (Ok p)) c.in-Tile.is (c.requires.each 0 c.first_piece.result c.first_piece.ensures))
 
 pub returns : goal.returns
 returns c =
-    let own = ap (λ (j : StatementJobs). j.own) (sym c.jobs.view_is) ∙ c.in-Whole.is in
-    whole_repaired c.args.jobs.now c.in-Whole.set c.first_piece-piece.result c.made_whole.result c.requires.sound own (c.requires.each 0 c.first_piece-piece.result c.first_piece-piece.ensures) c.made_whole.ensures
+    let j = c.args._jobs.now in
+    (whole_is j (Ok (Whole c.in-Whole.made)) c.requires.whole (subst (λ (p : Piece). IsPiece j 0 (Ok p)) c.in-Whole.is (c.requires.each 0 c.first_piece.result c.first_piece.ensures))).repaired

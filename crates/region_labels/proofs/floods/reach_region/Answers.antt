@@ -48,7 +48,7 @@ loop-head-preserved g c =
     let at = found_here g d in
     record {
       floods = λ z e. c.reach_all.ensures.grown.floods z c.args.root c.args.flood.now.marks e (c.loop-head.invariant.floods z e) (c.loop-head.head, l, sym at);
-      round = λ z e. round_next c.args.of.now.size c.args.of.now.cells z c.args.value c.args.root c.loop-head.head (get_or c.found-in-loop-head.result.now c.loop-head.head 0) c.args.flood.now.marks c.is_after-after.result c.loop-head.flood c.reach_all.new.flood c.extent-size.ensures.size e l at (c.loop-head.invariant.floods z e) c.is_after-after.ensures c.reach_all.ensures.grown c.in_ok-reach_all.ensures.near (c.loop-head.invariant.round z e);
+      round = λ z e. round_next c.args.of.now.size c.args.of.now.cells z c.args.value c.args.root c.loop-head.head (get_or c.found-in-loop-head.result.now c.loop-head.head 0) c.args.flood.now.marks c.is_after-after.result c.loop-head.flood c.reach_all.new.flood c.extent-size.ensures.size e l at (c.loop-head.invariant.floods z e) c.is_after-after.ensures.0 c.reach_all.ensures.grown c.in_ok-reach_all.ensures.near (c.loop-head.invariant.round z e);
       extent = c.reach_all.ensures.grown.extent ∙ c.loop-head.invariant.extent;
       head = omega (arith, l, c.reach_all.ensures.grown.grows);
       picks = rises_within (0 + 0) (9 * c.loop-head.head + 9) 0 (9 * (c.loop-head.head + 1)) _ _ (omega arith) (omega arith) (rises_then 0 (9 * c.loop-head.head) 0 9 _ _ _ c.loop-head.invariant.picks c.reach_all.ensures.picks);

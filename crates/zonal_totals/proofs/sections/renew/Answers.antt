@@ -5,6 +5,7 @@ use Rattle.zonal_totals.specs.Merges.{Fits, IsMerged}
 use Rattle.zonal_totals.proofs.Numbers.{is_no_length}
 use Rattle.zonal_totals.proofs.Renewing.{renewed_same, renewed_whole}
 use Rattle.zonal_totals.proofs.Rises.{known_after}
+use Rattle.zonal_totals.proofs.Sectioning.{one_zone_some}
 use Rattle.zonal_totals.proofs.sections.renew.Goals as goal
 
 none_there : (ss : List Step) → length ss ≡ 0 → ss ≡ []
@@ -33,6 +34,6 @@ returns-then-is_one_zone c =
     let old = c.args.sections.now.items in
     let fs = c.in_ok-entries.entries.items in
     let m : IsMerged c.args.section.now c.args.steps.now fs = subst (λ (l : List Entry). IsMerged l c.args.steps.now fs) c.entries.ensures.entries c.in_ok-entries.ensures in
-    let some : 0 < length fs = omega (arith, c.is_one_zone.ensures c.if-is_one_zone.true, ap (λ (l : List Entry). length l) c.deref.ensures.value) in
+    let some : 0 < length fs = omega (arith, one_zone_some _ (c.is_one_zone.ensures.0 c.if-is_one_zone.true), ap (λ (l : List Entry). length l) c.deref.ensures.value) in
     renewed_whole old c.push-then-is_one_zone.new.self.items c.args.section.now fs c.args.steps.now c.requires.sections m some (c.requires.behind fs m)
     (c.in_ok-push-2.ensures.items ∙ ap (λ (x : List Entry). old ++ x ∷ []) (c.in_ok-of.ensures ∙ c.shrink_to_fit.ensures.items))

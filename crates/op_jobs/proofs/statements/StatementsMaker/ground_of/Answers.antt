@@ -1,4 +1,5 @@
 use Rattle.std.proofs.Common.{arith, ap}
+use Rattle.map_defs.specs.Facts.{class_of}
 use Rattle.statement_parser.specs.Views.{op_view}
 use Rattle.map_waves.specs.Keeping.{kept_now, was_of}
 use Rattle.op_jobs.specs.Classes.{is_zonal}
@@ -25,7 +26,7 @@ returns-in-Region-clause-fit g c = let fit = grounding_fit c.args.extent (op_vie
 
 pub returns-in-Region-clause-parts : goal.returns-in-Region-clause-parts
 returns-in-Region-clause-parts g c = λ x r.
-    bands_found c.args.extent (op_view c.args.op.now) (was_of (kept_now c.args.kept)) c.args.operands.now c.from-in-Region.result _ _ _ (none_was c.args.kept c.if-is_some.ensures) (region_other (op_view c.args.op.now) c.in_ok-cells.ensures.ground.regions) c.lay_only.ensures.looks r
+    bands_found c.args.extent (op_view c.args.op.now) (was_of (kept_now c.args.kept)) c.args.operands.now c.from-in-Region.result _ _ _ (none_was c.args.kept c.if-is_some.ensures) (region_other (class_of (op_view c.args.op.now)) c.in_ok-cells.ensures.ground.regions) c.lay_only.ensures.looks r
 
 pub returns-then-not-is_banded-clause-fit : goal.returns-then-not-is_banded-clause-fit
 returns-then-not-is_banded-clause-fit g c = let fit = grounding_fit c.args.extent (op_view c.args.op.now) (was_of (kept_now c.args.kept)) c.args.operands.now in omega (arith, fit)
@@ -37,4 +38,4 @@ pub returns-clause-fit : goal.returns-clause-fit
 returns-clause-fit g c = let fit = grounding_fit c.args.extent (op_view c.args.op.now) (was_of (kept_now c.args.kept)) c.args.operands.now in omega (arith, fit)
 
 pub returns-clause-parts : goal.returns-clause-parts
-returns-clause-parts g c = λ x r. bands_found c.args.extent (op_view c.args.op.now) (was_of (kept_now c.args.kept)) c.args.operands.now c.from-2.result _ _ _ (none_was c.args.kept c.if-is_some.ensures) (banded_other (op_view c.args.op.now) c.in_ok-cells-2.ensures.ground.banded) c.lay.ensures.looks r
+returns-clause-parts g c = λ x r. bands_found c.args.extent (op_view c.args.op.now) (was_of (kept_now c.args.kept)) c.args.operands.now c.from-2.result _ _ _ (none_was c.args.kept c.if-is_some.ensures) (banded_other (class_of (op_view c.args.op.now)) c.in_ok-cells-2.ensures.ground.banded) c.lay.ensures.looks r

@@ -9,13 +9,16 @@ use Rattle.tile_work.specs.Working.{before_of}
 use Rattle.statement_parser.specs.Views.{op_view}
 use Rattle.map_waves.specs.Jobs.{was_in}
 use Rattle.map_waves.specs.Statements.{damage_by, work_by}
+use Rattle.map_waves.specs.declared.keeping.Made.{Made}
 use Rattle.op_jobs.specs.Beside.{layer_in}
 use Rattle.op_jobs.specs.Operands.{AreOperandsOf}
+use Rattle.op_jobs.specs.Pieces.{IsWholeRepaired}
 use Rattle.op_jobs.specs.Sound.{StatementJobs}
 use Rattle.op_jobs.specs.Whole.{IsRightBefore, IsWholeAnswer}
-use Rattle.op_jobs.proofs.Kept.{right_layer, before_is, answer_at_size, rises_at_size, whole_refusal}
+use Rattle.op_jobs.specs.declared.beside.Beside.{Beside}
+use Rattle.op_jobs.proofs.Kept.{right_layer, before_is, answer_at_size, rises_at_size, whole_refusal, touched_size, alone_repaired}
 use Rattle.op_jobs.proofs.Sharing.{extent_is}
-use Rattle.op_jobs.proofs.whole_jobs.do_whole.Goals as goal
+use Rattle.op_jobs.proofs.whole_jobs.do_alone.Goals as goal
 
 pub repair_whole-requires-clause-operands_are : goal.repair_whole-requires-clause-operands_are
 repair_whole-requires-clause-operands_are g c =
@@ -44,15 +47,27 @@ returns-in_err-patch-clause-piece g c =
     let answer = subst (λ (x : StatementJobs). IsWholeAnswer (size_of x.operands) (op_view x.op) (before_of (option_copied c.layer_of.result)) x.operands (Err e)) c.jobs.view_is c.in_err-patch.ensures.answer in
     rw (p.1, p.2) (whole_refusal j.size (op_view j.op) (was_in j) j.operands e (answer_at_size (size_of j.operands) j.size (op_view j.op) (before_of (option_copied c.layer_of.result)) (was_in j) j.operands (Err e) size (before_is j.kept (option_copied c.layer_of.result) layer) answer))
 
+pub made_alone-requires : goal.made_alone-requires
+made_alone-requires g c =
+    let j = c.args.jobs.now in
+    let is = c.requires.sound in
+    let size = extent_is j.size (op_view j.op) j.operands is.edited.operands_are in
+    let layer = c.layer_of.ensures ∙ ap (λ (x : StatementJobs). layer_in x.kept) c.jobs.view_is in
+    let r : PatchState × ℕ = (c.in_ok-patch.patch, c.in_ok-patch.worked) in
+    let answer = subst (λ (x : StatementJobs). IsWholeAnswer (size_of x.operands) (op_view x.op) (before_of (option_copied c.layer_of.result)) x.operands (Ok r)) c.jobs.view_is c.in_ok-patch.ensures.answer in
+    let made = answer_at_size (size_of j.operands) j.size (op_view j.op) (before_of (option_copied c.layer_of.result)) (was_in j) j.operands (Ok r) size (before_is j.kept (option_copied c.layer_of.result) layer) answer in
+    touched_size j c.args.touched.now is c.requires.own ∙ sym made.size
+
 pub returns-clause-piece : goal.returns-clause-piece
 returns-clause-piece g c =
     let j = c.args.jobs.now in
     let is = c.requires.sound in
     let size = extent_is j.size (op_view j.op) j.operands is.edited.operands_are in
     let layer = c.layer_of.ensures ∙ ap (λ (x : StatementJobs). layer_in x.kept) c.jobs.view_is in
-    let r : PatchState × ℕ = (c.in_ok-patch.patch, c.in_ok-patch.work) in
+    let r : PatchState × ℕ = (c.in_ok-patch.patch, c.in_ok-patch.worked) in
     let answer = subst (λ (x : StatementJobs). IsWholeAnswer (size_of x.operands) (op_view x.op) (before_of (option_copied c.layer_of.result)) x.operands (Ok r)) c.jobs.view_is c.in_ok-patch.ensures.answer in
-    answer_at_size (size_of j.operands) j.size (op_view j.op) (before_of (option_copied c.layer_of.result)) (was_in j) j.operands (Ok r) size (before_is j.kept (option_copied c.layer_of.result) layer) answer
+    let made = answer_at_size (size_of j.operands) j.size (op_view j.op) (before_of (option_copied c.layer_of.result)) (was_in j) j.operands (Ok r) size (before_is j.kept (option_copied c.layer_of.result) layer) answer in
+    subst (λ (m : Made Beside). IsWholeRepaired j.size (op_view j.op) (was_in j) j.operands m) (sym c.made_alone.ensures) (alone_repaired j c.args.touched.now is c.requires.own c.in_ok-patch.patch c.in_ok-patch.worked c.requires.alone made)
 
 pub returns-in_err-patch-clause-tally : goal.returns-in_err-patch-clause-tally
 returns-in_err-patch-clause-tally g c =

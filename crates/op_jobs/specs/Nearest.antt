@@ -1,0 +1,48 @@
+-- Nearest-source statements: what is kept of them, and what is made.
+use Rattle.std.specs.Prelude.{◌≡◌, ℕ, ◌≤◌, [], ◌∷◌, Option, Some, None, IsSome}
+use Rattle.map_nums.specs.Numbers.{greatest_value}
+use Rattle.layer_tiles.specs.Changes.{ChangeState}
+use Rattle.layer_tiles.specs.Layers.{LayerState}
+use Rattle.layer_tiles.specs.Patches.{PatchState, HoldsAll, patched}
+use Rattle.tile_work.specs.Working.{base_of, before_of}
+use Rattle.damage_sets.specs.Sets.{TileSetState}
+use Rattle.friction_neighbor.specs.Results.{values_of, AreOldFor}
+use Rattle.friction_neighbor.specs.declared.repair.Nearest.{Nearest}
+use Rattle.friction_neighbor.specs.declared.repair.NearestRepair.{NearestRepair}
+use Rattle.map_waves.specs.Operands.{IsOperand}
+use Rattle.map_waves.specs.declared.keeping.Kept.{Kept}
+use Rattle.map_waves.specs.declared.keeping.Made.{Made}
+use Rattle.op_jobs.specs.Beside.{AreCosts, costs_at}
+use Rattle.op_jobs.specs.Owning.{reached}
+use Rattle.op_jobs.specs.Whole.{count_any}
+use Rattle.op_jobs.specs.declared.beside.Beside.{Beside}
+
+-- costs stand beside what is kept
+abbrev pub HasCosts : Option (Kept Beside) → Type 0
+HasCosts None = Unit {0}
+HasCosts (Some k) = IsSome (costs_at k.beside)
+
+-- the operands of a statement, the layers that were right for them before, and the tiles in which an operand changed, all of them where there were no layers
+pub record AreHanded (sources friction : ChangeState) (limit : ℕ) (old : Option Nearest) (touched : TileSetState) : Type 0 where
+  pub first : IsOperand sources.size sources
+  pub second : IsOperand sources.size friction
+  pub low : limit ≤ greatest_value
+  pub right : AreOldFor sources friction limit old
+  pub tiles : touched ≡ reached 0 sources.size (before_of (values_of old)) (sources ∷ friction ∷ [])
+
+-- a patch of the layer's size; of all tiles where there is none
+abbrev pub CanTake : Option LayerState → PatchState → Type 0
+CanTake None patch = HoldsAll patch
+CanTake (Some l) patch = patch.size ≡ l.size
+
+-- the tiles of a patch were put in
+pub record AreCommitted (old : Option LayerState) (patch : PatchState) (new : LayerState) : Type 0 where
+  pub size : new.size ≡ patch.size
+  pub cells : new.cells ≡ patched patch.size (base_of (before_of old)) patch.tiles
+
+-- the numbers of nearest sources that changed, the costs after the edit, and the tiles that an operand, a number or a cost changed in
+pub record IsNearestMade (touched : TileSetState) (old : Option LayerState) (repair : NearestRepair) (m : Made Beside) : Type 0 where
+  pub patch : m.patch ≡ repair.value
+  pub beside : AreCosts repair.cost.size (patched repair.cost.size (base_of (before_of old)) repair.cost.tiles) m.beside
+  pub evaluated : m.evaluated ≡ count_any touched repair.value (Some repair.cost)
+  pub worked : m.worked ≡ repair.worked
