@@ -1,19 +1,19 @@
 -- The fault of a layer that is defined, by its operation and the cells of its operands.
-use Rattle.std.proofs.Common.{◌≡◌, ℕ, ◌&&◌, nat_lt, Bool, true, false, List, [], ◌∷◌, map, position, Option, Some, None, is_some, option_map, if◌then◌else◌, refl, sym, ap, ◌∙◌}
+use Rattle.std.proofs.Common.{◌≡◌, ℕ, ◌&&◌, nat_lt, Bool, true, false, List, [], ◌∷◌, map, position, Option, Some, None, is_some, option_map, unwrap_or, if◌then◌else◌, refl, sym, ap, ◌∙◌}
 use Rattle.map_nums.specs.Grids.{Size, Cells, Grid}
 use Rattle.map_nums.specs.Answers.{is_wide}
 use Rattle.map_nums.specs.Options.{all_some}
 use Rattle.map_defs.specs.Ops.{Name, Term, Op}
-use Rattle.map_defs.specs.Facts.{Class, local_class, near_class, zonal_class, sight_class, path_class, nearest_class, region_class, class_of}
+use Rattle.map_defs.specs.Viewers.{viewers_in}
 use Rattle.map_defs.specs.Operate.{operate}
 use Rattle.map_defs.specs.Sight.{most_viewers}
 use Rattle.map_edits.specs.LayerDefs.{by_op, layers, find_making, nodes_of}
 use Rattle.map_edits.specs.EngineStates.{EngineState, term_cells, value_of}
 use Rattle.map_edits.specs.EngineStates as states
-use Rattle.map_edits.specs.Faults.{Fault, too_many_viewers, viewers_among, viewers_of, wide_place, overflow_at, fault_of_layer}
+use Rattle.map_edits.specs.Faults.{Fault, too_many_viewers, viewers_of, wide_place, overflow_at, fault_of_layer}
 use Rattle.map_edits.specs.Laws.{HasNoCycle}
 use Rattle.map_edits.proofs.Unfolds.{value_unfolds}
-use Rattle.map_waves.specs.Statements.{made, viewers_by, viewers_in, fault_in, wide_at, too_many}
+use Rattle.map_waves.specs.Statements.{made, fault_in, wide_at, too_many}
 use Rattle.edit_plans.specs.Telling.{fault_told}
 
 abbrev pub faulty : ℕ → Size → Name → Option Grid → Option Fault
@@ -35,17 +35,8 @@ module _ (t : EngineState) where
   abbrev cells_for : Term → Option Cells
   cells_for u = term_cells t.size (value_of t) u
 
-  viewers_among_are : (class : Class) (cells : List Cells) → viewers_among class (Some cells) ≡ viewers_by class cells
-  viewers_among_are (sight_class reach) cells = refl
-  viewers_among_are local_class cells = refl
-  viewers_among_are (near_class r) cells = refl
-  viewers_among_are (zonal_class stat) cells = refl
-  viewers_among_are path_class cells = refl
-  viewers_among_are (nearest_class limit) cells = refl
-  viewers_among_are region_class cells = refl
-
   viewers_told : (op : Op) (cells : List Cells) → all_some (map cells_for op.terms) ≡ Some cells → viewers_of t (Some (by_op op)) ≡ viewers_in op cells
-  viewers_told op cells e = ap (viewers_among (class_of op)) e ∙ viewers_among_are (class_of op) cells
+  viewers_told op cells e = ap (λ os. unwrap_or (option_map (viewers_in op) os) 0) e
 
   module _ (none : HasNoCycle (nodes_of t.entries)) (n : Name) (op : Op) (cells : List Cells) (making : find_making (layers t.entries) n ≡ Some (by_op op)) (all : all_some (map cells_for op.terms) ≡ Some cells) where
     pub grid_is : value_of t n ≡ Some (operate t.size op cells)

@@ -48,7 +48,7 @@ unchanged_by sb sn fb fn cb cn j n m = record {
 }
 
 -- outside the map there is no value
-outside_least : (f : FieldState) → IsField f → (old : Cells) (i : ℕ) → length old ≡ cells_in f.ground.size → cells_in f.ground.size ≤ i → IsLeastHere f old i (cell_at old i)
+pub outside_least : (f : FieldState) → IsField f → (old : Cells) (i : ℕ) → length old ≡ cells_in f.ground.size → cells_in f.ground.size ≤ i → IsLeastHere f old i (cell_at old i)
 outside_least f field old i n l =
     let none : cell_at old i ≡ None = get_or_past old i None (omega (arith, n, l)) in
     let w = values_within f.ground f.costs field.costs.full i l in

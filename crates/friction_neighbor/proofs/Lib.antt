@@ -9,7 +9,10 @@ pub mod Putting
 pub mod Counting
 pub mod Agreeing
 pub mod Begun
+pub mod Joining
+pub mod Banded
 pub mod Settling
+pub mod ListSettling
 pub mod Damaging
 pub mod Reading
 pub mod Repairing

@@ -22,6 +22,9 @@ module _ (f : FieldState) where
   pub put_none : (entries : List (ℕ × ℕ)) (seen : PlaceSetState) → ArePut f entries seen entries seen
   put_none entries seen = record { size = refl; full = refl; kept = λ x c. c; marked = λ i m. m; entered = λ i m. inl m; each = λ h. h; more = omega arith; count = refl }
 
+  pub same_put : (old a b : List (ℕ × ℕ)) (seen x y : PlaceSetState) → b ≡ a → y ≡ x → ArePut f old seen a x → ArePut f old seen b y
+  same_put old a b seen x y e q p = let P : List (ℕ × ℕ) → Type 0 = λ es. ArePut f old seen es y in let Q : PlaceSetState → Type 0 = ArePut f old seen a in subst P (sym e) (subst Q (sym q) p)
+
   pub put_then : (a b c : List (ℕ × ℕ)) (x y z : PlaceSetState) → ArePut f a x b y → ArePut f b y c z → ArePut f a x c z
   put_then a b c x y z p q = record {
     size = q.size ∙ p.size;

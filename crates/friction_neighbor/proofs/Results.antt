@@ -1,24 +1,26 @@
--- Least values as the cells of nearest sources, and the work that they are.
-use Rattle.std.proofs.Common.{◌≡◌, ℕ, zero, suc, ◌+◌, ◌<◌, ◌≤◌, ℤ, pos, Bool, true, false, cond, not, List, ◌∷◌, length, Option, Some, None, refl, sym, ◌∙◌, ap, subst, arith, inl, inr}
+-- The cells that show values, and the work that those of nearest sources are.
+use Rattle.std.proofs.Common.{◌≡◌, ℕ, zero, suc, ◌+◌, ◌<◌, ◌≤◌, ℤ, pos, Bool, true, false, cond, not, List, ◌∷◌, length, get_or, Option, Some, None, refl, sym, ◌∙◌, ap, arith, inl, inr}
 use Rattle.std.specs.Prelude.{is_some, filter}
 use Rattle.std.specs.List.{range_with_len}
 use Rattle.std.proofs.lemmas.Bool.{cases_lt, lt-leb, le-leb}
 use Rattle.std.proofs.lemmas.List.{get_or_past}
 use Rattle.std.proofs.lemmas.List.FromFn.{get_or-map-range_with_len, length-map-range_with_len}
 use Rattle.map_nums.specs.Answers.{is_wide}
-use Rattle.map_nums.specs.Numbers.{is_value}
 use Rattle.map_nums.specs.Grids.{Size, Cells, cell_at, cells_in}
+use Rattle.map_nums.specs.Numbers.{greatest_value}
 use Rattle.layer_tiles.specs.Answers.{IsLeastWide}
-use Rattle.map_defs.specs.Nets.{Net, IsLeastIn}
-use Rattle.map_defs.specs.Nearest.{IsNearestCell, AreNearest, IsLeastValue}
+use Rattle.layer_tiles.specs.Cells.{IsCell, AreCells}
+use Rattle.map_defs.specs.Nearest.{AreNearest}
 use Rattle.map_defs.specs.Work.{first_work}
 use Rattle.map_defs.proofs.NearestNet.{valued}
-use Rattle.map_defs.proofs.NearestCells.{nearest_by_steps}
 use Rattle.friction_spread.specs.Costs.{net_of}
-use Rattle.friction_spread.proofs.Grounds.{net_same, net_closed, net_costs}
+use Rattle.friction_spread.specs.Shown.{shown_at as cost_shown, shown_cells as cost_cells}
+use Rattle.friction_spread.proofs.Grounds.{net_closed, net_costs}
+use Rattle.friction_spread.proofs.Showing.{cost_narrow, shown_count as count_shown}
 use Rattle.friction_spread.proofs.Shown.{costs_here}
-use Rattle.friction_neighbor.specs.Fields.{FieldState, IsField, cost_at, own_at, AreLeastValues}
+use Rattle.friction_neighbor.specs.Fields.{FieldState, IsField, cost_at, own_at}
 use Rattle.friction_neighbor.specs.Shown.{shown_cells}
+use Rattle.friction_neighbor.proofs.Agreeing.{nearest_agree}
 use Rattle.friction_neighbor.proofs.Places.{least, base_number}
 use Rattle.friction_neighbor.proofs.Flooding.{some_or}
 
@@ -43,48 +45,40 @@ same_number_of p q top k (suc n) e h = one (p k) (q k) (h k (omega (arith, e))) 
     one false true e xs ys l = absurd (cc)
     one false false e xs ys l = l
 
-module _ (f : FieldState) (h : IsField f) (values : Cells) (v : AreLeastValues f values) where
-  abbrev cells : Cells
-  cells = shown_cells f.ground.size values
-
-  nearest_here : (i : ℕ) → IsNearestCell f.ground.size f.ground.sources f.ground.friction f.ground.limit i (cell_at values i)
-  nearest_here i =
-      let same = sym (net_same f.ground) in
-      nearest_by_steps f.ground.size f.ground.sources f.ground.friction f.ground.limit (cost_at f) (λ j. subst (λ (n : Net). IsLeastIn n j (cost_at f j)) same (least f h j)) (cell_at values)
-      (λ j. subst (λ (n : Net). IsLeastValue n (cost_at f) (own_at f) (cell_at values) j) same (v.each j)) i
-
-  pub shown_nearest : AreNearest f.ground.size f.ground.sources f.ground.friction f.ground.limit cells
-  shown_nearest = record {
-    full = shown_count f.ground.size values;
-    each = λ i l. subst (λ (c : Option ℤ). IsNearestCell f.ground.size f.ground.sources f.ground.friction f.ground.limit i c) (sym (shown_at f.ground.size values i l)) (nearest_here i);
-  }
-
+module _ (f : FieldState) (h : IsField f) (cells : Cells) (near : AreNearest f.ground.size f.ground.sources f.ground.friction f.ground.limit cells) where
   -- a place has a value exactly where it has a cost
-  same_places : (i : ℕ) → i < cells_in f.ground.size → is_some (cell_at f.costs i) ≡ is_some (cell_at cells i)
-  same_places i l =
+  same_places : (i : ℕ) → is_some (cell_at f.costs i) ≡ is_some (cell_at cells i)
+  same_places i =
       let shown = costs_here f.ground f.costs h.costs i in
+      let agree = nearest_agree f h cells near in
       elim (cases_lt (cost_at f i) (suc f.ground.limit)) as (λ _. is_some (cell_at f.costs i) ≡ is_some (cell_at cells i)) [
-        | inl m ↦ (let some = valued (net_of f.ground) (net_closed f.ground) (net_costs f.ground) (own_at f) (base_number f) (cost_at f) (least f h) (cell_at values) v.each (suc (cost_at f i)) i (omega arith) m in
-            ap is_some shown ∙ ap (λ (b : Bool). is_some {T = ℤ} (cond b (Some (pos (cost_at f i))) None)) (le-leb (cost_at f i) f.ground.limit (omega (arith, m))) ∙ sym (ap is_some (shown_at f.ground.size values i l ∙ some.1)))
-        | inr m ↦ (let none : cell_at values i ≡ None = no_value i m in
-            ap is_some shown ∙ ap (λ (b : Bool). is_some {T = ℤ} (cond b (Some (pos (cost_at f i))) None)) (lt-leb (cost_at f i) f.ground.limit (omega (arith, m))) ∙ sym (ap is_some (shown_at f.ground.size values i l ∙ none)))
+        | inl m ↦ (let some = valued (net_of f.ground) (net_closed f.ground) (net_costs f.ground) (own_at f) (base_number f) (cost_at f) (least f h) (cell_at cells) agree (suc (cost_at f i)) i (omega arith) m in
+            ap is_some shown ∙ ap (λ (b : Bool). is_some {T = ℤ} (cond b (Some (pos (cost_at f i))) None)) (le-leb (cost_at f i) f.ground.limit (omega (arith, m))) ∙ sym (ap is_some some.1))
+        | inr m ↦ (let none : cell_at cells i ≡ None = no_value i m in
+            ap is_some shown ∙ ap (λ (b : Bool). is_some {T = ℤ} (cond b (Some (pos (cost_at f i))) None)) (lt-leb (cost_at f i) f.ground.limit (omega (arith, m))) ∙ sym (ap is_some none))
       ]
     where
-      no_value : (i : ℕ) → suc f.ground.limit ≤ cost_at f i → cell_at values i ≡ None
-      no_value i m = elim (some_or (cell_at values i)) as (λ _. cell_at values i ≡ None) [
+      no_value : (i : ℕ) → suc f.ground.limit ≤ cost_at f i → cell_at cells i ≡ None
+      no_value i m = elim (some_or (cell_at cells i)) as (λ _. cell_at cells i ≡ None) [
         | inl n ↦ n
-        | inr z ↦ elim ((v.each i).attained z.0 z.1) as (λ _. cell_at values i ≡ None) [ inl b ↦ absurd (omega (arith, b.0.0, m)) | inr q ↦ absurd (omega (arith, q.1.0, m)) ]
+        | inr z ↦ elim ((nearest_agree f h cells near i).attained z.0 z.1) as (λ _. cell_at cells i ≡ None) [ inl b ↦ absurd (omega (arith, b.0.0, m)) | inr q ↦ absurd (omega (arith, q.1.0, m)) ]
       ]
 
   pub same_work : first_work f.ground.size cells ≡ first_work f.ground.size f.costs
-  same_work = ap (λ n. cells_in f.ground.size + n) (sym (same_number_of (λ i. is_some (cell_at f.costs i)) (λ i. is_some (cell_at cells i)) (cells_in f.ground.size) 0 (cells_in f.ground.size) (omega arith) same_places))
+  same_work = ap (λ n. cells_in f.ground.size + n) (sym (same_number_of (λ i. is_some (cell_at f.costs i)) (λ i. is_some (cell_at cells i)) (cells_in f.ground.size) 0 (cells_in f.ground.size) (omega arith) (λ i l. same_places i)))
 
-  fits : (c : Option ℤ) → ((z : ℤ) → c ≡ Some z → is_value z ≡ true) → is_wide c ≡ false
-  fits None k = refl
-  fits (Some z) k = ap not (k z refl)
+narrow : (c : Option ℤ) → IsCell c → is_wide c ≡ false
+narrow None k = refl
+narrow (Some z) k = ap not k
 
-  pub shown_in_range : (i : ℕ) → is_wide (cell_at cells i) ≡ false
-  shown_in_range i = elim (cases_lt i (cells_in f.ground.size)) as (λ _. is_wide (cell_at cells i) ≡ false) [
-    | inl l ↦ ap is_wide (shown_at f.ground.size values i l) ∙ fits (cell_at values i) (v.in_range i)
-    | inr l ↦ ap is_wide (get_or_past cells i None (omega (arith, l, shown_count f.ground.size values)))
-  ]
+pub shown_in_range : (s : Size) (values : Cells) → AreCells values → (i : ℕ) → is_wide (cell_at (shown_cells s values) i) ≡ false
+shown_in_range s values h i = elim (cases_lt i (cells_in s)) as (λ _. is_wide (cell_at (shown_cells s values) i) ≡ false) [
+  | inl l ↦ ap is_wide (shown_at s values i l) ∙ narrow (cell_at values i) (h.each i)
+  | inr l ↦ ap is_wide (get_or_past (shown_cells s values) i None (omega (arith, l, shown_count s values)))
+]
+
+pub costs_in_range : (s : Size) (limit : ℕ) (costs : List ℕ) → limit ≤ greatest_value → (i : ℕ) → is_wide (cell_at (cost_cells s limit costs) i) ≡ false
+costs_in_range s limit costs low i = elim (cases_lt i (cells_in s)) as (λ _. is_wide (cell_at (cost_cells s limit costs) i) ≡ false) [
+  | inl l ↦ ap is_wide (get_or-map-range_with_len (cost_shown limit costs) 0 (cells_in s) i i None l (omega arith)) ∙ cost_narrow limit (get_or costs i (suc limit)) low
+  | inr l ↦ ap is_wide (get_or_past (cost_cells s limit costs) i None (omega (arith, l, count_shown s limit costs)))
+]

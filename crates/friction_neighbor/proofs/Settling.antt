@@ -117,13 +117,13 @@ module _ (v : ViewState) (field : IsField v.field) (old values : Cells) (seen : 
   pub key_is : key ≡ cost_at v.field at
   key_is = entry.1
 
-  left_waiting : AreWaiting v.field left
+  pub left_waiting : AreWaiting v.field left
   left_waiting x c = now.waiting x (there x (suc c.0, omega (arith, c.1), c.2))
 
-  no_lower : (x : ℕ × ℕ) → Contains entries x → cost_at v.field at ≤ x.0
+  pub no_lower : (x : ℕ × ℕ) → Contains entries x → cost_at v.field at ≤ x.0
   no_lower x c = omega (arith, key_least key x entries lowest c, entry.1)
 
-  left_or : (x : ℕ × ℕ) → Contains entries x → (x ≡ (cost_at v.field at, at)) ⊎ Contains left x
+  pub left_or : (x : ℕ × ℕ) → Contains entries x → (x ≡ (cost_at v.field at, at)) ⊎ Contains left x
   left_or x c = elim (contains_front x (key, at) left (Contains-permutation entries ((key, at) ∷ left) x popped c)) as (λ _. (x ≡ (cost_at v.field at, at)) ⊎ Contains left x) [
     | inl e ↦ (let P : ℕ → Type 0 = λ k. x ≡ (k, at) in inl (subst P entry.1 e))
     | inr r ↦ inr r

@@ -77,10 +77,10 @@ module _ (sources friction : ChangeState) (limit : ℕ) (old : Nearest) (size : 
 
 -- ---- where there were none
 
--- a look at each tile of both operands and of the costs
-pub first_within : (sources friction : ChangeState) (limit : ℕ) (x y : TallyState) → RisesBy (3 * tiles_in sources.size) 0 x y → NearestReadsWithin 32 1000 sources friction limit None x y
+-- a look at each tile of both operands
+pub first_within : (sources friction : ChangeState) (limit : ℕ) (x y : TallyState) → RisesBy (2 * tiles_in sources.size) 0 x y → NearestReadsWithin 32 1000 sources friction limit None x y
 unfolding op_damage
-first_within sources friction limit x y reads holds also t u cells near = rises_within (3 * tiles_in sources.size) 0 _ _ x y (omega (arith, length-range_with_len 0 (tiles_in sources.size))) (omega arith) reads
+first_within sources friction limit x y reads holds also t u cells near = rises_within (2 * tiles_in sources.size) 0 _ _ x y (omega (arith, length-range_with_len 0 (tiles_in sources.size))) (omega arith) reads
 
 pub first_worked : (sources friction : ChangeState) (limit : ℕ) (cells : Cells) (t u : Term) → first_work sources.size cells ≡ op_work (nearest_op limit t u) sources.size (befores sources friction) (afters sources friction) None cells
 unfolding op_work

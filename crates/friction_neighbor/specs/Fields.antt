@@ -5,6 +5,7 @@ use Rattle.map_nums.specs.Numbers.{greatest_value, is_value}
 use Rattle.map_defs.specs.Spread.{IsSpread}
 use Rattle.map_defs.specs.Nearest.{IsLeastValue}
 use Rattle.friction_spread.specs.Costs.{GroundState, values, net_of}
+use Rattle.friction_spread.specs.Shown.{shown_cells}
 
 -- the operands of a spread, and its costs
 pub record FieldState : Type 0 where
@@ -13,6 +14,10 @@ pub record FieldState : Type 0 where
 
 abbrev pub field_of : Size → Cells → Cells → ℕ → Cells → FieldState
 field_of s sources friction limit costs = record { ground = record { size = s; sources = sources; friction = friction; limit = limit }; costs = costs }
+
+-- with costs in a list
+abbrev pub list_field : GroundState → List ℕ → FieldState
+list_field g costs = record { ground = g; costs = shown_cells g.size g.limit costs }
 
 pub record IsField (f : FieldState) : Type 0 where
   pub size : IsSize f.ground.size

@@ -9,3 +9,5 @@ pub mod Gathers
 pub mod Puts
 pub mod Repairs
 pub mod Results
+pub mod Bands
+pub mod Joins

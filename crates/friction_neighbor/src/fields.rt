@@ -1,10 +1,12 @@
 //! What values are passed on over: sources, frictions and least costs, in lists, by place.
-ghost use Rattle.std.specs.Prelude.{◌≡◌, ◌<◌, ◌≤◌, ◌≤ℤ◌, ◌+◌, ◌^◌, suc, pos, nat_abs, length};
-ghost use Rattle.map_nums.specs.Grids.{Cells, cells_in, cell_at};
+ghost use Rattle.std.specs.Prelude.{◌≡◌, ◌<◌, ◌≤◌, ◌≤ℤ◌, ◌+◌, ◌^◌, pos, nat_abs, length};
+ghost use Rattle.map_nums.specs.Grids.{cells_in};
 ghost use Rattle.map_nums.specs.Numbers.{greatest_value};
 ghost use Rattle.map_defs.specs.Spread.{IsSpread, friction_at, friction_of};
+ghost use Rattle.friction_spread.specs.Bands.{ground_of};
 ghost use Rattle.friction_spread.specs.Costs.{cost_of};
-ghost use Rattle.friction_neighbor.specs.Fields.{FieldState, IsField, cost_at, own_at, field_of};
+ghost use Rattle.friction_spread.specs.Shown.{shown_cells};
+ghost use Rattle.friction_neighbor.specs.Fields.{IsField, cost_at, own_at, list_field};
 ghost use Rattle.friction_neighbor.specs.Spots.{IsSpot, weighed};
 
 use layer_tiles::{Cell, Extent, Value};
@@ -16,7 +18,7 @@ pub struct CostField<'a> {
     extent: Extent,
     sources: &'a [Cell],
     friction: &'a [Cell],
-    costs: &'a [Cell],
+    costs: &'a [u64],
     limit: u64,
 }
 
@@ -37,13 +39,16 @@ pub struct Front {
 }
 
 impl<'a> Model for CostField<'a> {
-    ghost use Rattle.friction_neighbor.specs.Fields.{FieldState, IsField, field_of};
+    ghost use Rattle.std.specs.Prelude.{◌≡◌, length};
+    ghost use Rattle.map_nums.specs.Grids.{cells_in};
+    ghost use Rattle.friction_spread.specs.Bands.{ground_of};
+    ghost use Rattle.friction_neighbor.specs.Fields.{FieldState, IsField, list_field};
 
     ghost Value = { FieldState };
 
-    ghost view = { λ f. field_of f.extent f.sources.now f.friction.now f.limit f.costs.now };
+    ghost view = { λ f. list_field (ground_of f.extent f.sources.now f.friction.now f.limit) f.costs.now };
 
-    ghost invariant = { λ f. IsField (field_of f.extent f.sources.now f.friction.now f.limit f.costs.now) };
+    ghost invariant = { λ f. (length f.costs.now ≡ cells_in f.extent) × IsField (list_field (ground_of f.extent f.sources.now f.friction.now f.limit) f.costs.now) };
 }
 
 impl<'a> CostField<'a> {
@@ -52,13 +57,14 @@ impl<'a> CostField<'a> {
         sources: &'a [Cell],
         friction: &'a [Cell],
         limit: u64,
-        costs: &'a [Cell],
+        costs: &'a [u64],
     ) -> CostField<'a>
         requires sources { length sources.now ≡ cells_in extent }
         requires friction { length friction.now ≡ cells_in extent }
         requires limit { limit ≤ greatest_value }
-        requires costs { IsSpread extent sources.now friction.now limit costs.now }
-        ensures { result ≡ field_of extent sources.now friction.now limit costs.now }
+        requires count { length costs.now ≡ cells_in extent }
+        requires costs { IsSpread extent sources.now friction.now limit (shown_cells extent limit costs.now) }
+        ensures { result ≡ list_field (ground_of extent sources.now friction.now limit) costs.now }
     {
         let _rows = extent.rows();
         CostField {
@@ -128,7 +134,7 @@ impl<'a> CostField<'a> {
         ensures value { result ≡ cost_at self.now at }
         ensures low { result ≤ 2 ^ 50 }
     {
-        cost_of(self.costs[at as usize], self.limit + 1)
+        self.costs[at as usize].min(self.limit + 1)
     }
 }
 

@@ -1,6 +1,5 @@
 //! The costs and values of a map that had none.
-ghost use Rattle.std.specs.Prelude.{◌≡◌, ◌≤◌, ◌≤ℤ◌, ◌*◌, pos, nat_abs, [], None, length, IfOk};
-ghost use Rattle.map_nums.specs.Grids.{cells_in};
+ghost use Rattle.std.specs.Prelude.{◌≡◌, ◌≤◌, ◌≤ℤ◌, ◌*◌, pos, nat_abs, [], IfOk};
 ghost use Rattle.map_nums.specs.Numbers.{greatest_value};
 ghost use Rattle.map_defs.specs.Spread.{IsSpread};
 ghost use Rattle.map_defs.specs.Nearest.{AreNearest};
@@ -8,63 +7,15 @@ ghost use Rattle.map_defs.specs.Work.{first_work};
 ghost use Rattle.layer_tiles.specs.Patches.{patched, HoldsAll};
 ghost use Rattle.layer_tiles.specs.Tallies.{RisesBy};
 ghost use Rattle.layer_tiles.specs.Tiles.{tiles_in};
-ghost use Rattle.friction_spread.specs.Bands.{ground_of};
-ghost use Rattle.friction_spread.specs.Lists.{IsCostList};
 
-use crate::fields::{CostField, limit_of};
-use crate::floods::values_of;
-use crate::patches::patch_of;
+use crate::bands::nearest_of_band;
+use crate::joins::nearest_of_bands;
 use crate::repair::NearestRepair;
-use crate::shows::ValueList;
 use flat_cells::cells_of;
-use friction_spread::{CostList, costs_of_band, spread_of_bands};
-use layer_tiles::{Cell, Change, Extent, NoMemory, Patch, Tally, Value};
+use layer_tiles::{Change, NoMemory, Tally, Value};
 use std::alloc::Global;
 
-/// The least costs of a map, as of one band.
-fn costs_of_map(
-    alloc: Global,
-    extent: Extent,
-    sources: &[Cell],
-    friction: &[Cell],
-    limit: Value,
-) -> Result<CostList, NoMemory>
-    requires sources { length sources.now ≡ cells_in extent }
-    requires friction { length friction.now ≡ cells_in extent }
-    requires limit { (pos 0 ≤ℤ limit) × (limit ≤ℤ pos greatest_value) }
-    ensures { IfOk result (IsCostList (ground_of extent sources.now friction.now (nat_abs limit))) }
-{
-    let rows = extent.rows();
-    let band = costs_of_band(alloc, extent, sources, friction, limit, 0, rows)?;
-    spread_of_bands(alloc, extent, sources, friction, limit, &[band])
-}
-
-/// The tiles of the values that least costs bring.
-fn value_patch(
-    alloc: Global,
-    extent: Extent,
-    sources: &[Cell],
-    friction: &[Cell],
-    limit: Value,
-    costs: &[Cell],
-) -> Result<Patch, NoMemory>
-    requires sources { length sources.now ≡ cells_in extent }
-    requires friction { length friction.now ≡ cells_in extent }
-    requires limit { (pos 0 ≤ℤ limit) × (limit ≤ℤ pos greatest_value) }
-    requires costs { IsSpread extent sources.now friction.now (nat_abs limit) costs.now }
-    ensures size { IfOk result (λ patch. patch.size ≡ extent) }
-    ensures value { IfOk result (λ patch. AreNearest extent sources.now friction.now (nat_abs limit) (patched extent [] patch.tiles)) }
-    ensures all { IfOk result HoldsAll }
-    ensures work { IfOk result (λ patch. first_work extent (patched extent [] patch.tiles) ≡ first_work extent costs.now) }
-{
-    let field = CostField::new(extent, sources, friction, limit_of(limit), costs);
-    let _extent = field.extent();
-    let values = values_of(alloc, &field)?;
-    let patch = patch_of(alloc, &ValueList { values }, extent)?;
-    Ok(patch)
-}
-
-/// The costs and values of a map that had none. A look at each tile of both operands and of the costs.
+/// The costs and values of a map that had none. A look at each tile of both operands.
 pub fn first_nearest<M: Tally>(
     alloc: Global,
     sources: &Change<'_>,
@@ -79,19 +30,20 @@ pub fn first_nearest<M: Tally>(
     ensures value { IfOk result (λ r. AreNearest sources.now.size sources.now.cells friction.now.cells (nat_abs limit) (patched sources.now.size [] r.value.tiles)) }
     ensures all { IfOk result (λ r. HoldsAll r.cost × HoldsAll r.value) }
     ensures worked { IfOk result (λ r. r.worked ≡ first_work sources.now.size (patched sources.now.size [] r.value.tiles)) }
-    ensures looks { RisesBy (3 * tiles_in sources.now.size) 0 (M.counts tally.old) (M.counts tally.new) }
+    ensures looks { RisesBy (2 * tiles_in sources.now.size) 0 (M.counts tally.old) (M.counts tally.new) }
 {
     let extent = sources.extent();
     let _friction = friction.extent();
     let begins = cells_of(alloc, sources, tally)?;
     let frictions = cells_of(alloc, friction, tally)?;
-    let list = costs_of_map(alloc, extent, &begins, &frictions, limit)?;
-    let cost = patch_of(alloc, &list, extent)?;
-    let costs = cells_of(alloc, &Change::fresh(&cost), tally)?;
-    let value = value_patch(alloc, extent, &begins, &frictions, limit, &costs)?;
+    let rows = extent.rows();
+    let band = nearest_of_band(alloc, extent, &begins, &frictions, limit, 0, rows)?;
+    let mut bands = Vec::new(alloc);
+    bands.push(band)?;
+    let list = nearest_of_bands(alloc, extent, &begins, &frictions, limit, bands)?;
     Ok(NearestRepair {
-        cost,
-        value,
-        worked: list.worked,
+        cost: list.costs(alloc, extent)?,
+        value: list.values(alloc, extent)?,
+        worked: list.worked(),
     })
 }

@@ -1,5 +1,5 @@
 //! Numbers that are passed on along the steps that least costs use.
-ghost use Rattle.std.specs.Prelude.{◌≡◌, ◌<◌, ◌≤◌, ◌∷◌, ℕ, [], length, replicate, is_some, None, slice_index_or, IfOk, OnOk};
+ghost use Rattle.std.specs.Prelude.{◌≡◌, ◌<◌, ◌≤◌, ◌∷◌, ℕ, [], length, replicate, is_some, None, IfOk, OnOk};
 ghost use Rattle.map_nums.specs.Grids.{cells_in, cell_at, gap};
 ghost use Rattle.map_defs.specs.Nearest.{IsNoGreater};
 ghost use Rattle.friction_neighbor.specs.Fields.{AreLeastValues};

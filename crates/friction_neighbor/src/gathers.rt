@@ -1,6 +1,6 @@
 //! The least value that steps of least costs bring to a place.
 ghost use Rattle.std.specs.Prelude.{◌≡◌, ◌<◌, ◌≤◌, ◌*◌};
-ghost use Rattle.map_nums.specs.Grids.{cells_in, gap};
+ghost use Rattle.map_nums.specs.Grids.{gap};
 ghost use Rattle.layer_tiles.specs.Tallies.{RisesBy};
 ghost use Rattle.friction_neighbor.specs.Spots.{IsSpot, AreNear, IsFront};
 ghost use Rattle.friction_neighbor.specs.Gathers.{IsLeastHere, IsLesser, IsGathered, IsBrought, RowBrought};
@@ -11,7 +11,7 @@ use layer_tiles::{Cell, Tally};
 use tile_work::Working;
 
 /// The lesser of two cells; null is above all numbers.
-fn lesser(one: Cell, other: Cell) -> Cell
+pub fn lesser(one: Cell, other: Cell) -> Cell
     ensures { IsLesser one other result }
 {
     let Some(number) = other.get() else {

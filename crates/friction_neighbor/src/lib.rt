@@ -8,10 +8,16 @@
 //! least values in the order of the costs, from those of lesser cost that are right by then.
 #![tactic(auto)]
 
+mod bands;
 mod fields;
 mod first;
 mod floods;
 mod gathers;
+mod joins;
+mod list_gathers;
+mod list_puts;
+mod list_settle;
+mod lists;
 mod patches;
 mod puts;
 mod repair;
@@ -21,4 +27,7 @@ mod shows;
 mod values;
 mod views;
 
+pub use bands::{NearestBand, nearest_of_band};
+pub use joins::nearest_of_bands;
+pub use lists::NearestList;
 pub use repair::{Nearest, NearestRepair, neighbor_repair};

@@ -1,7 +1,7 @@
 //! Places come into the queue under their costs, each once.
-ghost use Rattle.std.specs.Prelude.{◌≡◌, ◌<◌, ◌≤◌, ◌+◌, ◌*◌, ℕ, length, slice_index_or, true, OnOk};
+ghost use Rattle.std.specs.Prelude.{◌≡◌, ◌<◌, ◌≤◌, ◌+◌, ◌*◌, ℕ, length, slice_index_or, OnOk};
 ghost use Rattle.std.specs.List.{All};
-ghost use Rattle.map_nums.specs.Grids.{cells_in, gap};
+ghost use Rattle.map_nums.specs.Grids.{cells_in};
 ghost use Rattle.layer_tiles.specs.Tallies.{RisesBy};
 ghost use Rattle.friction_neighbor.specs.Spots.{IsSpot};
 ghost use Rattle.friction_neighbor.specs.Puts.{ArePut, IsMarkedFrom, RowMarked, RoundMarked};

@@ -1,8 +1,7 @@
 //! The sources that cost nothing, in ascending order of their numbers.
-ghost use Rattle.std.specs.Prelude.{◌≡◌, ◌<◌, ◌+◌, IfOk, OnOk, length};
+ghost use Rattle.std.specs.Prelude.{◌≡◌, ◌<◌, ◌+◌, IfOk, OnOk};
 ghost use Rattle.std.specs.Ordering.{int_cmp};
 ghost use Rattle.map_nums.specs.Grids.{cells_in};
-ghost use Rattle.friction_neighbor.specs.Fields.{FieldState};
 ghost use Rattle.friction_neighbor.specs.Seeds.{AreSeedsTo, AreSeeds};
 
 use crate::fields::CostField;

@@ -1,7 +1,7 @@
 //! The queue is emptied.
-ghost use Rattle.std.specs.Prelude.{◌≡◌, ◌<◌, ◌≤◌, ◌+◌, ◌-◌, ◌*◌, ℕ, length, OnOk, OnErr, IfOk};
+ghost use Rattle.std.specs.Prelude.{◌≡◌, ◌<◌, ◌≤◌, ◌+◌, ◌-◌, ◌*◌, length, OnOk, OnErr, IfOk};
 ghost use Rattle.std.specs.Int.{from_bool};
-ghost use Rattle.map_nums.specs.Grids.{Cells, cell_at, cells_in};
+ghost use Rattle.map_nums.specs.Grids.{Cells, cells_in};
 ghost use Rattle.layer_tiles.specs.Tallies.{RisesBy};
 ghost use Rattle.tile_work.specs.Working.{IsSameWork, base_of, copies};
 ghost use Rattle.friction_spread.specs.Copied.{IsCopiedWhere};

@@ -6,6 +6,7 @@ ghost use Rattle.layer_tiles.specs.Answers.{IsTileAnswer};
 ghost use Rattle.layer_tiles.specs.Tiles.{tiles_in};
 ghost use Rattle.friction_neighbor.specs.Shown.{shown_cells};
 
+use crate::lists::NearestList;
 use crate::patches::TileSource;
 use friction_spread::CostList;
 use layer_tiles::{Cell, Extent, KernelRefusal, Tile, Value};
@@ -28,28 +29,22 @@ impl TileSource for CostList {
     }
 }
 
-/// The values of all places, in a list.
-#[derive(Drop)]
-pub struct ValueList {
-    pub values: Vec<Cell>,
-}
-
-impl TileSource for ValueList {
+impl TileSource for NearestList {
     ghost use Rattle.std.specs.Prelude.{◌≡◌, length};
     ghost use Rattle.map_nums.specs.Grids.{cells_in};
-    ghost use Rattle.friction_neighbor.specs.Shown.{shown_cells};
+    ghost use Rattle.friction_neighbor.specs.Bands.{list_cells};
 
-    ghost cells = { λ list s. shown_cells s list.values.items };
+    ghost cells = { λ list s. list_cells s list };
 
     ghost makes = { λ list s. length list.values.items ≡ cells_in s };
 
     fn tile(&self, alloc: Global, extent: Extent, tile: u32) -> Result<Tile, KernelRefusal> {
-        value_tile(alloc, extent, tile, &self.values)
+        NearestList::tile(self, alloc, extent, tile)
     }
 }
 
 /// One tile of values.
-fn value_tile(
+pub fn value_tile(
     alloc: Global,
     extent: Extent,
     tile: u32,

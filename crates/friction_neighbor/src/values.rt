@@ -1,15 +1,14 @@
 //! The numbers of nearest sources put right after a change, where the least costs are right already.
-ghost use Rattle.std.specs.Prelude.{◌≡◌, ◌<◌, ◌≤◌, ◌+◌, ◌*◌, ℕ, min, length, filter, Some, IfOk};
+ghost use Rattle.std.specs.Prelude.{◌≡◌, ◌<◌, ◌≤◌, ◌+◌, ◌*◌, length, Some, IfOk};
 ghost use Rattle.std.specs.List.{All};
-ghost use Rattle.map_nums.specs.Grids.{Cells, cells_in};
+ghost use Rattle.map_nums.specs.Grids.{cells_in};
 ghost use Rattle.map_nums.specs.Numbers.{greatest_value};
 ghost use Rattle.map_nums.specs.Tiles.{tiles};
-ghost use Rattle.map_defs.specs.Differences.{differs, tile_has};
+ghost use Rattle.map_defs.specs.Differences.{differs};
 ghost use Rattle.map_defs.specs.Nearest.{AreNearest};
 ghost use Rattle.map_defs.specs.Spread.{IsSpread};
 ghost use Rattle.layer_tiles.specs.Changes.{patched_change};
 ghost use Rattle.layer_tiles.specs.Patches.{patched};
-ghost use Rattle.layer_tiles.specs.Tallies.{RisesBy};
 ghost use Rattle.changed_cells.specs.Unions.{AreAllPlaces};
 ghost use Rattle.friction_spread.specs.Repairs.{HoldsExactly};
 ghost use Rattle.friction_neighbor.specs.Repairs.{alone, AreLeastFar, ValuesReadWithin};

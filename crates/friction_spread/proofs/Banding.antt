@@ -27,7 +27,7 @@ use Rattle.friction_spread.proofs.Flats.{cost_past, none_tried}
 split : (w first k : ℕ) → first * w + k ≡ (first + k / w) * w + k % w
 split w first k = omega (arith, div-add-mod' k w)
 
-row_below : (w first k : ℕ) → 0 < w → (first * w + k) / w ≡ first + k / w
+pub row_below : (w first k : ℕ) → 0 < w → (first * w + k) / w ≡ first + k / w
 row_below w first k p = ap (λ n. n / w) (split w first k) ∙ div-mul-add (first + k / w) w (k % w) (mod_below k w p)
 
 column_below : (w first k : ℕ) → 0 < w → (first * w + k) % w ≡ k % w
@@ -42,7 +42,7 @@ pair_or a b c d = elim (cases_lt a b) as (λ _. ((a < b) × (c ≡ d)) ⊎ ((a <
   | inr l ↦ inr (λ h. absurd (omega (arith, h.0, l)))
 ]
 
-seam_or : (s : Size) (first end c : ℕ) → IsAtSeam s first end c ⊎ (IsAtSeam s first end c → ⊥)
+pub seam_or : (s : Size) (first end c : ℕ) → IsAtSeam s first end c ⊎ (IsAtSeam s first end c → ⊥)
 seam_or s first end c = elim (pair_or 0 first (row_of s c) first) as (λ _. IsAtSeam s first end c ⊎ (IsAtSeam s first end c → ⊥)) [
   | inl p ↦ inl (inl p)
   | inr p ↦ elim (pair_or end s.rows (row_of s c + 1) end) as (λ _. IsAtSeam s first end c ⊎ (IsAtSeam s first end c → ⊥)) [
@@ -53,7 +53,7 @@ seam_or s first end c = elim (pair_or 0 first (row_of s c) first) as (λ _. IsAt
 
 -- ---- a band in its map
 
-cell_kept : (s : Size) (first end : ℕ) (cells : Cells) (k : ℕ) → k < (end - first) * s.columns → cell_at (rows_of s first end cells) k ≡ cell_at cells (first * s.columns + k)
+pub cell_kept : (s : Size) (first end : ℕ) (cells : Cells) (k : ℕ) → k < (end - first) * s.columns → cell_at (rows_of s first end cells) k ≡ cell_at cells (first * s.columns + k)
 cell_kept s first end cells k l = get_or-take ((end - first) * s.columns) (drop (first * s.columns) cells) k None l ∙ get_or-drop (first * s.columns) cells k None
 
 module _ (g : GroundState) (first end : ℕ) (some_column : 0 < g.size.columns) (some : first < end) (within : end ≤ g.size.rows) where
@@ -70,22 +70,22 @@ module _ (g : GroundState) (first end : ℕ) (some_column : 0 < g.size.columns) 
   pub ends : above + size ≡ end * g.size.columns
   ends = let q : first + (end - first) ≡ end = omega arith in omega (arith, ap (λ n. n * g.size.columns) q)
 
-  inside : (k : ℕ) → k < size → above + k < cells_in g.size
+  pub inside : (k : ℕ) → k < size → above + k < cells_in g.size
   inside k l = omega (arith, l, ends, mul-le end g.size.columns g.size.rows g.size.columns within (omega arith))
 
-  friction_kept : (k : ℕ) → k < size → friction_at h.friction k ≡ friction_at g.friction (above + k)
+  pub friction_kept : (k : ℕ) → k < size → friction_at h.friction k ≡ friction_at g.friction (above + k)
   friction_kept k l = ap friction_of (cell_kept g.size first end g.friction k l)
 
-  open_kept : (k : ℕ) → k < size → is_open h.size h.friction k ≡ is_open g.size g.friction (above + k)
+  pub open_kept : (k : ℕ) → k < size → is_open h.size h.friction k ≡ is_open g.size g.friction (above + k)
   open_kept k l = ap (λ b. b && nat_lt 0 (friction_at h.friction k)) (lt-ltb k size l ∙ sym (lt-ltb (above + k) (cells_in g.size) (inside k l))) ∙ ap (λ n. nat_lt (above + k) (cells_in g.size) && nat_lt 0 n) (friction_kept k l)
 
-  base_kept : (k : ℕ) → k < size → base_of h k ≡ base_of g (above + k)
+  pub base_kept : (k : ℕ) → k < size → base_of h k ≡ base_of g (above + k)
   unfolding base_of
   base_kept k l =
       ap (λ (b : Bool). let v : ℕ = cond (b && is_some (cell_at h.sources k)) 0 (suc g.limit) in v) (open_kept k l)
       ∙ ap (λ (c : Option ℤ). let v : ℕ = cond (is_open g.size g.friction (above + k) && is_some c) 0 (suc g.limit) in v) (cell_kept g.size first end g.sources k l)
 
-  joined_up : (j i : ℕ) → IsJoined h j i → IsJoined g (above + j) (above + i)
+  pub joined_up : (j i : ℕ) → IsJoined h j i → IsJoined g (above + j) (above + i)
   joined_up j i q = record {
     from = inside j q.from;
     to = inside i q.to;
@@ -96,7 +96,7 @@ module _ (g : GroundState) (first end : ℕ) (some_column : 0 < g.size.columns) 
     columns = omega (arith, q.columns, column_below g.size.columns first j some_column, column_below g.size.columns first i some_column);
   }
 
-  joined_down : (j i : ℕ) → j < size → i < size → IsJoined g (above + j) (above + i) → IsJoined h j i
+  pub joined_down : (j i : ℕ) → j < size → i < size → IsJoined g (above + j) (above + i) → IsJoined h j i
   joined_down j i l m q = record {
     from = l;
     to = m;
@@ -111,7 +111,7 @@ module _ (g : GroundState) (first end : ℕ) (some_column : 0 < g.size.columns) 
   unfolding step_cost
   cost_kept j i l m = rw (row_below g.size.columns first j some_column, row_below g.size.columns first i some_column, column_below g.size.columns first j some_column, column_below g.size.columns first i some_column, ← friction_kept j l, ← friction_kept i m, ← same_moved first (j / g.size.columns) (i / g.size.columns)) refl
 
-  step_kept : (j i : ℕ) → IsJoined h j i → step_of g (above + j) (above + i) ≡ step_of h j i
+  pub step_kept : (j i : ℕ) → IsJoined h j i → step_of g (above + j) (above + i) ≡ step_of h j i
   step_kept j i q = step_joined g (above + j) (above + i) (joined_up j i q) ∙ sym (cost_kept j i q.from q.to) ∙ sym (step_joined h j i q)
 
   path_kept : (i : ℕ) (js : List ℕ) → cost_in (net_of h) i js < suc g.limit → (ks : List ℕ) × (cost_in (net_of g) (above + i) ks ≡ cost_in (net_of h) i js)
@@ -120,7 +120,7 @@ module _ (g : GroundState) (first end : ℕ) (some_column : 0 < g.size.columns) 
 
   -- ---- a step from a row with no other band beside it leads into the band
 
-  leads_inside : (k i : ℕ) → k < size → (IsAtSeam g.size first end (above + k) → ⊥) → IsJoined g (above + k) i → (above ≤ i) × (i < above + size)
+  pub leads_inside : (k i : ℕ) → k < size → (IsAtSeam g.size first end (above + k) → ⊥) → IsJoined g (above + k) i → (above ≤ i) × (i < above + size)
   leads_inside k i l apart q =
       let w = g.size.columns in
       let e = row_below w first k some_column in

@@ -104,6 +104,7 @@ module _ (g : GroundState) (costs : List ℕ) (count : length costs ≡ cells_in
       let P : Cells → Type 0 = IsSpread g.size g.sources g.friction g.limit in
       record {
         limit = omega (arith, limit, low);
+        same_limit = limit;
         count = ap length same ∙ count;
         spread = subst P (sym e) shown_spread;
         worked = work ∙ ap (first_work g.size) (sym e);

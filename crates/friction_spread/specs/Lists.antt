@@ -15,6 +15,7 @@ list_cells s list = shown_cells s list.limit list.costs.items
 -- all costs of a ground, and the work that they are where there were none
 pub record IsCostList (g : GroundState) (list : CostList) : Type 0 where
   pub limit : list.limit ≤ greatest_value
+  pub same_limit : list.limit ≡ g.limit
   pub count : length list.costs.items ≡ cells_in g.size
   pub spread : IsSpread g.size g.sources g.friction g.limit (list_cells g.size list)
   pub worked : list.worked ≡ first_work g.size (list_cells g.size list)

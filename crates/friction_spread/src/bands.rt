@@ -35,6 +35,29 @@ pub struct CostBand {
     costs: Vec<u64>,
 }
 
+impl CostBand {
+    /// How many rows above were taken in.
+    pub fn above(&self) -> u32
+        ensures { result ≡ self.now.above }
+    {
+        self.above
+    }
+
+    /// How many rows it has, without those that were taken in.
+    pub fn rows(&self) -> u32
+        ensures { result ≡ self.now.rows }
+    {
+        self.rows
+    }
+
+    /// The costs of all rows, those taken in too; above the limit where there is none.
+    pub fn costs(&self) -> &[u64]
+        ensures { result.now ≡ self.now.costs.items }
+    {
+        &self.costs
+    }
+}
+
 /// The least costs within the rows `first` to before `end` of a map, whose sources and frictions are given whole; rows beside them may
 /// be taken in. The limit is the greatest cost that counts, and no more than a cell holds.
 ///

@@ -19,6 +19,13 @@ pub struct CostList {
 }
 
 impl CostList {
+    /// The costs of all places; above the limit where there is none.
+    pub fn costs(&self) -> &[u64]
+        ensures { result.now ≡ self.now.costs.items }
+    {
+        &self.costs
+    }
+
     /// A tile of the costs.
     ///
     /// # Errors

@@ -9,8 +9,9 @@ use Rattle.map_nums.specs.Numbers.{is_value}
 use Rattle.map_nums.specs.Answers.{is_wide}
 use Rattle.map_defs.specs.Ops.{Op}
 use Rattle.map_defs.specs.Sight.{most_viewers}
+use Rattle.map_defs.specs.Viewers.{viewers_in}
 use Rattle.layer_tiles.specs.Cells.{IsCell, AreCells}
-use Rattle.map_waves.specs.Statements.{made, too_many, wide_at, viewers_in, fault_in}
+use Rattle.map_waves.specs.Statements.{made, too_many, wide_at, fault_in}
 
 narrow : (c : Option ℤ) → is_wide c ≡ false → IsCell c
 narrow None e = tt

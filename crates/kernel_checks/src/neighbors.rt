@@ -1,14 +1,19 @@
 //! Numbers of nearest sources, first and repaired.
-ghost use Rattle.std.specs.Prelude.{◌≡◌, ◌≤ℤ◌, pos, nat_abs, IfOk};
+ghost use Rattle.std.specs.Prelude.{◌≡◌, ◌<◌, ◌≤ℤ◌, pos, nat_abs, length, IfOk};
+ghost use Rattle.map_nums.specs.Grids.{cells_in};
 ghost use Rattle.map_nums.specs.Numbers.{greatest_value};
 ghost use Rattle.map_defs.specs.Nearest.{AreNearest};
 ghost use Rattle.map_defs.specs.Spread.{IsSpread};
 ghost use Rattle.layer_tiles.specs.Changes.{cells_before};
+ghost use Rattle.friction_spread.specs.Bands.{ground_of};
 ghost use Rattle.friction_spread.specs.Repairs.{IsRightBefore};
+ghost use Rattle.friction_neighbor.specs.Bands.{IsNearestList};
 
-use crate::makers::{NULL, hold, layer_of, patch_with, values_of};
-use friction_neighbor::{Nearest, NearestRepair, neighbor_repair};
-use layer_tiles::{Change, Extent, Layer, NoMemory, Value};
+use crate::makers::{NULL, cell, hold, layer_of, patch_with, tile_values, values_of};
+use friction_neighbor::{
+    Nearest, NearestList, NearestRepair, nearest_of_band, nearest_of_bands, neighbor_repair,
+};
+use layer_tiles::{Cell, Change, Extent, Layer, NoMemory, Value};
 use map_outside::Counts;
 use std::alloc::Global;
 use std::test::Fail;
@@ -245,6 +250,90 @@ fn five_hundred_repairs_are_as_made_anew(rt: HostRuntime) -> Result<(), Fail> {
             )?
         };
         assert!(rt; same);
+    }
+    Ok(())
+}
+
+/// The cells of a map.
+fn cells_of(values: &Small) -> [Cell; 24] {
+    let mut cells = [Cell::null(); 24];
+    for at in 0..24 {
+        cells[at] = cell(values[at]);
+    }
+    cells
+}
+
+/// The numbers of a map, of two bands that meet at row `cut`.
+fn joined(
+    alloc: Global,
+    extent: Extent,
+    sources: &[Cell],
+    friction: &[Cell],
+    limit: Value,
+    cut: u32,
+) -> Result<NearestList, NoMemory>
+    requires sources { length sources.now ≡ cells_in extent }
+    requires friction { length friction.now ≡ cells_in extent }
+    requires limit { (pos 0 ≤ℤ limit) × (limit ≤ℤ pos greatest_value) }
+    requires cut { (0 < cut) × (cut < extent.rows) }
+    ensures { IfOk result (IsNearestList (ground_of extent sources.now friction.now (nat_abs limit))) }
+{
+    let rows = extent.rows();
+    let above = nearest_of_band(alloc, extent, sources, friction, limit, 0, cut)?;
+    let below = nearest_of_band(alloc, extent, sources, friction, limit, cut, rows)?;
+    let mut bands = Vec::new(alloc);
+    bands.push(above)?;
+    bands.push(below)?;
+    nearest_of_bands(alloc, extent, sources, friction, limit, bands)
+}
+
+/// Whether the costs, numbers and work of two bands that meet at row `cut` are those of the map.
+fn meet(
+    alloc: Global,
+    sources: &Small,
+    friction: &Small,
+    limit: Value,
+    cut: u32,
+) -> Result<bool, Fail>
+    requires limit { (pos 0 ≤ℤ limit) × (limit ≤ℤ pos greatest_value) }
+    requires cut { (0 < cut) × (cut < 4) }
+{
+    let extent = Extent::new(4, 6).ok_or("limits")?;
+    if extent.rows() != 4 || extent.cells() != 24 || extent.tiles() == 0 {
+        return Err(Fail::from("limits"));
+    }
+    let (begun, ground) = (cells_of(sources), cells_of(friction));
+    let list = joined(alloc, extent, &begun, &ground, limit, cut)?;
+    let costs = Layer::fresh(list.costs(alloc, extent)?, 1);
+    let numbers = list.tile(alloc, extent, 0)?;
+    let starts = layer_of(alloc, extent, sources)?;
+    let frictions = layer_of(alloc, extent, friction)?;
+    let (dear, anew, worked) = first(alloc, &starts, &frictions, limit)?;
+    let same_costs = values_of(alloc, &costs)? == values_of(alloc, &dear)?;
+    let same = tile_values(alloc, &numbers)? == values_of(alloc, &anew)?;
+    Ok(same_costs && same && list.worked() == worked)
+}
+
+#[test]
+fn bands_are_joined(rt: HostRuntime) -> Result<(), Fail> {
+    let mut seed = 7;
+    for round in 0..90 {
+        let mut sources = [NULL; 24];
+        let mut frictions = [1; 24];
+        for at in 0..24 {
+            seed = scattered(seed);
+            sources[at] = source(seed >> 20);
+            frictions[at] = friction(seed >> 10);
+        }
+        assert!(rt;
+            meet(
+                rt.alloc(),
+                &sources,
+                &frictions,
+                limit_of(seed >> 8),
+                1 + round % 3
+            )?
+        );
     }
     Ok(())
 }

@@ -183,6 +183,26 @@ pub(crate) fn answers<R: AllocGlobal + Abort + Threads + Sync>(
     Ok(())
 }
 
+/// A session by its first grid, which is accepted, and what is said to that.
+fn ready<R: AllocGlobal + Threads + Sync>(
+    rt: &R,
+    name: &str,
+    grid: &str,
+) -> Result<(Session, Reply), Fail> {
+    match begun(rt, name, grid)? {
+        Begun::Ready(session, reply) => Ok((session, reply)),
+        Begun::Refused(_) => Err(Fail::from("refused")),
+    }
+}
+
+/// The first accepted grid of one tile is told so.
+fn is_first<R: AllocGlobal + Abort>(rt: &R, reply: &Reply) {
+    assert_eq!(rt;
+        reply.bytes.as_slice(),
+        b"ok 1 changed 1 evaluated 1 worked 0\n".as_slice()
+    );
+}
+
 /// A session by its first grid, which is accepted, replies so to these steps.
 pub(crate) fn plays<R: AllocGlobal + Abort + Threads + Sync>(
     rt: &R,
@@ -190,14 +210,7 @@ pub(crate) fn plays<R: AllocGlobal + Abort + Threads + Sync>(
     grid: &str,
     steps: &[Step<'_>],
 ) -> Result<(), Fail> {
-    match begun(rt, name, grid)? {
-        Begun::Ready(mut session, reply) => {
-            assert_eq!(rt;
-                reply.bytes.as_slice(),
-                b"ok 1 changed 1 evaluated 1 worked 0\n".as_slice()
-            );
-            answers(rt, &mut session, steps)
-        }
-        Begun::Refused(_) => Err(Fail::from("refused")),
-    }
+    let (mut session, reply) = ready(rt, name, grid)?;
+    is_first(rt, &reply);
+    answers(rt, &mut session, steps)
 }

@@ -1,9 +1,17 @@
 //! First grids that are refused.
 use crate::plays::begun;
-use map_session::Begun;
+use map_session::{Begun, Reply};
 use std::process::Abort;
 use std::test::Fail;
 use std::thread::Threads;
+
+/// What is said to a first grid A that is refused.
+fn refusal_of<R: AllocGlobal + Threads + Sync>(rt: &R, grid: &str) -> Result<Reply, Fail> {
+    match begun(rt, "A", grid)? {
+        Begun::Refused(reply) => Ok(reply),
+        Begun::Ready(..) => Err(Fail::from("accepted")),
+    }
+}
 
 /// These first grids A are refused with these texts.
 fn turns_away<R: AllocGlobal + Abort + Threads + Sync>(
@@ -11,9 +19,7 @@ fn turns_away<R: AllocGlobal + Abort + Threads + Sync>(
     grids: &[(&str, &str)],
 ) -> Result<(), Fail> {
     for (grid, want) in grids {
-        let Begun::Refused(reply) = begun(rt, "A", grid)? else {
-            return Err(Fail::from("accepted"));
-        };
+        let reply = refusal_of(rt, grid)?;
         assert_eq!(rt; reply.bytes.as_slice(), want.as_bytes(), "{grid}");
     }
     Ok(())

@@ -1,19 +1,19 @@
 -- A drop brings no fault: what read the dropped name has no grid any more, and the others keep theirs.
-use Rattle.std.proofs.Common.{◌≡◌, ℕ, zero, suc, Bool, true, false, ◌&&◌, nat_lt, List, [], ◌∷◌, map, flat_map, length, Option, Some, None, is_some, option_map, bytes_eq, if◌then◌else◌, refl, sym, ap, ◌∙◌, ◌⊎◌, inl, inr}
+use Rattle.std.proofs.Common.{◌≡◌, ℕ, zero, suc, Bool, true, false, ◌&&◌, nat_lt, List, [], ◌∷◌, map, flat_map, length, Option, Some, None, is_some, option_map, unwrap_or, bytes_eq, if◌then◌else◌, refl, sym, ap, ◌∙◌, ◌⊎◌, inl, inr}
 use Rattle.std.proofs.lemmas.Bool.{true≢false, false≢true, or_cases, or_left, or_right}
 use Rattle.std.proofs.lemmas.List.Folds.{list_any-append}
 use Rattle.std.proofs.lemmas.Option.{none-some}
 use Rattle.map_nums.specs.Grids.{Size, Cells, Grid}
 use Rattle.map_defs.specs.Sight.{most_viewers}
 use Rattle.map_defs.specs.Ops.{Name, Term, layer_term, number_term, Op, term_names}
-use Rattle.map_defs.specs.Facts.{class_of}
 use Rattle.map_defs.specs.Operate.{operate}
+use Rattle.map_defs.specs.Viewers.{viewers_in}
 use Rattle.map_defs.specs.Nodes.{Node, find_node, needs_in}
 use Rattle.map_defs.specs.Depths.{by_depth}
 use Rattle.map_edits.specs.LayerDefs.{Making, given_grid, by_op, layers, find_making, nodes_of}
 use Rattle.map_edits.specs.EngineStates.{EngineState, all_some, term_cells, made, value_of}
 use Rattle.map_nums.specs.Options.{first_some}
-use Rattle.map_edits.specs.Faults.{Fault, too_many_viewers, viewers_among, viewers_of, wide_place, overflow_at, fault_of_layer, fault_of}
+use Rattle.map_edits.specs.Faults.{Fault, too_many_viewers, viewers_of, wide_place, overflow_at, fault_of_layer, fault_of}
 use Rattle.map_edits.specs.Laws.{is_among, is_named_in, HasNoCycle}
 use Rattle.map_edits.proofs.Among.{same_name, bytes_eq-self, none_at}
 use Rattle.map_edits.proofs.Chains.{goes_on, chains_end}
@@ -122,7 +122,7 @@ module _ (s t : EngineState) (none_s : HasNoCycle (nodes_of s.entries)) (none_t 
   -- ---- faults
 
   viewers_same : (op : Op) → map (term_cells t.size (value_of t)) op.terms ≡ map (term_cells t.size (value_of s)) op.terms → viewers_of t (Some (by_op op)) ≡ viewers_of s (Some (by_op op))
-  viewers_same op e = ap (λ os. viewers_among (class_of op) (all_some os)) (e ∙ ap (λ q. map (term_cells q (value_of s)) op.terms) size)
+  viewers_same op e = ap (λ os. unwrap_or (option_map (viewers_in op) (all_some os)) 0) (e ∙ ap (λ q. map (term_cells q (value_of s)) op.terms) size)
 
   fault_same : (n : Name) → viewers_of t (find_making (layers t.entries) n) ≡ viewers_of s (find_making (layers s.entries) n) → value_of t n ≡ value_of s n → fault_of_layer t n ≡ fault_of_layer s n
   fault_same n viewers value =

@@ -1,12 +1,11 @@
 -- The first fault of a state: a defined statement with too many viewers, or with a value that no cell may hold.
-use Rattle.std.specs.Prelude.{ℕ, suc, ◌&&◌, nat_lt, List, map, position, Option, Some, None, is_some, if◌then◌else◌}
-use Rattle.map_nums.specs.Grids.{Size, Cells, Grid, row_of, column_of}
+use Rattle.std.specs.Prelude.{ℕ, suc, ◌&&◌, nat_lt, List, map, position, Option, Some, None, is_some, option_map, unwrap_or, if◌then◌else◌}
+use Rattle.map_nums.specs.Grids.{Size, Grid, row_of, column_of}
 use Rattle.map_nums.specs.Answers.{is_wide}
 use Rattle.map_nums.specs.Options.{first_some, all_some}
-use Rattle.map_defs.specs.Sight.{viewer_count, most_viewers}
+use Rattle.map_defs.specs.Sight.{most_viewers}
 use Rattle.map_defs.specs.Ops.{Name}
-use Rattle.map_defs.specs.Facts.{Class, sight_class, class_of}
-use Rattle.map_defs.specs.Operate.{operand}
+use Rattle.map_defs.specs.Viewers.{viewers_in}
 use Rattle.map_defs.specs.Nodes.{Node}
 use Rattle.map_defs.specs.Depths.{by_depth}
 use Rattle.map_edits.specs.LayerDefs.{Making, by_op, layers, find_making, nodes_of}
@@ -18,13 +17,9 @@ pub data Fault : Type 0 where
   -- a layer, and the row and the column of its first such cell, from 1
   overflow : Name → ℕ → ℕ → Fault
 
-abbrev pub viewers_among : Class → Option (List Cells) → ℕ
-viewers_among (sight_class reach) (Some operands) = viewer_count (operand operands 0)
-viewers_among class operands = 0
-
--- how many viewers a layer has; none but the sums of sight have some
+-- how many viewers a layer has over its operands; none where one of them is undefined
 abbrev pub viewers_of : EngineState → Option Making → ℕ
-viewers_of s (Some (by_op op)) = viewers_among (class_of op) (all_some (map (term_cells s.size (value_of s)) op.terms))
+viewers_of s (Some (by_op op)) = unwrap_or (option_map (viewers_in op) (all_some (map (term_cells s.size (value_of s)) op.terms))) 0
 viewers_of s making = 0
 
 abbrev pub wide_place : Option Grid → Option ℕ

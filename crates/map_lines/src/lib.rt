@@ -2,7 +2,7 @@
 //!
 //! [`parse_line`] gives the [`Line`] that a line of bytes is at a place of a session, or the first fault. All rows are there that
 //! `statement_parser` knows, `model` while it may set the language, and `ignoring nulls` in language 2; a further one is a row
-//! there and a line here.
+//! there.
 #![tactic(auto)]
 
 ghost use Rattle.std.specs.Prelude.{◌≡◌, IfOk};
@@ -15,51 +15,8 @@ ghost use Rattle.map_lines.specs.Present.{commands_at, may_ignore, rows_at};
 mod laws;
 
 pub use laws::printed_lines_read_again;
-use map_nums::Stat;
-use statement_parser::{Command, Form, Language, Line, LineRefusal, Operation, Place, Rows};
+use statement_parser::{Command, Language, Line, LineRefusal, Place, Rows, all_operations};
 use std::alloc::Global;
-
-/// The operations.
-const OPERATIONS: [Operation; 38] = [
-    Operation::Local(Stat::Sum),
-    Operation::Local(Stat::Product),
-    Operation::Local(Stat::Maximum),
-    Operation::Local(Stat::Minimum),
-    Operation::Local(Stat::Mean),
-    Operation::Local(Stat::Median),
-    Operation::Local(Stat::Majority),
-    Operation::Local(Stat::Minority),
-    Operation::Local(Stat::Variety),
-    Operation::Difference,
-    Operation::Ratio,
-    Operation::Rating,
-    Operation::Focal(Stat::Sum),
-    Operation::Focal(Stat::Maximum),
-    Operation::Focal(Stat::Minimum),
-    Operation::Focal(Stat::Mean),
-    Operation::Focal(Stat::Median),
-    Operation::Focal(Stat::Majority),
-    Operation::Focal(Stat::Minority),
-    Operation::Focal(Stat::Variety),
-    Operation::Proximity,
-    Operation::Neighbor,
-    Operation::Insularity,
-    Operation::Zonal(Stat::Sum),
-    Operation::Zonal(Stat::Maximum),
-    Operation::Zonal(Stat::Minimum),
-    Operation::Zonal(Stat::Mean),
-    Operation::Zonal(Stat::Median),
-    Operation::Zonal(Stat::Majority),
-    Operation::Zonal(Stat::Minority),
-    Operation::Zonal(Stat::Variety),
-    Operation::Incremental(Form::Linkage),
-    Operation::Incremental(Form::Length),
-    Operation::Incremental(Form::Partition),
-    Operation::Incremental(Form::Frontage),
-    Operation::Incremental(Form::Gradient),
-    Operation::Incremental(Form::Aspect),
-    Operation::Drainage,
-];
 
 /// The commands; all but the first are there at each place.
 const COMMANDS: [Command; 17] = [
@@ -110,7 +67,7 @@ pub fn parse_line(alloc: Global, line: &[u8], place: Place) -> Result<Line, Line
     ensures formed { IfOk result (λ x. IsFormed (line_view x)) }
 {
     let rows = Rows {
-        operations: &OPERATIONS,
+        operations: all_operations(),
         commands: commands_at(place),
         sight: true,
         calls: true,

@@ -4,9 +4,9 @@ use Rattle.std.specs.List.{position}
 use Rattle.map_nums.specs.Grids.{Size, Cells}
 use Rattle.map_nums.specs.Answers.{is_wide}
 use Rattle.map_defs.specs.Ops.{Op}
-use Rattle.map_defs.specs.Facts.{Class, sight_class, class_of}
-use Rattle.map_defs.specs.Operate.{operate, operand}
-use Rattle.map_defs.specs.Sight.{viewer_count, most_viewers}
+use Rattle.map_defs.specs.Operate.{operate}
+use Rattle.map_defs.specs.Sight.{most_viewers}
+use Rattle.map_defs.specs.Viewers.{viewers_in}
 use Rattle.map_defs.specs.Damage.{op_damage}
 use Rattle.map_defs.specs.Work.{op_work}
 use Rattle.layer_tiles.specs.Changes.{ChangeState, cells_before}
@@ -31,13 +31,6 @@ work_by s op was operands = op_work op s (cells_were operands) (cells_after oper
 pub data Fault : Type 0 where
   too_many : ℕ → Fault
   wide_at : ℕ → Fault
-
-abbrev pub viewers_by : Class → List Cells → ℕ
-viewers_by (sight_class reach) operands = viewer_count (operand operands 0)
-viewers_by class operands = 0
-
-abbrev pub viewers_in : Op → List Cells → ℕ
-viewers_in op = viewers_by (class_of op)
 
 -- viewers come before a value out of range
 unfoldable pub fault_in : Size → Op → List Cells → Option Fault

@@ -12,12 +12,13 @@ use Rattle.map_defs.specs.Facts.{Class, sight_class, class_of, is_repaired}
 use Rattle.map_defs.specs.Ops.{Op}
 use Rattle.map_defs.specs.Damage.{has_work}
 use Rattle.map_defs.specs.Sight.{most_viewers}
+use Rattle.map_defs.specs.Viewers.{viewers_by}
 use Rattle.layer_tiles.specs.Answers.{IsLeastWide}
 use Rattle.layer_tiles.specs.Operands.{cells_after}
 use Rattle.layer_tiles.specs.declared.kernels.KernelRefusal.{KernelRefusal}
 use Rattle.layer_tiles.specs.declared.kernels.KernelRefusal.TheVariants.{Overflow, NoMemory}
 use Rattle.statement_parser.specs.Views.{op_view}
-use Rattle.map_waves.specs.Statements.{work_by, fault_in, wide_at, viewers_by}
+use Rattle.map_waves.specs.Statements.{work_by, fault_in, wide_at}
 use Rattle.map_waves.specs.Answers.{AreJobs, AreAnswers, AllOk, IsLeastOverflow, total_of}
 use Rattle.map_waves.specs.Jobs.{was_in}
 use Rattle.op_jobs.specs.Owning.{IsOwn, AreTileJobs, count_of}

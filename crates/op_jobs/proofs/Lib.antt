@@ -28,7 +28,6 @@ pub mod Directions
 pub mod ZonalTold
 pub mod ZonalMarks
 pub mod ZonalOthers
-pub mod ZonalOperands
 pub mod ZonalBook
 pub mod ZonalRanges
 pub mod ZonalDamage
@@ -49,3 +48,4 @@ pub mod WholeOps
 pub mod Kept
 pub mod NearestJobs
 pub mod Once
+pub mod OneKind

@@ -40,7 +40,7 @@ use Rattle.op_jobs.specs.Sound.{StatementJobs, IsSound}
 use Rattle.op_jobs.specs.declared.beside.Beside.{Beside}
 use Rattle.op_jobs.specs.declared.beside.Beside.TheVariants as a_beside
 use Rattle.op_jobs.specs.declared.lists.LayerList.{LayerList}
-use Rattle.op_jobs.specs.declared.lists.LayerList.TheVariants.{Costs, Flow, Labels}
+use Rattle.op_jobs.specs.declared.lists.LayerList.TheVariants.{Costs, Nearest, Flow, Labels}
 use Rattle.op_jobs.specs.declared.own.Own.{Own}
 use Rattle.op_jobs.specs.declared.own.Own.TheVariants as an_own
 
@@ -136,6 +136,7 @@ all_back_once labels = Π_prop λ i. Π_prop λ h. back_once i (cell_at labels i
 
 list_once : (s : Size) (list : LayerList) → IsProp (IsList s list)
 list_once s (Costs list) = hlevel props
+list_once s (Nearest list) = hlevel props
 list_once s (Flow list) = let even : IsProp (AreEven list.bands.items) = even_once list.bands.items in hlevel (even, props)
 list_once s (Labels list) = let back : IsProp (AreBack list.labels.items) = all_back_once list.labels.items in hlevel (back, props)
 

@@ -10,8 +10,9 @@ use Rattle.map_nums.specs.Tiles.{tiles_in, tile_of}
 use Rattle.map_defs.specs.Ops.{Op}
 use Rattle.map_defs.specs.Sight.{most_viewers}
 use Rattle.map_defs.specs.Differences.{differs, tile_has}
+use Rattle.map_defs.specs.Viewers.{viewers_in}
 use Rattle.layer_tiles.proofs.Rounds.{back}
-use Rattle.map_waves.specs.Statements.{too_many, wide_at, fault_in, viewers_in, made}
+use Rattle.map_waves.specs.Statements.{too_many, wide_at, fault_in, made}
 use Rattle.op_jobs.specs.Changed.{is_changed}
 use Rattle.op_jobs.proofs.Quiet.{cell_quiet}
 

@@ -9,12 +9,13 @@ use Rattle.map_defs.specs.Facts.{Class, local_class, near_class, is_repaired}
 use Rattle.map_defs.specs.Ops.{Op}
 use Rattle.map_defs.specs.Damage.{reach_of}
 use Rattle.map_defs.specs.Sight.{most_viewers}
+use Rattle.map_defs.specs.Viewers.{viewers_by}
 use Rattle.layer_tiles.specs.Changes.{ChangeState}
 use Rattle.layer_tiles.specs.Operands.{size_of}
 use Rattle.damage_sets.specs.Sets.{TileSetState, has_tile}
 use Rattle.damage_sets.specs.Damage.{damage_of}
 use Rattle.statement_parser.specs.Views.{op_view}
-use Rattle.map_waves.specs.Statements.{damage_by, viewers_by}
+use Rattle.map_waves.specs.Statements.{damage_by}
 use Rattle.map_waves.specs.Operands.{IsOperand}
 use Rattle.map_waves.specs.Keeping.{kept_now, was_of, IsRightKept}
 use Rattle.map_waves.specs.Jobs.{was_in}

@@ -1,35 +1,35 @@
--- The least costs of all bands of rows.
-use Rattle.std.proofs.Common.{◌≡◌, ℕ, suc, ◌+◌, ◌<◌, List, [], ◌∷◌, length, Some, slice_get, refl, sym, ap, subst, ◌∙◌, arith}
+-- The least costs of all bands of rows, and the numbers of the nearest sources.
+use Rattle.std.proofs.Common.{◌≡◌, ℕ, suc, ◌<◌, List, [], ◌∷◌, length, Some, slice_get, refl, sym, ap, subst, ◌∙◌}
 use Rattle.map_nums.specs.Grids.{Size, Cells}
 use Rattle.friction_spread.specs.Costs.{GroundState}
-use Rattle.friction_spread.specs.Bands.{ground_of, IsCostBand, AreCostBands}
-use Rattle.friction_spread.specs.declared.bands.CostBand.{CostBand}
-use Rattle.op_jobs.specs.Fresh.{IsCosts}
+use Rattle.friction_spread.specs.Bands.{ground_of, AreCostBands}
+use Rattle.friction_neighbor.specs.Bands.{AreNearestBands}
+use Rattle.op_jobs.specs.Fresh.{IsCosts, IsNearest}
 use Rattle.op_jobs.specs.Parts.{part_start}
 use Rattle.op_jobs.specs.declared.ground.Part.{Part}
-use Rattle.op_jobs.specs.declared.ground.Part.TheVariants.{Costs}
-use Rattle.op_jobs.proofs.Starts.{part_first, part_last}
+use Rattle.op_jobs.specs.declared.ground.Part.TheVariants.{Costs, Nearest}
+use Rattle.op_jobs.proofs.Starts.{part_first, part_last, parts_all}
 
-module _ (g : GroundState) (n : ℕ) (some : 0 < n) where
-  bands_from : (bs : List CostBand) (k : ℕ) → k + length bs ≡ n → ((j : ℕ) (b : CostBand) → slice_get bs j ≡ Some b → IsCostBand g (part_start g.size.rows n (k + j)) (part_start g.size.rows n (suc (k + j))) b) → AreCostBands g (part_start g.size.rows n k) bs
-  bands_from [] k end each = let all : k ≡ n = omega (arith, end) in ap (part_start g.size.rows n) all ∙ part_last g.size.rows n some
-  bands_from (b ∷ bs) k end each =
-      let here : k + 0 ≡ k = omega arith in (
-        part_start g.size.rows n (suc k),
-        subst (λ j. IsCostBand g (part_start g.size.rows n j) (part_start g.size.rows n (suc j)) b) here (each 0 b refl),
-        bands_from bs (suc k) (omega (arith, end)) (λ j d e. let next : k + suc j ≡ suc k + j = omega arith in subst (λ i. IsCostBand g (part_start g.size.rows n i) (part_start g.size.rows n (suc i)) d) next (each (suc j) d e)),
-      )
+-- the ground of the same operands and limit
+pub ground_same : (s : Size) (one one' other other' : Cells) (limit limit' : ℕ) → one' ≡ one → other' ≡ other → limit' ≡ limit → ground_of s one' other' limit' ≡ ground_of s one other limit
+ground_same s one one' other other' limit limit' e f l = ap (λ xs. ground_of s xs other' limit') e ∙ ap (λ xs. ground_of s one xs limit') f ∙ ap (ground_of s one other) l
 
-  bands_all : (bs : List CostBand) → length bs ≡ n → ((k : ℕ) (b : CostBand) → slice_get bs k ≡ Some b → IsCosts g n k (Costs b)) → AreCostBands g 0 bs
-  bands_all bs all each =
-      subst (λ row. AreCostBands g row bs) (part_first g.size.rows n some)
-      (bands_from bs 0 (omega (arith, all)) (λ k b e. let here : k ≡ 0 + k = omega arith in subst (λ i. IsCostBand g (part_start g.size.rows n i) (part_start g.size.rows n (suc i)) b) here (each k b e)))
+-- the bands of the parts that were found are one below the other
+abbrev pub JoinsBands : {B : Type 0} → (B → Part) → (GroundState → ℕ → ℕ → Part → Type 0) → (GroundState → ℕ → List B → Type 0) → Type 0
+JoinsBands {B} part Is Are =
+    (g g' : GroundState) (bs bs' : List B) (parts : List Part) → g' ≡ g → bs' ≡ bs → 0 < length parts → length bs ≡ length parts → ((k : ℕ) (b : B) → slice_get bs k ≡ Some b → slice_get parts k ≡ Some (part b)) → ((k : ℕ) (p : Part) → slice_get parts k ≡ Some p → Is g (length parts) k p) → Are g' 0 bs'
 
--- of the parts that were found
-pub bands_are : (s : Size) (one one' other other' : Cells) (limit limit' : ℕ) (bs bs' : List CostBand) (parts : List Part) → one' ≡ one → other' ≡ other → limit' ≡ limit → bs' ≡ bs → 0 < length parts → length bs ≡ length parts → ((k : ℕ) (b : CostBand) → slice_get bs k ≡ Some b → slice_get parts k ≡ Some (Costs b))
-    → ((k : ℕ) (p : Part) → slice_get parts k ≡ Some p → IsCosts (ground_of s one other limit) (length parts) k p) → AreCostBands (ground_of s one' other' limit') 0 bs'
-bands_are s one one' other other' limit limit' bs bs' parts e f l b some all from each =
-    let is = bands_all (ground_of s one other limit) (length parts) some bs all (λ k x h. each k (Costs x) (from k x h)) in
-    subst (λ (xs : List CostBand). AreCostBands (ground_of s one' other' limit') 0 xs) (sym b)
-    (subst (λ (m : ℕ). AreCostBands (ground_of s one' other' m) 0 bs) (sym l)
-    (subst (λ (xs : Cells). AreCostBands (ground_of s one' xs limit) 0 bs) (sym f) (subst (λ (xs : Cells). AreCostBands (ground_of s xs other limit) 0 bs) (sym e) is)))
+module _ {B : Type 0} (part : B → Part) (Is : GroundState → ℕ → ℕ → Part → Type 0) (Are : GroundState → ℕ → List B → Type 0) (none : (g : GroundState) → Are g g.size.rows []) (more : (g : GroundState) (n k : ℕ) (b : B) (bs : List B) → Is g n k (part b) → Are g (part_start g.size.rows n (suc k)) bs → Are g (part_start g.size.rows n k) (b ∷ bs)) where
+  bands_all : (g : GroundState) (n : ℕ) → 0 < n → (bs : List B) → length bs ≡ n → ((k : ℕ) (b : B) → slice_get bs k ≡ Some b → Is g n k (part b)) → Are g 0 bs
+  bands_all g n some bs all each =
+      let last = subst (λ row. Are g row []) (sym (part_last g.size.rows n some)) (none g) in
+      subst (λ row. Are g row bs) (part_first g.size.rows n some) (parts_all n (part_start g.size.rows n) (λ k b. Is g n k (part b)) (Are g) last (more g n) bs all each)
+
+  bands_are : JoinsBands part Is Are
+  bands_are g g' bs bs' parts same b some all from each = subst (λ (xs : List B). Are g' 0 xs) (sym b) (subst (λ (x : GroundState). Are x 0 bs) (sym same) (bands_all g (length parts) some bs all (λ k x h. each k (part x) (from k x h))))
+
+pub costs_are : JoinsBands Costs IsCosts AreCostBands
+costs_are = bands_are Costs IsCosts AreCostBands (λ g. refl) (λ g n k b bs is rest. (part_start g.size.rows n (suc k), is, rest))
+
+pub nearest_are : JoinsBands Nearest IsNearest AreNearestBands
+nearest_are = bands_are Nearest IsNearest AreNearestBands (λ g. refl) (λ g n k b bs is rest. (part_start g.size.rows n (suc k), is, rest))

@@ -1,5 +1,5 @@
 -- Which results are in range, and how much work a repair is at most.
-use Rattle.std.proofs.Common.{◌≡◌, ℕ, suc, ◌^◌, ◌<◌, ◌≤◌, Bool, true, false, cond, List, [], length, Option, Some, None, ℤ, pos, refl, ◌∙◌, ap, subst, arith}
+use Rattle.std.proofs.Common.{◌≡◌, ℕ, suc, ◌+◌, ◌^◌, ◌<◌, ◌≤◌, Bool, true, false, cond, List, [], length, Option, Some, None, ℤ, pos, refl, ◌∙◌, ap, subst, arith}
 use Rattle.std.specs.Prelude.{not, filter, is_some}
 use Rattle.std.specs.List.{position}
 use Rattle.std.proofs.lemmas.List.FromFn.{length-range_with_len, length-map-range_with_len, get_or-map-range_with_len}
@@ -19,6 +19,7 @@ use Rattle.map_defs.specs.Work.{further_places, first_work, repair_work, op_work
 use Rattle.layer_tiles.specs.Cells.{IsCell, AreCells}
 use Rattle.drainage_flow.specs.Overflows.{IsOverflow}
 use Rattle.changed_cells.proofs.Joining.{filter_most}
+use Rattle.op_jobs.proofs.Listing.{tests_same}
 use Rattle.op_jobs.proofs.Narrow.{position_none, position_wide}
 
 -- ---- numbers in range
@@ -80,6 +81,18 @@ module _ (s : Size) (surface weights : Cells) (h : IsSize s) where
   })
 
 -- ---- work
+
+-- as many places have a number as a cost
+both_shown : (s : Size) (sources friction : Cells) (limit i : ℕ) (c d : Option ℤ) → IsSpreadCell s sources friction limit i c → IsNearestCell s sources friction limit i d → is_some c ≡ is_some d
+both_shown s sources friction limit i None None p q = refl
+both_shown s sources friction limit i None (Some z) p q = let r = q.1.some in absurd (omega (arith, p r.0 r.1, r.2, q.2))
+both_shown s sources friction limit i (Some z) None p q = let r = p.2.some in absurd (omega (arith, q r.0 r.1, r.2, p.3))
+both_shown s sources friction limit i (Some z) (Some w) p q = refl
+
+pub nearest_work : (s : Size) (sources friction : Cells) (limit : ℕ) (costs values : Cells) → IsSpread s sources friction limit costs → AreNearest s sources friction limit values → first_work s costs ≡ first_work s values
+nearest_work s sources friction limit costs values spread nearest =
+    ap (λ (js : List ℕ). cells_in s + length js)
+    (tests_same (λ i. is_some (cell_at costs i)) (λ i. is_some (cell_at values i)) (cells_in s) (λ i l. both_shown s sources friction limit i (cell_at costs i) (cell_at values i) (spread.each i l) (nearest.each i l)))
 
 module _ (s : Size) (before after : List Cells) where
   most : (p : ℕ → Bool) → length (filter p (places s)) ≤ cells_in s

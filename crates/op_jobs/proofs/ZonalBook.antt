@@ -1,5 +1,5 @@
 -- The book of a Zonal statement after an edit, and its damage.
-use Rattle.std.proofs.Common.{◌≡◌, ℕ, ◌+◌, ◌*◌, ◌≤◌, Bool, true, false, List, [], ◌∷◌, length, Option, Some, None, IsSome, sym, ◌∙◌, ap, subst, arith, slice_get, ℤ, IsFalse, Result, Ok, Err, IfOk}
+use Rattle.std.proofs.Common.{◌≡◌, ℕ, ◌+◌, ◌*◌, ◌≤◌, Bool, true, false, List, [], ◌∷◌, length, Option, Some, None, IsSome, sym, ◌∙◌, ap, subst, arith, ℤ, IsFalse, Result, Ok, Err, IfOk}
 use Rattle.std.specs.Prelude.{filter, is_some}
 use Rattle.std.specs.List.{All, position}
 use Rattle.std.proofs.lemmas.List.FromFn.{length-range_with_len}
@@ -30,12 +30,6 @@ use Rattle.op_jobs.proofs.ZonalDamage.{list_is, looks_few, damage_first, damage_
 use Rattle.op_jobs.proofs.ZonalRanges.{zone_in_range}
 
 -- ---- two operands
-
-pub two_are : (operands : List ChangeState) (v z : ChangeState) → length operands ≡ 2 → slice_get operands 0 ≡ Some v → slice_get operands 1 ≡ Some z → operands ≡ v ∷ z ∷ []
-two_are [] v z n e f = absurd (omega (arith, n))
-two_are (a ∷ []) v z n e f = absurd (omega (arith, n))
-two_are (a ∷ b ∷ c ∷ rest) v z n e f = absurd (omega (arith, n))
-two_are (a ∷ b ∷ []) v z n e f = cc
 
 pub book_as : (b : BookState) (values zones values' zones' : Cells) → values ≡ values' → zones ≡ zones' → IsBookOf b values zones → IsBookOf b values' zones'
 book_as b values zones values' zones' e f h = subst (λ (y : Cells). IsBookOf b values' y) f (subst (λ (x : Cells). IsBookOf b x zones) e h)

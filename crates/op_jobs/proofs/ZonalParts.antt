@@ -17,25 +17,21 @@ use Rattle.layer_tiles.specs.Operands.{cells_after}
 use Rattle.layer_tiles.specs.Tallies.{TallyState, RisesBy}
 use Rattle.layer_tiles.proofs.Rising.{rises_then, rises_within}
 use Rattle.zonal_totals.specs.Ranges.{CountsState, AreTileCounts, AreRanges}
-use Rattle.friction_spread.specs.Costs.{GroundState}
-use Rattle.friction_spread.specs.declared.bands.CostBand.{CostBand}
-use Rattle.drainage_flow.specs.declared.flow_band.FlowBand.{FlowBand}
-use Rattle.region_labels.specs.declared.bands.LabelBand.{LabelBand}
 use Rattle.map_waves.specs.Found.{AreFound}
 use Rattle.map_waves.specs.Operands.{IsOperand}
 use Rattle.map_waves.specs.Keeping.{kept_now, was_of}
 use Rattle.map_waves.specs.declared.keeping.Kept.{Kept}
 use Rattle.map_waves.proofs.Totals.{sum_next}
 use Rattle.op_jobs.specs.Classes.{is_zonal, is_zonal_in, is_region_in}
-use Rattle.op_jobs.specs.Fresh.{is_banded_in, AreBothCells, AreOnlyCells, IsCounted, IsCosts, IsFlows, IsLabels, IsCounts, AreAllCounts, IsGrounded, IsBand, IsPart, grounding, finding}
+use Rattle.op_jobs.specs.Fresh.{is_banded_in, AreBothCells, AreOnlyCells, IsCounted, IsCounts, AreAllCounts, IsGrounded, IsBand, IsPart, grounding, finding}
 use Rattle.op_jobs.specs.Parts.{part_start}
 use Rattle.op_jobs.specs.declared.beside.Beside.{Beside}
 use Rattle.op_jobs.specs.declared.ground.BothCells.{BothCells}
 use Rattle.op_jobs.specs.declared.ground.Ground.{Ground}
 use Rattle.op_jobs.specs.declared.ground.Ground.TheVariants as a_ground
 use Rattle.op_jobs.specs.declared.ground.Part.{Part}
-use Rattle.op_jobs.specs.declared.ground.Part.TheVariants.{Costs, Flows, Labels, Counts}
-use Rattle.op_jobs.proofs.Starts.{part_first, part_last, part_rises}
+use Rattle.op_jobs.specs.declared.ground.Part.TheVariants.{Counts}
+use Rattle.op_jobs.proofs.Starts.{part_first, part_last, part_rises, parts_all}
 use Rattle.op_jobs.proofs.ZonalBook.{values_are, zones_are, second_in}
 
 no : false ≡ true → ⊥
@@ -157,48 +153,16 @@ tiles_worked s op operands ground parts is works found =
 
 -- ---- parts of one kind are no others
 
-pub only_costs : (g : GroundState) (n k : ℕ) (p : Part) → ((b : CostBand) → p ≡ Costs b → ⊥) → IsCosts g n k p → ⊥
-only_costs g n k (Costs b) other is = other b refl
-only_costs g n k (Flows b) other is = is
-only_costs g n k (Labels b) other is = is
-only_costs g n k (Counts c) other is = is
-
-pub only_flows : (s : Size) (surface weights : Cells) (n k : ℕ) (p : Part) → ((b : FlowBand) → p ≡ Flows b → ⊥) → IsFlows s surface weights n k p → ⊥
-only_flows s surface weights n k (Costs b) other is = is
-only_flows s surface weights n k (Flows b) other is = other b refl
-only_flows s surface weights n k (Labels b) other is = is
-only_flows s surface weights n k (Counts c) other is = is
-
-pub only_labels : (s : Size) (cells : Cells) (n k : ℕ) (p : Part) → ((b : LabelBand) → p ≡ Labels b → ⊥) → IsLabels s cells n k p → ⊥
-only_labels s cells n k (Costs b) other is = is
-only_labels s cells n k (Flows b) other is = is
-only_labels s cells n k (Labels b) other is = other b refl
-only_labels s cells n k (Counts c) other is = is
-
-pub only_counts : (s : Size) (values zones : Cells) (n k : ℕ) (p : Part) → ((c : CountsState) → p ≡ Counts c → ⊥) → IsCounts s values zones n k p → ⊥
-only_counts s values zones n k (Costs b) other is = is
-only_counts s values zones n k (Flows b) other is = is
-only_counts s values zones n k (Labels b) other is = is
-only_counts s values zones n k (Counts c) other is = other c refl
-
 -- ---- the book of them
 
 module _ (s : Size) (values zones : Cells) (n : ℕ) (some : 0 < n) where
   abbrev all : ℕ
   all = tiles_in s
 
-  ranges_from : (cs : List CountsState) (k : ℕ) → k + length cs ≡ n → ((j : ℕ) (c : CountsState) → slice_get cs j ≡ Some c → AreTileCounts s values zones (part_start all n (k + j)) (part_start all n (suc (k + j))) c) → AreRanges s values zones (part_start all n k) all cs
-  ranges_from [] k end each = let last : k ≡ n = omega (arith, end) in ap (part_start all n) last ∙ part_last all n some
-  ranges_from (c ∷ cs) k end each =
-      let here : k + 0 ≡ k = omega arith in (
-        part_start all n (suc k),
-        omega (arith, part_rises all n 0 k some (omega arith)),
-        subst (λ j. AreTileCounts s values zones (part_start all n j) (part_start all n (suc j)) c) here (each 0 c refl),
-        ranges_from cs (suc k) (omega (arith, end)) (λ j d e. let next : k + suc j ≡ suc k + j = omega arith in subst (λ i. AreTileCounts s values zones (part_start all n i) (part_start all n (suc i)) d) next (each (suc j) d e)),
-      )
+  ranges_all : (cs : List CountsState) → length cs ≡ n → ((k : ℕ) (c : CountsState) → slice_get cs k ≡ Some c → IsCounts s values zones n k (Counts c)) → AreRanges s values zones 0 all cs
+  ranges_all cs count each =
+      subst (λ m. AreRanges s values zones m all cs) (part_first all n some)
+      (parts_all n (part_start all n) (λ k c. IsCounts s values zones n k (Counts c)) (λ m cs. AreRanges s values zones m all cs) (part_last all n some) (λ k c cs is rest. (part_start all n (suc k), omega (arith, part_rises all n 0 k some (omega arith)), is, rest)) cs count each)
 
 pub ranges_are : (s : Size) (values zones : Cells) (cs : List CountsState) (parts : List Part) → AreAllCounts s values zones parts → length cs ≡ length parts → ((k : ℕ) (c : CountsState) → slice_get cs k ≡ Some c → slice_get parts k ≡ Some (Counts c)) → AreRanges s values zones 0 (tiles_in s) cs
-ranges_are s values zones cs parts are count from =
-    subst (λ m. AreRanges s values zones m (tiles_in s) cs) (part_first (tiles_in s) (length parts) are.some)
-    (ranges_from s values zones (length parts) are.some cs 0 (omega (arith, count))
-    (λ k c e. let here : k ≡ 0 + k = omega arith in subst (λ i. AreTileCounts s values zones (part_start (tiles_in s) (length parts) i) (part_start (tiles_in s) (length parts) (suc i)) c) here (are.each k (Counts c) (from k c e))))
+ranges_are s values zones cs parts are count from = ranges_all s values zones (length parts) are.some cs count (λ k c e. are.each k (Counts c) (from k c e))

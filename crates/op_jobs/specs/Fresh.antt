@@ -2,13 +2,14 @@
 use Rattle.std.specs.Prelude.{◌≡◌, ℕ, suc, ◌-◌, ◌*◌, ◌<◌, ◌≤◌, List, length, Option, Some, None, Bool, true, false, IsTrue, slice_get, if◌then◌else◌}
 use Rattle.map_nums.specs.Grids.{Size, Cells, cells_in}
 use Rattle.map_nums.specs.Tiles.{tiles_in}
-use Rattle.map_defs.specs.Ops.{Head, zonal_head, flow_head, spread_head, region_head, Op}
-use Rattle.map_defs.specs.Facts.{Class, path_class, class_of}
+use Rattle.map_defs.specs.Ops.{Head, zonal_head, flow_head, spread_head, nearest_head, region_head, Op}
+use Rattle.map_defs.specs.Facts.{Class, path_class, nearest_class, class_of}
 use Rattle.map_defs.specs.Operate.{operand}
 use Rattle.layer_tiles.specs.Changes.{ChangeState}
 use Rattle.layer_tiles.specs.Operands.{cells_after}
 use Rattle.friction_spread.specs.Costs.{GroundState}
 use Rattle.friction_spread.specs.Bands.{ground_of, IsCostBand}
+use Rattle.friction_neighbor.specs.Bands.{IsNearestBand}
 use Rattle.drainage_flow.specs.FlowBands.{IsFlowBand}
 use Rattle.zonal_totals.specs.Ranges.{AreTileCounts}
 use Rattle.region_labels.specs.Provisional.{IsLabelBand}
@@ -20,11 +21,12 @@ use Rattle.op_jobs.specs.declared.ground.BothCells.{BothCells}
 use Rattle.op_jobs.specs.declared.ground.Ground.{Ground}
 use Rattle.op_jobs.specs.declared.ground.Ground.TheVariants as a_ground
 use Rattle.op_jobs.specs.declared.ground.Part.{Part}
-use Rattle.op_jobs.specs.declared.ground.Part.TheVariants.{Costs, Flows, Labels, Counts}
+use Rattle.op_jobs.specs.declared.ground.Part.TheVariants.{Costs, Nearest, Flows, Labels, Counts}
 
 -- workers make its layer in bands where it was not there
 abbrev pub is_banded_in : Class → Bool
 is_banded_in path_class = true
+is_banded_in (nearest_class limit) = true
 is_banded_in class = false
 
 abbrev pub is_banded : Op → Bool
@@ -74,27 +76,23 @@ finding s op operands n k = if is_zonal op then 2 * (part_start (tiles_in s) n (
 
 abbrev pub IsCosts : GroundState → ℕ → ℕ → Part → Type 0
 IsCosts g n k (Costs band) = IsCostBand g (part_start g.size.rows n k) (part_start g.size.rows n (suc k)) band
-IsCosts g n k (Flows band) = ⊥
-IsCosts g n k (Labels band) = ⊥
-IsCosts g n k (Counts counts) = ⊥
+IsCosts g n k part = ⊥
+
+abbrev pub IsNearest : GroundState → ℕ → ℕ → Part → Type 0
+IsNearest g n k (Nearest band) = IsNearestBand g (part_start g.size.rows n k) (part_start g.size.rows n (suc k)) band
+IsNearest g n k part = ⊥
 
 abbrev pub IsFlows : Size → Cells → Cells → ℕ → ℕ → Part → Type 0
-IsFlows s surface weights n k (Costs band) = ⊥
-IsFlows s surface weights n k (Labels band) = ⊥
-IsFlows s surface weights n k (Counts counts) = ⊥
 IsFlows s surface weights n k (Flows band) = IsFlowBand s surface weights (part_start s.rows n k * s.columns) ((part_start s.rows n (suc k) - part_start s.rows n k) * s.columns) band
+IsFlows s surface weights n k part = ⊥
 
 abbrev pub IsLabels : Size → Cells → ℕ → ℕ → Part → Type 0
-IsLabels s cells n k (Costs band) = ⊥
-IsLabels s cells n k (Flows band) = ⊥
 IsLabels s cells n k (Labels band) = IsLabelBand s cells (part_start s.rows n k) (part_start s.rows n (suc k)) band
-IsLabels s cells n k (Counts counts) = ⊥
+IsLabels s cells n k part = ⊥
 
 abbrev pub IsCounts : Size → Cells → Cells → ℕ → ℕ → Part → Type 0
-IsCounts s values zones n k (Costs band) = ⊥
-IsCounts s values zones n k (Flows band) = ⊥
-IsCounts s values zones n k (Labels band) = ⊥
 IsCounts s values zones n k (Counts counts) = AreTileCounts s values zones (part_start (tiles_in s) n k) (part_start (tiles_in s) n (suc k)) counts
+IsCounts s values zones n k part = ⊥
 
 -- all parts of a zonal statement's tiles
 pub record AreAllCounts (s : Size) (values zones : Cells) (parts : List Part) : Type 0 where
@@ -103,6 +101,7 @@ pub record AreAllCounts (s : Size) (values zones : Cells) (parts : List Part) : 
 
 abbrev pub IsBand : Head → Size → Cells → Cells → ℕ → ℕ → Part → Type 0
 IsBand (spread_head limit) s sources friction n k part = IsCosts (ground_of s sources friction limit) n k part
+IsBand (nearest_head limit) s sources friction n k part = IsNearest (ground_of s sources friction limit) n k part
 IsBand flow_head s surface weights n k part = IsFlows s surface weights n k part
 IsBand region_head s first second n k part = IsLabels s first n k part
 IsBand (zonal_head stat) s values zones n k part = IsCounts s values zones n k part

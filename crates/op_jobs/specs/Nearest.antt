@@ -6,7 +6,11 @@ use Rattle.layer_tiles.specs.Layers.{LayerState}
 use Rattle.layer_tiles.specs.Patches.{PatchState, HoldsAll, patched}
 use Rattle.tile_work.specs.Working.{base_of, before_of}
 use Rattle.damage_sets.specs.Sets.{TileSetState}
+use Rattle.friction_spread.specs.Costs.{GroundState}
+use Rattle.friction_spread.specs.Lists.{list_cells as cost_cells}
+use Rattle.friction_neighbor.specs.Bands.{IsNearestList}
 use Rattle.friction_neighbor.specs.Results.{values_of, AreOldFor}
+use Rattle.friction_neighbor.specs.declared.lists.NearestList.{NearestList}
 use Rattle.friction_neighbor.specs.declared.repair.Nearest.{Nearest}
 use Rattle.friction_neighbor.specs.declared.repair.NearestRepair.{NearestRepair}
 use Rattle.map_waves.specs.Operands.{IsOperand}
@@ -16,6 +20,8 @@ use Rattle.op_jobs.specs.Beside.{AreCosts, costs_at}
 use Rattle.op_jobs.specs.Owning.{reached}
 use Rattle.op_jobs.specs.Whole.{count_any}
 use Rattle.op_jobs.specs.declared.beside.Beside.{Beside}
+use Rattle.op_jobs.specs.declared.lists.FreshLayer.{FreshLayer}
+use Rattle.op_jobs.specs.declared.lists.LayerList.TheVariants.{Nearest as NearestOf}
 
 -- costs stand beside what is kept
 abbrev pub HasCosts : Option (Kept Beside) → Type 0
@@ -46,3 +52,11 @@ pub record IsNearestMade (touched : TileSetState) (old : Option LayerState) (rep
   pub beside : AreCosts repair.cost.size (patched repair.cost.size (base_of (before_of old)) repair.cost.tiles) m.beside
   pub evaluated : m.evaluated ≡ count_any touched repair.value (Some repair.cost)
   pub worked : m.worked ≡ repair.worked
+
+-- the numbers of a ground's nearest sources in a list, the layer of its least costs beside it, and the work that they are
+pub record IsNearestFresh (g : GroundState) (fresh : FreshLayer) : Type 0 where
+  pub numbers : NearestList
+  pub list_is : fresh.list ≡ NearestOf numbers
+  pub are : IsNearestList g numbers
+  pub beside_is : AreCosts g.size (cost_cells g.size numbers.costs) fresh.beside
+  pub work_is : fresh.worked ≡ numbers.costs.worked

@@ -5,6 +5,7 @@ use Rattle.map_nums.specs.Tiles.{tiles_in}
 use Rattle.map_defs.specs.Ops.{Op}
 use Rattle.map_defs.specs.Damage.{has_work}
 use Rattle.map_defs.specs.Sight.{most_viewers}
+use Rattle.map_defs.specs.Viewers.{viewers_in}
 use Rattle.layer_tiles.specs.Changes.{ChangeState}
 use Rattle.layer_tiles.specs.Operands.{cells_after}
 use Rattle.damage_sets.specs.Sets.{TileSetState}
@@ -12,7 +13,7 @@ use Rattle.damage_sets.specs.Damage.{damage_of, touched_in}
 use Rattle.local_ops.specs.Operations.{op_of, Takes}
 use Rattle.local_ops.specs.declared.ops.LocalOp.{LocalOp}
 use Rattle.map_waves.specs.Answers.{LacksJobs}
-use Rattle.map_waves.specs.Statements.{damage_by, viewers_in}
+use Rattle.map_waves.specs.Statements.{damage_by}
 use Rattle.map_waves.specs.declared.halts.NoJobs.{NoJobs}
 use Rattle.op_jobs.specs.Beside.{suits}
 use Rattle.op_jobs.specs.Classes.{is_local}

@@ -1,6 +1,6 @@
 //! The flow of a map that had none, from that within bands of rows.
 ghost use Rattle.std.specs.Prelude.{◌≡◌, ℕ, suc, ◌-◌, ◌*◌, ◌<◌, length, Some, slice_get, IfOk};
-ghost use Rattle.map_nums.specs.Grids.{Size, Cells, cells_in};
+ghost use Rattle.map_nums.specs.Grids.{cells_in};
 ghost use Rattle.map_defs.specs.Flow.{flow_grid};
 ghost use Rattle.map_defs.specs.Work.{first_work};
 ghost use Rattle.drainage_flow.specs.FlowBands.{IsFlowBand};
@@ -9,9 +9,9 @@ ghost use Rattle.op_jobs.specs.Fresh.{IsFlows};
 ghost use Rattle.op_jobs.specs.Lists.{IsList, list_cells};
 ghost use Rattle.op_jobs.specs.Parts.{part_start};
 ghost use Rattle.op_jobs.specs.declared.ground.Part.{Part};
-ghost use Rattle.op_jobs.specs.declared.ground.Part.TheVariants.{Flows};
 
 use crate::ground::{BothCells, Part};
+use crate::kinds::all_of;
 use crate::lists::{FlowList, LayerList};
 use crate::parts::part_start;
 use drainage_flow::{FlowBand, first_flow_work, flow_of_band, pour};
@@ -38,27 +38,6 @@ pub(crate) fn find_flows(
     flow_of_band(alloc, extent, &ground.first, &ground.second, first, end)
 }
 
-/// The bands that were found.
-fn bands_of(alloc: Global, parts: Vec<Part>) -> Result<Vec<FlowBand>, NoMemory>
-    requires { (s : Size) × (surface : Cells) × (weights : Cells) × (n : ℕ) × ((k : ℕ) (p : Part) → slice_get parts.items k ≡ Some p → IsFlows s surface weights n k p) }
-    ensures count { IfOk result (λ bands. length bands.items ≡ length parts.items) }
-    ensures each { IfOk result (λ bands. (k : ℕ) (b : FlowBand) → slice_get bands.items k ≡ Some b → slice_get parts.items k ≡ Some (Flows b)) }
-{
-    let count = parts.len();
-    let mut rest = parts.into_iter();
-    let mut bands = Vec::with_capacity(alloc, count)?;
-    for _place in 0..count {
-        let Some(one) = rest.next() else {
-            unreachable!();
-        };
-        let Part::Flows(band) = one else {
-            unreachable!();
-        };
-        bands.push(band)?;
-    }
-    Ok(bands)
-}
-
 /// The flow of a map that had none, from that of its bands, and the units of work.
 pub(crate) fn flow_by(
     alloc: Global,
@@ -74,7 +53,7 @@ pub(crate) fn flow_by(
     ensures cells { IfOk result (λ r. list_cells extent r.0 ≡ (flow_grid extent ground.first.items ground.second.items).cells) }
     ensures work { IfOk result (λ r. r.1 ≡ first_work extent (flow_grid extent ground.first.items ground.second.items).cells) }
 {
-    let mut bands = bands_of(alloc, parts)?;
+    let mut bands = all_of::<FlowBand>(alloc, parts)?;
     pour(extent, &ground.first, &ground.second, &mut bands);
     let worked = first_flow_work(extent, &ground.first);
     let list = FlowList {

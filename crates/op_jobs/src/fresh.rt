@@ -7,15 +7,17 @@ ghost use Rattle.layer_tiles.specs.Tallies.{RisesBy};
 ghost use Rattle.statement_parser.specs.Views.{op_view};
 ghost use Rattle.map_waves.specs.Found.{AreFound};
 ghost use Rattle.op_jobs.specs.Fresh.{is_banded, AreBothCells, IsGrounded, IsPart};
-ghost use Rattle.op_jobs.specs.Lists.{IsListMade};
+ghost use Rattle.op_jobs.specs.Lists.{IsFreshMade};
 ghost use Rattle.op_jobs.specs.Operands.{AreOperandsOf};
 
+use crate::beside::Beside;
 use crate::flow_bands::{find_flows, flow_by};
 use crate::ground::{BothCells, Ground, Part};
 use crate::label_bands::labels_by;
-use crate::lists::LayerList;
+use crate::lists::{FreshLayer, LayerList};
+use crate::nearest_bands::{find_nearest, nearest_by};
+use crate::operands::both_of;
 use crate::spread_bands::{find_costs, spread_by};
-use crate::whole::both_of;
 use flat_cells::cells_of;
 use layer_tiles::{Extent, Operands, Tally};
 use map_nums::NoMemory;
@@ -27,7 +29,7 @@ pub(crate) fn is_banded(op: &Op) -> bool
     ensures { result ≡ is_banded (op_view op.now) }
 {
     match op {
-        Op::Flow { .. } | Op::Spread { .. } => true,
+        Op::Flow { .. } | Op::Spread { .. } | Op::Neighbor { .. } => true,
         _ => false,
     }
 }
@@ -78,6 +80,11 @@ pub(crate) fn find_band(
             let band = find_costs(alloc, extent, ground, limit, parts, k)?;
             Ok(Part::Costs(band))
         }
+        Op::Neighbor { limit, .. } => {
+            let limit = limit.unsigned_abs() as u64;
+            let band = find_nearest(alloc, extent, ground, limit, parts, k)?;
+            Ok(Part::Nearest(band))
+        }
         Op::Flow { .. } => {
             let band = find_flows(alloc, extent, ground, parts, k)?;
             Ok(Part::Flows(band))
@@ -86,7 +93,18 @@ pub(crate) fn find_band(
     }
 }
 
-/// Costs or flow that were not there, place by place, from what was found of their bands; and the units of work.
+/// A layer that was not there, beside which nothing stands.
+fn alone(list: LayerList, worked: u64) -> FreshLayer
+    ensures { result ≡ record { list = list; beside = Beside.Nothing; worked = worked } }
+{
+    FreshLayer {
+        list,
+        beside: Beside::Nothing,
+        worked,
+    }
+}
+
+/// Costs, nearest sources or flow that were not there, place by place, from what was found of their bands; and the units of work.
 fn make_of_both(
     alloc: Global,
     op: &Op,
@@ -94,9 +112,9 @@ fn make_of_both(
     extent: Extent,
     ground: BothCells,
     parts: Vec<Part>,
-) -> Result<(LayerList, u64), NoMemory>
+) -> Result<FreshLayer, NoMemory>
     requires found { AreFound AreBothCells IsPart extent (op_view op.now) _operands.now ground parts.items }
-    ensures { IfOk result (λ r. IsListMade extent (op_view op.now) _operands.now r.0 r.1) }
+    ensures { IfOk result (IsFreshMade extent (op_view op.now) _operands.now) }
 {
     let _tiles = extent.tiles();
     match op {
@@ -104,9 +122,16 @@ fn make_of_both(
             let limit = limit.unsigned_abs() as u64;
             let costs = spread_by(alloc, extent, &ground, limit, parts)?;
             let worked = costs.worked;
-            Ok((LayerList::Costs(costs), worked))
+            Ok(alone(LayerList::Costs(costs), worked))
         }
-        Op::Flow { .. } => flow_by(alloc, extent, ground, parts),
+        Op::Neighbor { limit, .. } => {
+            let limit = limit.unsigned_abs() as u64;
+            nearest_by(alloc, extent, &ground, limit, parts)
+        }
+        Op::Flow { .. } => {
+            let (list, worked) = flow_by(alloc, extent, ground, parts)?;
+            Ok(alone(list, worked))
+        }
         _ => unreachable!(),
     }
 }
@@ -119,10 +144,10 @@ pub(crate) fn make_fresh(
     extent: Extent,
     ground: Ground,
     parts: Vec<Part>,
-) -> Result<(LayerList, u64), NoMemory>
+) -> Result<FreshLayer, NoMemory>
     requires class { IsTrue (has_work (op_view op.now)) }
     requires found { AreFound IsGrounded IsPart extent (op_view op.now) operands.now ground parts.items }
-    ensures { IfOk result (λ r. IsListMade extent (op_view op.now) operands.now r.0 r.1) }
+    ensures { IfOk result (IsFreshMade extent (op_view op.now) operands.now) }
 {
     let _tiles = extent.tiles();
     match ground {
@@ -130,7 +155,7 @@ pub(crate) fn make_fresh(
         Ground::Only(cells) => {
             let labels = labels_by(alloc, extent, &cells, parts)?;
             let worked = labels.worked;
-            Ok((LayerList::Labels(labels), worked))
+            Ok(alone(LayerList::Labels(labels), worked))
         }
         Ground::Tiles => unreachable!(),
     }

@@ -1,6 +1,7 @@
 //! What workers find parts of a layer that was not there from, and what they find.
 
 use drainage_flow::FlowBand;
+use friction_neighbor::NearestBand;
 use friction_spread::CostBand;
 use layer_tiles::Cell;
 use region_labels::LabelBand;
@@ -29,6 +30,8 @@ pub enum Ground {
 pub enum Part {
     /// The least costs of a band of rows by paths that stay in it.
     Costs(CostBand),
+    /// The same, and the numbers of the nearest sources by such paths.
+    Nearest(NearestBand),
     /// The flow of a band of rows, as far as it comes from these.
     Flows(FlowBand),
     /// The labels of the regions within a band of rows.

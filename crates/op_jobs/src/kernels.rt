@@ -1,5 +1,5 @@
 //! A tile of an operation, by the kernel of its class.
-ghost use Rattle.std.specs.Prelude.{◌≡◌, ◌<◌, ◌≤◌, length, Some, slice_get, IfOk, IfSome, IsFalse};
+ghost use Rattle.std.specs.Prelude.{◌≡◌, ◌<◌, ◌≤◌, length, Some, IfOk, IsFalse};
 ghost use Rattle.std.specs.List.{All};
 ghost use Rattle.map_defs.specs.Damage.{has_work, reach_of};
 ghost use Rattle.map_defs.specs.Drainage.{direction_grid};
@@ -21,13 +21,14 @@ ghost use Rattle.op_jobs.specs.Operands.{AreOperandsOf};
 ghost use Rattle.op_jobs.specs.Owning.{IsLocalOf};
 ghost use Rattle.op_jobs.specs.Ranges.{HasRanges};
 
+use crate::operands::first_of;
 use crate::own::TileJobs;
 use crate::sight_jobs::tile_of_sights;
 use crate::zonal_jobs::tile_of_zones;
 use drainage_flow::direction_tile;
 use focal_ops::focal_tile;
 use incremental_ops::{Shape, shape_tile};
-use layer_tiles::{Change, Extent, KernelRefusal, Operands, Tally, Tile};
+use layer_tiles::{Extent, KernelRefusal, Operands, Tally, Tile};
 use local_ops::{LocalOp, Rates, local_tile};
 use map_nums::{NoMemory, Stat};
 use sight_lines::Sight;
@@ -101,17 +102,6 @@ pub(crate) fn local_of(alloc: Global, op: &Op) -> Result<Option<LocalOp>, NoMemo
         Op::Ratio { .. } => Ok(Some(LocalOp::Ratio)),
         Op::Rating { rates, .. } => Ok(Some(LocalOp::Rating(Rates::of(alloc, rates)?))),
         _ => Ok(None),
-    }
-}
-
-/// The first operand.
-fn first_of<'o, 'a>(operands: &'o Operands<'a>) -> &'o Change<'a>
-    requires { 0 < length operands.now }
-    ensures { slice_get operands.now 0 ≡ Some result.now }
-{
-    match operands.get(0) {
-        Some(first) => first,
-        None => unreachable!(),
     }
 }
 

@@ -1,7 +1,7 @@
 //! The labels of regions on a map that had none, in bands of rows.
 ghost use Rattle.std.specs.Prelude.{◌≡◌, ℕ, ◌*◌, ◌<◌, ◌≤◌, length, Some, slice_get, IfOk, IsTrue};
 ghost use Rattle.std.specs.List.{All};
-ghost use Rattle.map_nums.specs.Grids.{Size, Cells, cells_in};
+ghost use Rattle.map_nums.specs.Grids.{cells_in};
 ghost use Rattle.map_nums.specs.Tiles.{tiles_in};
 ghost use Rattle.layer_tiles.specs.Tallies.{RisesBy};
 ghost use Rattle.region_labels.specs.Provisional.{IsLabelList};
@@ -15,8 +15,9 @@ ghost use Rattle.op_jobs.specs.declared.ground.Part.{Part};
 ghost use Rattle.op_jobs.specs.declared.ground.Part.TheVariants.{Labels};
 
 use crate::ground::Part;
+use crate::kinds::all_of;
+use crate::operands::only_of;
 use crate::parts::part_start;
-use crate::whole::only_of;
 use flat_cells::cells_of;
 use layer_tiles::{Cell, Extent, Operands, Tally};
 use map_nums::NoMemory;
@@ -67,27 +68,6 @@ pub(crate) fn find_labels(
     Ok(Part::Labels(band))
 }
 
-/// The bands that were found.
-fn bands_of(alloc: Global, parts: Vec<Part>) -> Result<Vec<LabelBand>, NoMemory>
-    requires { (s : Size) × (cells : Cells) × (n : ℕ) × ((k : ℕ) (p : Part) → slice_get parts.items k ≡ Some p → IsLabels s cells n k p) }
-    ensures count { IfOk result (λ bands. length bands.items ≡ length parts.items) }
-    ensures each { IfOk result (λ bands. (k : ℕ) (b : LabelBand) → slice_get bands.items k ≡ Some b → slice_get parts.items k ≡ Some (Labels b)) }
-{
-    let count = parts.len();
-    let mut rest = parts.into_iter();
-    let mut bands = Vec::with_capacity(alloc, count)?;
-    for _place in 0..count {
-        let Some(one) = rest.next() else {
-            unreachable!();
-        };
-        let Part::Labels(band) = one else {
-            unreachable!();
-        };
-        bands.push(band)?;
-    }
-    Ok(bands)
-}
-
 /// The labels of a map that had none, from those of its bands.
 pub(crate) fn labels_by(
     alloc: Global,
@@ -100,6 +80,6 @@ pub(crate) fn labels_by(
     requires each { (k : ℕ) (p : Part) → slice_get parts.items k ≡ Some p → IsLabels extent cells.now (length parts.items) k p }
     ensures { IfOk result (IsLabelList extent cells.now) }
 {
-    let bands = bands_of(alloc, parts)?;
+    let bands = all_of::<LabelBand>(alloc, parts)?;
     labels_of_bands(alloc, extent, cells, &bands)
 }

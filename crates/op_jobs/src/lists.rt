@@ -4,7 +4,9 @@ ghost use Rattle.layer_tiles.specs.Answers.{IsTileAnswer};
 ghost use Rattle.map_nums.specs.Tiles.{tiles_in};
 ghost use Rattle.op_jobs.specs.Lists.{IsList, list_cells};
 
+use crate::beside::Beside;
 use drainage_flow::{FlowBand, flow_tile};
+use friction_neighbor::NearestList;
 use friction_spread::CostList;
 use layer_tiles::{Cell, Extent, KernelRefusal, Tile};
 use region_labels::ProvisionalLabels;
@@ -14,6 +16,7 @@ use std::alloc::Global;
 #[derive(Drop)]
 pub enum LayerList {
     Costs(CostList),
+    Nearest(NearestList),
     Flow(FlowList),
     Labels(ProvisionalLabels),
 }
@@ -23,6 +26,14 @@ pub enum LayerList {
 pub struct FlowList {
     pub surface: Vec<Cell>,
     pub bands: Vec<FlowBand>,
+}
+
+/// A layer that was not there, what is to stand beside it, and the units of work.
+#[derive(Drop)]
+pub struct FreshLayer {
+    pub list: LayerList,
+    pub beside: Beside,
+    pub worked: u64,
 }
 
 /// A tile of the layer.
@@ -38,6 +49,7 @@ pub(crate) fn list_tile(
 {
     match list {
         LayerList::Costs(costs) => costs.tile(alloc, extent, tile),
+        LayerList::Nearest(nearest) => nearest.tile(alloc, extent, tile),
         LayerList::Flow(flow) => flow_tile(alloc, extent, tile, &flow.surface, &flow.bands),
         LayerList::Labels(labels) => labels.tile(alloc, extent, tile),
     }

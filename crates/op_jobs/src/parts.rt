@@ -28,7 +28,11 @@ pub(crate) fn parts_of(op: &Op, extent: Extent, workers: u32) -> u32
 {
     match op {
         Op::Region { .. } if workers < 2 => 0,
-        Op::Spread { .. } if workers > 1 => parts_by(extent, workers, SHARED_PART_CELLS),
+        Op::Spread { .. } | Op::Neighbor { .. } if workers > 1 => parts_by(
+            extent,
+            workers,
+            SHARED_PART_CELLS,
+        ),
         Op::Zonal { .. } if workers > 1 => parts_by(extent, workers, PART_CELLS).min(workers),
         _ => parts_by(extent, workers, PART_CELLS),
     }

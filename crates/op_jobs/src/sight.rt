@@ -18,6 +18,7 @@ ghost use Rattle.op_jobs.specs.Operands.{AreBoth};
 ghost use Rattle.op_jobs.specs.Sight.{AreRightViewers, felt_tiles};
 
 use crate::damage::{all_tiles, tiles_of};
+use crate::operands::both_of;
 use damage_sets::{Class, damaged};
 use layer_tiles::{Extent, KernelRefusal, Operands, Tally, Tile};
 use map_nums::NoMemory;
@@ -74,9 +75,7 @@ fn viewers_after<M: Tally>(
     ensures halt { (sight : Sighting) (t u : Term) → IfErr result (LacksJobs extent (sight_op sight t u) (cells_after operands.now)) }
     ensures looks { (r : ℕ) → RisesBy (length (felt_tiles (is_some kept.entry) r extent operands.now)) 0 (M.counts tally.old) (M.counts tally.new) }
 {
-    let Some(viewers) = operands.get(0) else {
-        unreachable!()
-    };
+    let (viewers, _) = both_of(operands);
     match Viewers::of(alloc, kept, viewers, tally) {
         Ok(found) => Ok(found),
         Err(SightRefusal::Viewers(count)) => Err(NoJobs::Viewers(count as u64)),
@@ -128,8 +127,6 @@ pub(crate) fn sight_piece<M: Tally>(
     ensures answer { (t u : Term) → IsTileAnswer extent (made extent (sight_op (sighting_of sight) t u) (cells_after operands.now)) tile result }
     ensures tally { RisesBy 25 0 (M.counts tally.old) (M.counts tally.new) }
 {
-    let Some(surface) = operands.get(1) else {
-        unreachable!()
-    };
+    let (_, surface) = both_of(operands);
     sight_tile(alloc, viewers, surface, sight, tile, tally)
 }

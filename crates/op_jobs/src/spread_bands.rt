@@ -2,16 +2,15 @@
 ghost use Rattle.std.specs.Prelude.{◌≡◌, ℕ, suc, ◌<◌, ◌≤◌, length, Some, slice_get, IfOk};
 ghost use Rattle.map_nums.specs.Grids.{cells_in};
 ghost use Rattle.map_nums.specs.Numbers.{greatest_value};
-ghost use Rattle.friction_spread.specs.Costs.{GroundState};
 ghost use Rattle.friction_spread.specs.Bands.{ground_of, IsCostBand};
 ghost use Rattle.friction_spread.specs.Lists.{IsCostList};
 ghost use Rattle.friction_spread.specs.declared.bands.CostBand.{CostBand};
 ghost use Rattle.op_jobs.specs.Fresh.{IsCosts};
 ghost use Rattle.op_jobs.specs.Parts.{part_start};
 ghost use Rattle.op_jobs.specs.declared.ground.Part.{Part};
-ghost use Rattle.op_jobs.specs.declared.ground.Part.TheVariants.{Costs};
 
 use crate::ground::{BothCells, Part};
+use crate::kinds::all_of;
 use crate::parts::part_start;
 use friction_spread::{CostBand, CostList, costs_of_band, spread_of_bands};
 use layer_tiles::{Extent, Value};
@@ -49,27 +48,6 @@ pub(crate) fn find_costs(
     )
 }
 
-/// The bands that were found.
-fn bands_of(alloc: Global, parts: Vec<Part>) -> Result<Vec<CostBand>, NoMemory>
-    requires { (g : GroundState) × (n : ℕ) × ((k : ℕ) (p : Part) → slice_get parts.items k ≡ Some p → IsCosts g n k p) }
-    ensures count { IfOk result (λ bands. length bands.items ≡ length parts.items) }
-    ensures each { IfOk result (λ bands. (k : ℕ) (b : CostBand) → slice_get bands.items k ≡ Some b → slice_get parts.items k ≡ Some (Costs b)) }
-{
-    let count = parts.len();
-    let mut rest = parts.into_iter();
-    let mut bands = Vec::with_capacity(alloc, count)?;
-    for _place in 0..count {
-        let Some(one) = rest.next() else {
-            unreachable!();
-        };
-        let Part::Costs(band) = one else {
-            unreachable!();
-        };
-        bands.push(band)?;
-    }
-    Ok(bands)
-}
-
 /// The least costs of a map that had none, from those of its bands.
 pub(crate) fn spread_by(
     alloc: Global,
@@ -86,6 +64,6 @@ pub(crate) fn spread_by(
     ensures { IfOk result (IsCostList (ground_of extent ground.now.first.items ground.now.second.items limit)) }
 {
     let most = limit as Value;
-    let bands = bands_of(alloc, parts)?;
+    let bands = all_of::<CostBand>(alloc, parts)?;
     spread_of_bands(alloc, extent, &ground.first, &ground.second, most, &bands)
 }

@@ -108,14 +108,14 @@ fn fresh_own(
     requires found { AreFound IsGrounded IsPart extent (op_view op.now) operands.now ground parts.items }
     ensures { IfOk result (IsOwn extent (op_view op.now) operands.now None) }
 {
-    let (list, worked) = make_fresh(alloc, op, operands, extent, ground, parts)?;
+    let fresh = make_fresh(alloc, op, operands, extent, ground, parts)?;
     let tiles = all_tiles(alloc, extent)?;
     Ok(Own::Tiles(TileJobs {
         tiles,
         local: None,
-        beside: Beside::Nothing,
-        list: Some(list),
-        worked,
+        beside: fresh.beside,
+        list: Some(fresh.list),
+        worked: fresh.worked,
     }))
 }
 

@@ -1,5 +1,5 @@
 //! Statements that one job repairs whole, with nothing beside their layers: flow, spreading, regions.
-ghost use Rattle.std.specs.Prelude.{◌≡◌, ◌*◌, ◌∷◌, [], length, IsTrue, IsFalse};
+ghost use Rattle.std.specs.Prelude.{◌*◌, length, IsTrue, IsFalse};
 ghost use Rattle.std.specs.Option.{option_copied};
 ghost use Rattle.map_defs.specs.Damage.{has_work};
 ghost use Rattle.layer_tiles.specs.Operands.{size_of};
@@ -11,37 +11,13 @@ ghost use Rattle.op_jobs.specs.Classes.{is_nearest};
 ghost use Rattle.op_jobs.specs.Operands.{AreOperandsOf};
 ghost use Rattle.op_jobs.specs.Whole.{IsRightBefore, IsWholeAnswer};
 
+use crate::operands::{both_of, only_of};
 use crate::whole_flow::repair_flow;
 use crate::whole_regions::repair_regions;
 use crate::whole_spread::repair_spread;
-use layer_tiles::{Change, KernelRefusal, Layer, Operands, Patch, Tally};
+use layer_tiles::{KernelRefusal, Layer, Operands, Patch, Tally};
 use statement_parser::Op;
 use std::alloc::Global;
-
-/// Both operands of a statement that has two.
-pub(crate) fn both_of<'o, 'a>(operands: &'o Operands<'a>) -> (&'o Change<'a>, &'o Change<'a>)
-    requires { length operands.now ≡ 2 }
-    ensures { operands.now ≡ result.0.now ∷ result.1.now ∷ [] }
-{
-    let Some(first) = operands.get(0) else {
-        unreachable!()
-    };
-    let Some(second) = operands.get(1) else {
-        unreachable!()
-    };
-    (first, second)
-}
-
-/// The operand of a statement that has one.
-pub(crate) fn only_of<'o, 'a>(operands: &'o Operands<'a>) -> &'o Change<'a>
-    requires { length operands.now ≡ 1 }
-    ensures { operands.now ≡ result.now ∷ [] }
-{
-    let Some(only) = operands.get(0) else {
-        unreachable!()
-    };
-    only
-}
 
 /// The tiles of a statement's layer that an edit changes, all of them where there was no layer, and the units of work. At
 /// most 32 looks for each tile of the damage and 1000 picks for each unit of work.

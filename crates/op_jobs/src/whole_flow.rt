@@ -1,5 +1,5 @@
 //! The flow of a statement, repaired whole.
-ghost use Rattle.std.specs.Prelude.{◌≡◌, ◌*◌, ◌∷◌, [], length};
+ghost use Rattle.std.specs.Prelude.{◌*◌, ◌∷◌, [], length};
 ghost use Rattle.std.specs.Option.{option_copied};
 ghost use Rattle.map_defs.specs.Ops.{Term, flow_op};
 ghost use Rattle.layer_tiles.specs.Tallies.{RisesBy};

@@ -15,9 +15,10 @@ ghost use Rattle.op_jobs.specs.Whole.{count_any};
 ghost use Rattle.op_jobs.specs.declared.own.Own.TheVariants.{Whole};
 
 use crate::beside::Beside;
+use crate::operands::both_of;
 use crate::own::Own;
 use crate::pieces::Piece;
-use crate::whole::{both_of, repair_whole};
+use crate::whole::repair_whole;
 use crate::whole_damage::count_damage;
 use crate::whole_nearest::{nearest_of, repair_nearest};
 use damage_sets::TileSet;

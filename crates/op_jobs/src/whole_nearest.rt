@@ -21,7 +21,7 @@ use map_waves::{Kept, Made};
 use std::alloc::Global;
 
 /// The stamps of what stands beside a layer are asked by no one.
-const NO_STAMP: u64 = 0;
+pub(crate) const NO_STAMP: u64 = 0;
 
 /// Both layers that are kept, where they are.
 pub(crate) fn nearest_of(kept: Option<&Kept<Beside>>) -> Option<Nearest<'_>>

@@ -15,6 +15,7 @@ ghost use Rattle.op_jobs.specs.Zonal.{IsRightBook, zonal_tiles};
 
 use crate::damage::{all_tiles, tiles_of};
 use crate::ground::{Ground, Part};
+use crate::operands::both_of;
 use crate::zonal_kernel::zonal_tile;
 use crate::zonal_parts::counted_book;
 use crate::zonal_zones::add_zones;
@@ -68,12 +69,7 @@ fn fresh_book<M: Tally>(
         let book = counted_book(alloc, extent, parts)?;
         return Ok(book);
     }
-    let Some(values) = operands.get(0) else {
-        unreachable!()
-    };
-    let Some(zones) = operands.get(1) else {
-        unreachable!()
-    };
+    let (values, zones) = both_of(operands);
     let book = Book::fresh(alloc, values, zones, tally)?;
     Ok(book)
 }
@@ -114,12 +110,7 @@ fn changed_book<M: Tally>(
     ensures damage { IfOk result (λ r. r.1.items ≡ zonal_tiles stat book.now.size operands.now) }
     ensures looks { RisesBy (8 * length (zonal_tiles stat book.now.size operands.now)) 0 (M.counts tally.old) (M.counts tally.new) }
 {
-    let Some(values) = operands.get(0) else {
-        unreachable!()
-    };
-    let Some(zones) = operands.get(1) else {
-        unreachable!()
-    };
+    let (values, zones) = both_of(operands);
     let mut set = damaged(alloc, Class::Cells, operands, tally)?;
     let patch = book.changed(alloc, values, zones, tally)?;
     add_zones(stat, book, &patch, &mut set);
@@ -149,8 +140,6 @@ pub(crate) fn zonal_piece<M: Tally>(
     ensures answer { (t u : Term) → IsTileAnswer extent (made extent (zonal_op stat t u) (cells_after operands.now)) tile result }
     ensures tally { RisesBy 1 0 (M.counts tally.old) (M.counts tally.new) }
 {
-    let Some(zones) = operands.get(1) else {
-        unreachable!()
-    };
+    let (_, zones) = both_of(operands);
     zonal_tile(alloc, stat, book, zones, tile, tally)
 }

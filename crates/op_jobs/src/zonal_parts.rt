@@ -1,12 +1,11 @@
 //! The book of a Zonal statement that was not there, counted by workers in parts of its tiles.
-ghost use Rattle.std.specs.Prelude.{◌≡◌, ℕ, suc, ◌-◌, ◌*◌, ◌<◌, ◌≤◌, length, Some, slice_get, IfOk};
-ghost use Rattle.map_nums.specs.Grids.{Size, Cells};
+ghost use Rattle.std.specs.Prelude.{◌≡◌, suc, ◌-◌, ◌*◌, ◌<◌, ◌≤◌, IfOk};
+ghost use Rattle.map_nums.specs.Grids.{Cells};
 ghost use Rattle.map_nums.specs.Tiles.{tiles_in};
 ghost use Rattle.map_defs.specs.Operate.{operand};
 ghost use Rattle.layer_tiles.specs.Operands.{cells_after};
 ghost use Rattle.layer_tiles.specs.Tallies.{RisesBy};
 ghost use Rattle.zonal_totals.specs.Books.{IsBookOf};
-ghost use Rattle.zonal_totals.specs.Ranges.{CountsState};
 ghost use Rattle.op_jobs.specs.Fresh.{IsCounts, AreAllCounts};
 ghost use Rattle.op_jobs.specs.Operands.{AreBoth};
 ghost use Rattle.op_jobs.specs.Parts.{part_start};
@@ -14,8 +13,9 @@ ghost use Rattle.op_jobs.specs.declared.ground.Part.{Part};
 ghost use Rattle.op_jobs.specs.declared.ground.Part.TheVariants.{Counts};
 
 use crate::ground::Part;
+use crate::kinds::all_of;
+use crate::operands::both_of;
 use crate::parts::part_start;
-use crate::whole::both_of;
 use layer_tiles::{Extent, Operands, Tally};
 use map_nums::NoMemory;
 use std::alloc::Global;
@@ -46,27 +46,6 @@ pub(crate) fn count_part<M: Tally>(
     Ok(Part::Counts(counts))
 }
 
-/// The counts that were found.
-fn counts_of(alloc: Global, parts: Vec<Part>) -> Result<Vec<TileCounts>, NoMemory>
-    requires { (s : Size) × (values : Cells) × (zones : Cells) × (n : ℕ) × ((k : ℕ) (p : Part) → slice_get parts.items k ≡ Some p → IsCounts s values zones n k p) }
-    ensures count { IfOk result (λ all. length all.items ≡ length parts.items) }
-    ensures each { IfOk result (λ all. (k : ℕ) (c : CountsState) → slice_get all.items k ≡ Some c → slice_get parts.items k ≡ Some (Counts c)) }
-{
-    let count = parts.len();
-    let mut rest = parts.into_iter();
-    let mut all = Vec::with_capacity(alloc, count)?;
-    for _place in 0..count {
-        let Some(one) = rest.next() else {
-            unreachable!();
-        };
-        let Part::Counts(counts) = one else {
-            unreachable!();
-        };
-        all.push(counts)?;
-    }
-    Ok(all)
-}
-
 /// The book of all tiles, from what their parts count.
 pub(crate) fn counted_book(
     alloc: Global,
@@ -77,7 +56,7 @@ pub(crate) fn counted_book(
     ensures size { IfOk result (λ book. book.size ≡ extent) }
     ensures book { IfOk result (λ book. (values zones : Cells) → AreAllCounts extent values zones parts.items → IsBookOf book values zones) }
 {
-    let all = counts_of(alloc, parts)?;
+    let all = all_of::<TileCounts>(alloc, parts)?;
     let book = Book::of_counts(alloc, extent, &all)?;
     Ok(book)
 }

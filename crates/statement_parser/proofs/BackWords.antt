@@ -17,7 +17,7 @@ use Rattle.map_words.specs.Numbers.{if_between}
 use Rattle.map_words.specs.Names.{is_plain, is_reserved, is_among}
 use Rattle.grammar_core.specs.Rules.{Rule, Derives, node, ends, on, next, after, also, or_rule}
 use Rattle.grammar_core.proofs.Ends.{next_derives, also_derives, rest_derives}
-use Rattle.map_defs.specs.Ops.{Term, layer_term, number_term, Head, local_head, difference_head, rating_head, focal_head, zonal_head, form_head, direction_head, flow_head, spread_head, nearest_head, sight_head, region_head, Op, of_one, of_two, local_op, rating_op, focal_op, direction_op, flow_op, sight_op}
+use Rattle.map_defs.specs.Ops.{Term, layer_term, number_term, Head, local_head, rating_head, focal_head, zonal_head, form_head, direction_head, flow_head, spread_head, nearest_head, sight_head, region_head, Op, of_one, of_two, local_op, rating_op, focal_op, direction_op, flow_op, sight_op}
 use Rattle.map_defs.specs.Facts.{HasTerms}
 use Rattle.map_defs.specs.Sight.{Sighting}
 use Rattle.map_defs.specs.Incremental as incremental
@@ -32,7 +32,7 @@ use Rattle.statement_parser.specs.Bodies.{term_after, further_terms, optional_pa
 use Rattle.statement_parser.specs.Commands.{command_text, commands, find_command, command_named}
 use Rattle.statement_parser.specs.Grammar.{define_rule, command_rule, IsLine}
 use Rattle.layer_tiles.specs.Cells.{IsCell}
-use Rattle.statement_parser.specs.Formed.{Each, InScope, AreInScope, IsTerm, IsRate, IsNoProduct, IsBetween, IsRadius, IsSighting, IsHead, IsOp, IsWritten}
+use Rattle.statement_parser.specs.Formed.{Each, InScope, AreInScope, IsTerm, IsRate, IsBetween, IsRadius, IsSighting, IsHead, IsOp, IsWritten}
 use Rattle.statement_parser.specs.There.{HasRow, MayBe, IsOpThere, IsWrittenThere}
 use Rattle.statement_parser.specs.Canonical.{cell_text, optional_texts, rates_texts, radius_texts, sight_texts, friction_texts, ignoring_texts, head_texts, op_texts}
 use Rattle.statement_parser.specs.TermTexts.{term_text, terms_after, terms_texts}

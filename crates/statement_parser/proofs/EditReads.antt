@@ -1,8 +1,7 @@
 -- Reading what lines and the items of branches have in common is reading by its rules.
-use Rattle.std.proofs.Common.{◌≡◌, ℕ, true, false, List, Option, Result, Ok, refl, ◌∙◌}
+use Rattle.std.proofs.Common.{◌≡◌, ℕ, true, false, List, Result, Ok, refl, ◌∙◌}
 use Rattle.std.specs.Prelude.{codes}
 use Rattle.map_words.specs.Bytes.{Text}
-use Rattle.map_defs.specs.Statements.{Written}
 use Rattle.grammar_core.specs.declared.Fault.{Fault}
 use Rattle.grammar_core.specs.Rules.{Rule}
 use Rattle.grammar_core.specs.Run.{run, is_node}

@@ -13,8 +13,8 @@ use Rattle.map_words.specs.Names.{is_plain, is_dotted}
 use Rattle.map_words.specs.Numbers.{number_text, if_between}
 use Rattle.grammar_core.specs.Rules.{Rule, ends, on, next, also}
 use Rattle.grammar_core.proofs.Ends.{AllEnds, each_end, ends_on, ends_next, ends_or, ends_also}
-use Rattle.map_defs.specs.Ops.{Term, layer_term, number_term, Head, local_head, rating_head, focal_head, direction_head, flow_head, sight_head, Op, of_one, of_two, local_op, rating_op, focal_op, direction_op, flow_op, sight_op}
-use Rattle.map_defs.specs.Facts.{facts, HasTerms}
+use Rattle.map_defs.specs.Ops.{Term, layer_term, number_term, Head, local_head, Op, of_one, of_two, local_op, rating_op, focal_op, direction_op, flow_op, sight_op}
+use Rattle.map_defs.specs.Facts.{facts}
 use Rattle.map_defs.specs.Sight.{Sighting}
 use Rattle.map_defs.specs.Statements.{Written, plain, call, Inner}
 use Rattle.statement_parser.specs.Lines.{Manner, define, paint, new_layer, drop, put_label, put_symbol, Item, make as an_item, look_at, ask_value, ask_grid, ask_show, ask_legend, ask_table, ask_stamps, ask_list, ask_branches, Line, edit, undo, ask, model, quit}

@@ -1,6 +1,6 @@
 -- Printed numbers are words that read as the same number.
 use Rattle.std.proofs.Common.{◌≡◌, ℕ, suc, ◌<◌, ◌≤◌, ◌^◌, ℤ, pos, negsuc, Bool, true, false, not, ◌&&◌, [], ◌∷◌, Some, refl, sym, ap, ◌∙◌, arith, nat_eq}
-use Rattle.std.specs.Prelude.{codes, bytes_eq, nat_le, option_map, IsTrue}
+use Rattle.std.specs.Prelude.{codes, bytes_eq, option_map, IsTrue}
 use Rattle.std.specs.List.{list_all}
 use Rattle.std.specs.Char.{is_ascii_digit, is_ascii_alphabetic, digit_value}
 use Rattle.std.specs.Int.{IsInRange}
@@ -9,7 +9,6 @@ use Rattle.std.specs.Str.Parse.{AllDigits, IsNumeral}
 use Rattle.std.proofs.lemmas.Fmt.{decimal_is_IsNumeral}
 use Rattle.std.proofs.lemmas.Str.Parse.{digit_from_value}
 use Rattle.std.proofs.lemmas.Bool.Decides.{nat_tests}
-use Rattle.std.proofs.lemmas.Bool.{leb-true}
 use Rattle.map_nums.specs.Numbers.{is_value, vmin, vmax}
 use Rattle.map_nums.proofs.Ranges.{value_small}
 use Rattle.map_words.specs.Bytes.{Text, is_blank, is_mark, is_good}

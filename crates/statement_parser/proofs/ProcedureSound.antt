@@ -11,7 +11,7 @@ use Rattle.grammar_core.proofs.Parts.{Healthy, Tail, NoBody, through, healthy_no
 use Rattle.grammar_core.proofs.Reading.{IsPlace}
 use Rattle.statement_parser.specs.Lines.{Manner, Line}
 use Rattle.statement_parser.specs.Scopes.{has_name, names_before, anywhere}
-use Rattle.statement_parser.specs.Places.{the, name_of, tests}
+use Rattle.statement_parser.specs.Places.{the, tests}
 use Rattle.statement_parser.specs.ProcedureRules.{fresh_of, further_names, inner_part, result_rule, statements_rule, procedure_line, procedure_rule}
 use Rattle.statement_parser.proofs.SoundBodies.{the_tail, healthy_body}
 use Rattle.statement_parser.proofs.SoundPlaces.{healthy_name}

@@ -6,13 +6,13 @@ use Rattle.grammar_core.specs.declared.Fault.{Fault}
 use Rattle.grammar_core.specs.Run.{run}
 use Rattle.grammar_core.specs.Readers.{◌>>=◌, one_at, end_at, starts}
 use Rattle.statement_parser.specs.Lines.{Manner, Item, ask_grid, ask_show, ask_legend, ask_stamps, Line, blank, ask, quit}
-use Rattle.statement_parser.specs.Commands.{has_command, find_command, command_named}
+use Rattle.statement_parser.specs.Commands.{has_command, command_named}
 use Rattle.statement_parser.specs.Places.{the, maybe, name_of, any_of, value_of, version_of, tests, reading}
 use Rattle.statement_parser.specs.Signs.{sign_of}
 use Rattle.statement_parser.specs.ReadEdits.{defined_at, painted_at, laid_at, dropped_at, looked_at}
 use Rattle.statement_parser.specs.Grammar.{line_rule}
 use Rattle.statement_parser.specs.There.{HasCommand}
-use Rattle.statement_parser.specs.Texts.{seen, is_short, Refusal, long}
+use Rattle.statement_parser.specs.Texts.{seen, is_short, long}
 use Rattle.statement_parser.specs.LineOf.{of_words, of_bytes, line_of}
 use Rattle.statement_parser.specs.ReadLine.{define_at, command_at, statement_at, started_at, line_at}
 use Rattle.statement_parser.specs.ReadCommands.{paint_at, new_at, drop_at, value_at, any_line_at, table_at, undo_at, model_at, list_at}

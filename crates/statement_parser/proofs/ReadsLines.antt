@@ -1,5 +1,5 @@
 -- Reading lines is reading by the rule of lines.
-use Rattle.std.proofs.Common.{◌≡◌, ℕ, suc, true, false, List, [], ◌∷◌, length, Option, Some, None, Result, Ok, refl, ◌∙◌}
+use Rattle.std.proofs.Common.{◌≡◌, suc, true, false, List, [], ◌∷◌, length, Option, Some, None, Result, Ok, refl, ◌∙◌}
 use Rattle.map_words.specs.Bytes.{Text}
 use Rattle.grammar_core.specs.declared.Fault.{Fault}
 use Rattle.grammar_core.specs.Rules.{ends}

@@ -3,7 +3,7 @@ use Rattle.std.proofs.Common.{refl}
 use Rattle.std.specs.Prelude.{codes}
 use Rattle.grammar_core.specs.Rules.{on, ends, ◌<|>◌}
 use Rattle.grammar_core.proofs.Parts.{Healthy, NoBody, healthy_next, healthy_end, healthy_ends, all_on, all_or, tail_ends}
-use Rattle.statement_parser.specs.Lines.{Manner, ask_value, ask_grid, ask_show, ask_legend, ask_table, ask_stamps, ask_list, Line, blank, edit, undo, ask, model, quit}
+use Rattle.statement_parser.specs.Lines.{Manner, ask_value, ask_grid, ask_show, ask_legend, ask_table, ask_stamps, ask_list, blank, edit, undo, ask, model, quit}
 use Rattle.statement_parser.specs.Places.{name_of, version_of, tests}
 use Rattle.statement_parser.specs.Commands.{command_named}
 use Rattle.statement_parser.specs.Grammar.{define_rule, command_rule, line_rule}

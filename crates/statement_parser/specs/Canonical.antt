@@ -6,7 +6,7 @@ use Rattle.map_nums.specs.declared.Rate.{Rate}
 use Rattle.map_nums.specs.Numbers.{vmax}
 use Rattle.map_words.specs.Bytes.{Text}
 use Rattle.statement_parser.specs.Operations.{operation_text, operation_of}
-use Rattle.statement_parser.specs.TermTexts.{term_text, terms_after, terms_texts, listed}
+use Rattle.statement_parser.specs.TermTexts.{term_text, terms_texts, listed}
 use Rattle.statement_parser.specs.Spacing.{spaced}
 use Rattle.map_defs.specs.Sight.{Sighting}
 use Rattle.map_defs.specs.Ops.{Term, layer_term, number_term, Head, local_head, rating_head, focal_head, zonal_head, flow_head, spread_head, nearest_head, sight_head, Op}

@@ -1,9 +1,9 @@
 -- Which lines are there: those whose rows are.
-use Rattle.std.specs.Prelude.{Bool, true, false, ◌∷◌, List, IsTrue}
+use Rattle.std.specs.Prelude.{true, ◌∷◌, List, IsTrue}
 use Rattle.map_nums.specs.declared.Stat.TheVariants.{Sum}
 use Rattle.map_defs.specs.Ops.{Head, local_head, sight_head, Op}
 use Rattle.map_defs.specs.Statements.{Written, plain, call, Inner}
-use Rattle.statement_parser.specs.Lines.{Manner, Edit, define, paint, new_layer, drop, define_procedure, put_label, put_symbol, Item, make, look_at, Request, ask_value, ask_grid, ask_show, ask_legend, ask_table, ask_stamps, ask_list, ask_branches, Line, blank, edit, undo, ask, model, quit}
+use Rattle.statement_parser.specs.Lines.{Manner, Edit, define, paint, new_layer, drop, define_procedure, put_label, put_symbol, Item, make, Request, ask_value, ask_grid, ask_show, ask_legend, ask_table, ask_stamps, ask_list, ask_branches, Line, blank, edit, undo, ask, model, quit}
 use Rattle.statement_parser.specs.Formed.{Each}
 use Rattle.statement_parser.specs.Operations.{operation_text, operation_of, has_row}
 use Rattle.statement_parser.specs.Commands.{command_text, has_command}

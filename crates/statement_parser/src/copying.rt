@@ -1,7 +1,7 @@
 //! Copies of terms, operations, statements' bodies and edits.
 
 ghost use Rattle.std.specs.Prelude.{◌≡◌, IfOk};
-ghost use Rattle.statement_parser.specs.Views.{op_view, written_view, edit_view, terms_view};
+ghost use Rattle.statement_parser.specs.Views.{op_view, written_view, edit_view};
 
 use crate::line::{LineEdit, Written};
 use crate::op::{Op, Term};

@@ -1,6 +1,6 @@
 //! Why a line isn't read.
 
-use grammar_core::{Fault, Kind};
+use grammar_core::Fault;
 use map_nums::NoMemory;
 use std::alloc::{AllocError, AllocFailed};
 

@@ -37,7 +37,7 @@ pub use laws::{lines_are_read, lines_are_settled, worked_lines};
 pub use line::{Item, Line, LineEdit, Request, Written};
 pub use line_text::parse_line;
 pub use op::{Form, Op, Reach, Term};
-pub use operation::Operation;
+pub use operation::{Operation, all_operations};
 pub use printing::print_written;
 pub use procedure::Procedure;
 pub use procedure_text::print_procedure;

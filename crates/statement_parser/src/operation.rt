@@ -3,7 +3,7 @@
 ghost use Rattle.std.specs.Prelude.{◌≡◌, ◌∷◌, ◌++◌, codes, find, bytes_eq};
 ghost use Rattle.map_nums.specs.declared.Stat.TheVariants.{Sum};
 ghost use Rattle.statement_parser.specs.declared.operation.Operation.TheVariants.{Local};
-ghost use Rattle.statement_parser.specs.Operations.{stat_text, form_text, operation_text, has_row, find_operation, operation_named as operation_of_name};
+ghost use Rattle.statement_parser.specs.Operations.{operations, stat_text, form_text, operation_text, has_row, find_operation, operation_named as operation_of_name};
 ghost use Rattle.statement_parser.specs.Views.{manner_of};
 
 use crate::op::Form;
@@ -67,6 +67,13 @@ const OPERATIONS: [Operation; 38] = [
     Operation::Incremental(Form::Aspect),
     Operation::Drainage,
 ];
+
+/// All operations there are.
+pub fn all_operations() -> &'static [Operation]
+    ensures { result.now ≡ operations }
+{
+    &OPERATIONS
+}
 
 fn local_name(stat: Stat) -> &'static [u8]
     ensures { result.now ≡ codes "Local" ++ stat_text stat }

@@ -1,6 +1,6 @@
 //! The canonical text of a statement.
 
-ghost use Rattle.std.specs.Prelude.{◌≡◌, ◌∷◌, ◌++◌, [], IfOk, Some, map, codes, pos, nat_abs, decimal};
+ghost use Rattle.std.specs.Prelude.{◌≡◌, ◌∷◌, ◌++◌, [], IfOk, Some, codes, pos, nat_abs, decimal};
 ghost use Rattle.std.specs.Fmt.{signed_decimal};
 ghost use Rattle.map_nums.specs.Numbers.{vmax};
 ghost use Rattle.map_nums.specs.declared.Stat.TheVariants.{Sum};

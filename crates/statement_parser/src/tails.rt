@@ -1,6 +1,6 @@
 //! The words of a line whose end is read byte by byte.
 
-ghost use Rattle.std.specs.Prelude.{◌≡◌, ◌+◌, ◌<◌, ◌≤◌, ◌^◌, ◌++◌, length, IfOk, IfSome};
+ghost use Rattle.std.specs.Prelude.{◌≡◌, ◌+◌, ◌<◌, ◌≤◌, ◌^◌, ◌++◌, length, IfOk};
 ghost use Rattle.map_words.specs.Bytes.{is_blank as is_blank_byte};
 ghost use Rattle.map_words.specs.Cut.{placed_all};
 ghost use Rattle.map_words.specs.Words.{AreSlices};

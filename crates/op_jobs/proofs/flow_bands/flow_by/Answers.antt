@@ -7,12 +7,13 @@ use Rattle.drainage_flow.specs.FlowBands.{all_flows, AreEven}
 use Rattle.drainage_flow.specs.Whole.{flow_cells}
 use Rattle.drainage_flow.specs.declared.flow_band.FlowBand.{FlowBand}
 use Rattle.drainage_flow.proofs.Seats.{counts_count}
+use Rattle.op_jobs.proofs.OneKind.{flows_kind}
 use Rattle.op_jobs.proofs.FlowBands.{bands_are}
 use Rattle.op_jobs.proofs.flow_bands.flow_by.Goals as goal
 use Rattle.op_jobs.proofs.flow_bands.flow_by.Goals.{After-pour}
 
-pub bands_of-requires : goal.bands_of-requires
-bands_of-requires c = (c.args.extent, c.args.ground.first.items, c.args.ground.second.items, length c.args.parts.items, c.requires.each)
+pub all_of-requires : goal.all_of-requires
+all_of-requires c = λ k p e. flows_kind _ k _ _ _ p (c.requires.each k p e)
 
 pub pour-requires : goal.pour-requires
 pour-requires c = record {

@@ -26,7 +26,7 @@ labels_by-requires-clause-each c = λ k p e.
 pub returns-in_ok-labels-in-Only : goal.returns-in_ok-labels-in-Only
 returns-in_ok-labels-in-Only c =
     let only = found_only c.args.extent (op_view c.args.op.now) c.args.operands.now c.args.ground c.in-Only.cells c.args.parts.items c.in-Only.is c.requires.found in
-    labels_listed c.args.extent c.tiles-tiles.ensures.size c.args.operands.now c.deref.result.now (c.deref.ensures.value ∙ only.cells_are) c.in_ok-labels-in-Only.labels c.in_ok-labels-in-Only.ensures (op_view c.args.op.now) only.regions
+    labels_listed c.args.extent c.tiles-tiles.ensures.size c.args.operands.now c.deref.result.now (c.deref.ensures.value ∙ only.cells_are) c.in_ok-labels-in-Only.labels c.in_ok-labels-in-Only.ensures (op_view c.args.op.now) _ only.regions c.alone.ensures
 
 pub unreachable-requires : goal.unreachable-requires
 unreachable-requires c = tiles_worked c.args.extent (op_view c.args.op.now) c.args.operands.now c.args.ground c.args.parts.items c.in-Tiles.is c.requires.class c.requires.found

@@ -1,11 +1,12 @@
-use Rattle.std.proofs.Common.{List, length, sym, subst}
+use Rattle.std.proofs.Common.{List, sym, subst}
 use Rattle.layer_tiles.specs.Tiles.{tiles_in}
 use Rattle.zonal_totals.specs.Ranges.{CountsState, AreRanges}
+use Rattle.op_jobs.proofs.OneKind.{counts_kind}
 use Rattle.op_jobs.proofs.ZonalParts.{ranges_are}
 use Rattle.op_jobs.proofs.zonal_parts.counted_book.Goals as goal
 
-pub counts_of-requires : goal.counts_of-requires
-counts_of-requires c = (c.args.extent, c.requires.0, c.requires.1, length c.args.parts.items, c.requires.2.each)
+pub all_of-requires : goal.all_of-requires
+all_of-requires c = λ k p e. counts_kind _ k _ _ _ p (c.requires.2.each k p e)
 
 pub of_counts-requires : goal.of_counts-requires
 of_counts-requires c =
