@@ -11,6 +11,7 @@ use map_outside::Counts;
 use map_words::Name;
 use statement_parser::{Language, Line, LineEdit, Place};
 use std::alloc::Global;
+use std::mem::forget;
 use std::process::Abort;
 use std::test::Fail;
 use std::thread::Threads;
@@ -376,5 +377,8 @@ pub fn tried<R: AllocGlobal + Abort + Threads + Sync>(
         workers,
         accepted: 0,
     };
-    trial.plays(steps)
+    let said = trial.plays(steps);
+    // The test ends here: that the engine goes piece by piece would have to be proved too, in minutes.
+    forget(trial);
+    said
 }

@@ -3,6 +3,7 @@ use map_machine::Kind;
 use map_outside::Counts;
 use map_session::{Begun, Reply, Session};
 use map_words::Name;
+use std::mem::forget;
 use std::process::Abort;
 use std::test::Fail;
 use std::thread::Threads;
@@ -212,5 +213,8 @@ pub(crate) fn plays<R: AllocGlobal + Abort + Threads + Sync>(
 ) -> Result<(), Fail> {
     let (mut session, reply) = ready(rt, name, grid)?;
     is_first(rt, &reply);
-    answers(rt, &mut session, steps)
+    let said = answers(rt, &mut session, steps);
+    // The test ends here: that the session goes piece by piece would have to be proved too.
+    forget(session);
+    said
 }
