@@ -3,7 +3,7 @@ use Rattle.std.proofs.Common.{◌≡◌, ℕ, suc, ◌+◌, ◌-◌, ◌*◌, �
 use Rattle.map_nums.specs.Grids.{Size, Cells, cells_in}
 use Rattle.drainage_flow.specs.FlowBands.{IsFlowBand, AreFlowBands}
 use Rattle.drainage_flow.specs.declared.flow_band.FlowBand.{FlowBand}
-use Rattle.op_jobs.specs.Fresh.{IsFlows}
+use Rattle.op_jobs.specs.Grounds.{IsFlows}
 use Rattle.op_jobs.specs.Parts.{part_start}
 use Rattle.op_jobs.specs.declared.ground.Part.{Part}
 use Rattle.op_jobs.specs.declared.ground.Part.TheVariants.{Flows}

@@ -1,36 +1,30 @@
 -- Layers that were not there, in the words of operations.
-use Rattle.std.proofs.Common.{◌≡◌, ℕ, ◌+◌, ◌*◌, ◌<◌, ◌≤◌, false, true, List, [], ◌∷◌, length, Option, Some, None, refl, sym, ap, subst, ◌∙◌, arith, IsTrue}
+use Rattle.std.proofs.Common.{◌≡◌, ℕ, ◌+◌, ◌*◌, ◌≤◌, Bool, false, true, List, [], ◌∷◌, length, Option, Some, None, refl, sym, ap, subst, ◌∙◌, arith, IsTrue}
 use Rattle.std.specs.List.{All}
 use Rattle.std.proofs.lemmas.List.FromFn.{length-range_with_len}
 use Rattle.map_nums.specs.Grids.{Size, Cells, cells_in}
+use Rattle.map_nums.specs.Numbers.{greatest_value}
 use Rattle.map_nums.specs.Tiles.{tiles_in}
 use Rattle.map_defs.specs.Damage.{op_damage}
 use Rattle.map_defs.specs.Operate.{operand}
-use Rattle.map_defs.specs.Facts.{facts}
-use Rattle.map_defs.specs.Ops.{Head, region_head, Op}
+use Rattle.map_defs.specs.Ops.{Head, flow_head, spread_head, nearest_head, region_head, Op}
 use Rattle.layer_tiles.specs.Changes.{ChangeState}
 use Rattle.layer_tiles.specs.Operands.{cells_after}
 use Rattle.layer_tiles.specs.Tallies.{TallyState, RisesBy}
 use Rattle.layer_tiles.proofs.Rising.{rises_then, rises_within}
+use Rattle.map_waves.specs.Found.{AreFound}
 use Rattle.map_waves.specs.Operands.{IsOperand}
 use Rattle.map_waves.specs.Statements.{damage_by}
-use Rattle.op_jobs.specs.Classes.{is_region, is_region_in}
-use Rattle.op_jobs.specs.Fresh.{is_banded, AreBothCells, IsLabels, IsBand, IsPart, grounding}
-use Rattle.op_jobs.specs.Operands.{AreOperandsOf}
+use Rattle.op_jobs.specs.Grounds.{ArePathCells, AreFlowCells, IsBand, IsPart, IsGround, IsGroundOf, IsGrounded, IsGroundPart, AreGrounded, grounding}
 use Rattle.op_jobs.specs.Sound.{first_by}
-use Rattle.op_jobs.specs.declared.ground.BothCells.{BothCells}
+use Rattle.op_jobs.specs.declared.ground.FlowCells.{FlowCells}
+use Rattle.op_jobs.specs.declared.ground.PathCells.{PathCells}
+use Rattle.op_jobs.specs.declared.ground.Ground.{Ground}
+use Rattle.op_jobs.specs.declared.ground.Ground.TheVariants as a_ground
 use Rattle.op_jobs.specs.declared.ground.Part.{Part}
 use Rattle.op_jobs.specs.declared.own.Own.{Own}
 use Rattle.op_jobs.specs.declared.own.Own.TheVariants as an_own
-
--- ---- the head that labels regions
-
-no : false ≡ true → ⊥
-no e = cc
-
-pub region_is : (head : Head) → IsTrue (is_region_in (facts head).class) → head ≡ region_head
-region_is region_head r = refl
-region_is head r = absurd (no r)
+use Rattle.op_jobs.proofs.Repairing.{flow_head_is, spread_head_is, nearest_head_is, region_head_is}
 
 -- ---- reads
 
@@ -50,22 +44,32 @@ begun_rises s op was operands a b c r q =
 
 pub first_least : (own : Own) (d : ℕ) → 28 * d ≤ first_by own d
 first_least (an_own.Tiles jobs) d = omega arith
-first_least (an_own.Whole set) d = omega arith
+first_least (an_own.Whole job) d = omega arith
 
 -- ---- a list for each operand
 
-pub grounded_in : (s : Size) (op : Op) (xs : List ChangeState) (n : ℕ) (ground : BothCells) (a b : ChangeState) → xs ≡ a ∷ b ∷ [] → IsTrue (is_banded op) → AreOperandsOf s op xs → 0 < n → n ≤ s.rows → ground.first.items ≡ a.cells → ground.second.items ≡ b.cells → length a.cells ≡ cells_in a.size
-    → length b.cells ≡ cells_in b.size → AreBothCells s op xs n ground
-grounded_in s op xs n ground a b both banded are some few first second count count' =
-    let these : All (IsOperand s) (a ∷ b ∷ []) = subst (λ (ys : List ChangeState). All (IsOperand s) ys) both are.each in record {
-      banded = banded;
-      formed = are.formed;
-      some = some;
-      few = few;
-      first = first ∙ ap (λ (ys : List ChangeState). operand (cells_after ys) 0) (sym both);
-      second = second ∙ ap (λ (ys : List ChangeState). operand (cells_after ys) 1) (sym both);
-      first_count = ap (λ (ys : Cells). length ys) first ∙ count ∙ ap (λ (z : Size). cells_in z) (these 0 a (omega arith)).size;
-      second_count = ap (λ (ys : Cells). length ys) second ∙ count' ∙ ap (λ (z : Size). cells_in z) (these 1 a (omega arith)).size;
+pub path_cells_are : (s : Size) (xs : List ChangeState) (g : PathCells) (limit : ℕ) (a b : ChangeState) → xs ≡ a ∷ b ∷ [] → All (IsOperand s) xs → limit ≤ greatest_value → g.limit ≡ limit → g.sources.items ≡ a.cells → g.friction.items ≡ b.cells → length a.cells ≡ cells_in a.size → length b.cells ≡ cells_in b.size → ArePathCells s xs limit g
+path_cells_are s xs g limit a b both are low is first second count count' =
+    let these : All (IsOperand s) (a ∷ b ∷ []) = subst (λ (ys : List ChangeState). All (IsOperand s) ys) both are in record {
+      fill = record {
+        low = subst (λ n. n ≤ greatest_value) (sym is) low;
+        sources = ap (λ (ys : Cells). length ys) first ∙ count ∙ ap (λ (z : Size). cells_in z) (these 0 a (omega arith)).size;
+        friction = ap (λ (ys : Cells). length ys) second ∙ count' ∙ ap (λ (z : Size). cells_in z) (these 1 a (omega arith)).size;
+      };
+      limit_is = is;
+      sources_are = first ∙ ap (λ (ys : List ChangeState). operand (cells_after ys) 0) (sym both);
+      friction_are = second ∙ ap (λ (ys : List ChangeState). operand (cells_after ys) 1) (sym both);
+    }
+
+pub flow_cells_are : (s : Size) (xs : List ChangeState) (g : FlowCells) (a b : ChangeState) → xs ≡ a ∷ b ∷ [] → All (IsOperand s) xs → g.surface.items ≡ a.cells → g.weights.items ≡ b.cells → length a.cells ≡ cells_in a.size → length b.cells ≡ cells_in b.size → AreFlowCells s xs g
+flow_cells_are s xs g a b both are first second count count' =
+    let these : All (IsOperand s) (a ∷ b ∷ []) = subst (λ (ys : List ChangeState). All (IsOperand s) ys) both are in record {
+      fill = record {
+        surface = ap (λ (ys : Cells). length ys) first ∙ count ∙ ap (λ (z : Size). cells_in z) (these 0 a (omega arith)).size;
+        weights = ap (λ (ys : Cells). length ys) second ∙ count' ∙ ap (λ (z : Size). cells_in z) (these 1 a (omega arith)).size;
+      };
+      surface_is = first ∙ ap (λ (ys : List ChangeState). operand (cells_after ys) 0) (sym both);
+      weights_are = second ∙ ap (λ (ys : List ChangeState). operand (cells_after ys) 1) (sym both);
     }
 
 pub lists_rise : (s : Size) (xs : List ChangeState) (x y : ChangeState) (a b c : TallyState) → xs ≡ x ∷ y ∷ [] → All (IsOperand s) xs → RisesBy (tiles_in x.size) 0 a b → RisesBy (tiles_in y.size) 0 b c → RisesBy (2 * tiles_in s) 0 a c
@@ -75,18 +79,40 @@ lists_rise s xs x y a b c both are r q =
     let other = ap (λ (z : Size). tiles_in z) (these 1 x (omega arith)).size in
     rises_within (tiles_in x.size + tiles_in y.size) (0 + 0) (2 * tiles_in s) 0 a c (omega (arith, one, other)) (omega arith) (rises_then (tiles_in x.size) 0 (tiles_in y.size) 0 a b c r q)
 
-pub list_rises : (s : Size) (xs : List ChangeState) (x y : ChangeState) (a b : TallyState) → xs ≡ x ∷ y ∷ [] → All (IsOperand s) xs → RisesBy (tiles_in x.size) 0 a b → RisesBy (2 * tiles_in s) 0 a b
-list_rises s xs x y a b both are r =
-    let these : All (IsOperand s) (x ∷ y ∷ []) = subst (λ (ys : List ChangeState). All (IsOperand s) ys) both are in
-    let one = ap (λ (z : Size). tiles_in z) (these 0 x (omega arith)).size in
-    rises_within (tiles_in x.size) 0 (2 * tiles_in s) 0 a b (omega (arith, one)) (omega arith) r
+-- ---- from an operation's own parts to those of its ground, and back
 
--- ---- from an operation's own parts to its kernel's
-
-pub band_is : (s : Size) (op : Op) (operands : List ChangeState) (one other : Cells) (head : Head) → one ≡ operand (cells_after operands) 0 → other ≡ operand (cells_after operands) 1 → op.head ≡ head → (n k : ℕ) (p : Part) → IsPart s op operands n k p → IsBand head s one other n k p
+band_is : (s : Size) (op : Op) (operands : List ChangeState) (one other : Cells) (head : Head) → one ≡ operand (cells_after operands) 0 → other ≡ operand (cells_after operands) 1 → op.head ≡ head → (n k : ℕ) (p : Part) → IsPart s op operands n k p → IsBand head s one other n k p
 band_is s op operands one other head e f is n k p h =
     subst (λ (x : Head). IsBand x s one other n k p) is
     (subst (λ (xs : Cells). IsBand op.head s xs other n k p) (sym e) (subst (λ (xs : Cells). IsBand op.head s (operand (cells_after operands) 0) xs n k p) (sym f) h))
 
-pub labels_part : (s : Size) (op : Op) (operands : List ChangeState) (cells : Cells) → IsTrue (is_region op) → cells ≡ operand (cells_after operands) 0 → (n k : ℕ) (p : Part) → IsPart s op operands n k p → IsLabels s cells n k p
-labels_part s op operands cells r e = band_is s op operands cells (operand (cells_after operands) 1) region_head e refl (region_is op.head r)
+part_is : (s : Size) (op : Op) (operands : List ChangeState) (one other : Cells) (head : Head) → one ≡ operand (cells_after operands) 0 → other ≡ operand (cells_after operands) 1 → op.head ≡ head → (n k : ℕ) (p : Part) → IsBand head s one other n k p → IsPart s op operands n k p
+part_is s op operands one other head e f is n k p h =
+    subst (λ (ys : Cells). IsBand op.head s (operand (cells_after operands) 0) ys n k p) f (subst (λ (xs : Cells). IsBand op.head s xs other n k p) e (subst (λ (x : Head). IsBand x s one other n k p) (sym is) h))
+
+no : false ≡ true → ⊥
+no e = cc
+
+-- its cells are laid out
+abbrev pub is_laid : Ground → Bool
+is_laid a_ground.Zones = false
+is_laid from = true
+
+module _ (s : Size) (op : Op) (operands : List ChangeState) where
+  pub ground_part : (ground : Ground) → IsGroundOf op ground → IsGround s operands ground → (n k : ℕ) (p : Part) → IsPart s op operands n k p → IsGroundPart s ground n k p
+  ground_part (a_ground.Costs g) of is = band_is s op operands g.sources.items g.friction.items (spread_head g.limit) is.sources_are is.friction_are (spread_head_is g.limit op.head of)
+  ground_part (a_ground.Nearest g) of is = band_is s op operands g.sources.items g.friction.items (nearest_head g.limit) is.sources_are is.friction_are (nearest_head_is g.limit op.head of)
+  ground_part (a_ground.Flow g) of is = band_is s op operands g.surface.items g.weights.items flow_head is.surface_is is.weights_are (flow_head_is op.head of)
+  ground_part (a_ground.Regions cells) of is = band_is s op operands cells.items (operand (cells_after operands) 1) region_head is.cells_are refl (region_head_is op.head of)
+  ground_part a_ground.Zones of is = λ n k p h. tt
+
+  pub part_of_ground : (ground : Ground) → IsGroundOf op ground → IsGround s operands ground → (n k : ℕ) (p : Part) → IsTrue (is_laid ground) → IsGroundPart s ground n k p → IsPart s op operands n k p
+  part_of_ground (a_ground.Costs g) of is n k p laid = part_is s op operands g.sources.items g.friction.items (spread_head g.limit) is.sources_are is.friction_are (spread_head_is g.limit op.head of) n k p
+  part_of_ground (a_ground.Nearest g) of is n k p laid = part_is s op operands g.sources.items g.friction.items (nearest_head g.limit) is.sources_are is.friction_are (nearest_head_is g.limit op.head of) n k p
+  part_of_ground (a_ground.Flow g) of is n k p laid = part_is s op operands g.surface.items g.weights.items flow_head is.surface_is is.weights_are (flow_head_is op.head of) n k p
+  part_of_ground (a_ground.Regions cells) of is n k p laid = part_is s op operands cells.items (operand (cells_after operands) 1) region_head is.cells_are refl (region_head_is op.head of) n k p
+  part_of_ground a_ground.Zones of is n k p laid = absurd (no laid)
+
+  -- all parts that were found
+  pub grounded : (ground : Ground) (parts : List Part) → AreFound IsGrounded IsPart s op operands ground parts → IsGroundOf op ground × AreGrounded s operands ground parts
+  grounded ground parts found = (found.from.of, record { from = found.from.is; some = found.from.some; each = λ k p e. ground_part ground found.from.of found.from.is (length parts) k p (found.each k p e) })

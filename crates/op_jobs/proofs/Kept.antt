@@ -1,5 +1,5 @@
 -- What is kept of a statement, to the functions of its class.
-use Rattle.std.proofs.Common.{◌≡◌, ℕ, ◌*◌, ◌≤◌, true, List, length, Option, Some, None, Result, Err, ℤ, refl, sym, ◌∙◌, ap, subst, arith, IsTrue, IsFalse}
+use Rattle.std.proofs.Common.{◌≡◌, ℕ, ◌*◌, true, List, [], ◌∷◌, length, Option, Some, None, Result, Ok, Err, ℤ, refl, sym, ◌∙◌, ap, subst, arith, IsTrue, IsFalse}
 use Rattle.std.specs.Prelude.{is_some, IfSome}
 use Rattle.std.specs.Borrow.{Bor}
 use Rattle.std.specs.Option.{option_copied}
@@ -16,7 +16,6 @@ use Rattle.layer_tiles.specs.Patches.{PatchState}
 use Rattle.layer_tiles.specs.Tallies.{TallyState, RisesBy}
 use Rattle.layer_tiles.specs.declared.kernels.KernelRefusal.{KernelRefusal}
 use Rattle.layer_tiles.specs.declared.kernels.KernelRefusal.TheVariants.{Overflow, NoMemory}
-use Rattle.layer_tiles.proofs.Rising.{rises_within}
 use Rattle.damage_sets.specs.Sets.{TileSetState}
 use Rattle.tile_work.specs.Working.{before_of}
 use Rattle.zonal_totals.specs.Books.{BookState}
@@ -26,24 +25,29 @@ use Rattle.map_waves.specs.Jobs.{was_in}
 use Rattle.map_waves.specs.Keeping.{was_of, IsRightKept}
 use Rattle.map_waves.specs.declared.keeping.Kept.{Kept}
 use Rattle.op_jobs.specs.Beside.{suits, suits_in, IsBook, AreViewers, book_at, book_in, viewers_at, kept_viewers, layer_in}
-use Rattle.op_jobs.specs.Classes.{is_nearest, is_nearest_in}
+use Rattle.op_jobs.specs.Classes.{is_nearest_in}
 use Rattle.op_jobs.specs.Owning.{IsOwn, IsWholeJob, reached}
 use Rattle.op_jobs.specs.Pieces.{IsWholeMade, IsWholePiece, IsWholeRepaired}
-use Rattle.op_jobs.specs.Sound.{StatementJobs, IsSound, IsPiece, IsPieceOf, is_whole, now_in}
+use Rattle.op_jobs.specs.Repairs.{IsRepairOf}
+use Rattle.op_jobs.specs.Sound.{StatementJobs, IsSound, IsPiece, IsPieceOf, ArePieces, now_in}
 use Rattle.op_jobs.specs.Whole.{IsRightBefore, IsWholeAnswer, count_any}
 use Rattle.op_jobs.specs.Zonal.{IsRightBook}
 use Rattle.op_jobs.specs.declared.beside.Beside.{Beside}
 use Rattle.op_jobs.specs.declared.beside.Beside.TheVariants.{Nothing, Book, Viewers}
 use Rattle.op_jobs.specs.declared.own.Own.{Own}
 use Rattle.op_jobs.specs.declared.own.Own.TheVariants as an_own
+use Rattle.op_jobs.specs.declared.own.Lone.{Lone}
+use Rattle.op_jobs.specs.declared.own.Repair.{Repair}
+use Rattle.op_jobs.specs.declared.own.Repair.TheVariants.{Alone}
+use Rattle.op_jobs.specs.declared.own.WholeJob.{WholeJob}
 use Rattle.op_jobs.specs.declared.pieces.Piece.{Piece}
+use Rattle.op_jobs.specs.declared.pieces.Piece.TheVariants.{Tile, Whole}
+use Rattle.map_waves.specs.declared.keeping.Made.{Made}
+use Rattle.op_jobs.proofs.Repairing.{alone_other}
 use Rattle.op_jobs.proofs.WholeDamage.{alone_damaged, damage_counted}
 use Rattle.op_jobs.proofs.ZonalStays.{range_from_faultless}
 
 -- ---- reads
-
-pub rises_more : (k d w : ℕ) (a b : TallyState) → k ≤ 34 * d → RisesBy k 0 a b → RisesBy (60 * d) (1000 * w) a b
-rises_more k d w a b l r = rises_within k 0 (60 * d) (1000 * w) a b (omega (arith, l)) (omega arith) r
 
 -- ---- the book
 
@@ -112,12 +116,12 @@ whole_refusal s op was operands NoMemory is = tt
 
 -- ---- one job for all
 
-pub piece_whole : (j : StatementJobs) (set : TileSetState) (k : ℕ) (r : Result Piece KernelRefusal) → j.own ≡ an_own.Whole set → IsWholePiece j.size (op_view j.op) (was_in j) j.operands r → IsPiece j k r
+pub piece_whole : (j : StatementJobs) (job : WholeJob) (k : ℕ) (r : Result Piece KernelRefusal) → j.own ≡ an_own.Whole job → IsWholePiece j.size (op_view j.op) (was_in j) j.operands r → IsPiece j k r
 unfolding IsPiece
-piece_whole j set k r own p = let P : Own → Type 0 = λ o. IsPieceOf o j k r in subst P (sym own) p
+piece_whole j job k r own p = let P : Own → Type 0 = λ o. IsPieceOf o j k r in subst P (sym own) p
 
-pub whole_own : (j : StatementJobs) (set : TileSetState) → IsSound j → j.own ≡ an_own.Whole set → IsWholeJob j.size (op_view j.op) j.operands (was_in j) set
-whole_own j set is e = let P : Own → Type 0 = λ o. IsOwn j.size (op_view j.op) j.operands (was_in j) o in subst P e is.own_is
+pub whole_own : (j : StatementJobs) (job : WholeJob) → IsSound j → j.own ≡ an_own.Whole job → IsWholeJob j.size (op_view j.op) j.operands (was_in j) job
+whole_own j job is e = let P : Own → Type 0 = λ o. IsOwn j.size (op_view j.op) j.operands (was_in j) o in subst P e is.own_is
 
 pub reached_size : (s : Size) (was : Option Cells) (operands : List ChangeState) (set : TileSetState) → set ≡ reached 0 s was operands → set.size ≡ s
 reached_size s None operands set e = ap (λ (d : TileSetState). d.size) e
@@ -129,34 +133,37 @@ work_beside (sight_class r) s cells e f = absurd cc
 work_beside (nearest_class limit) s cells e f = absurd cc
 work_beside class s cells e f = tt
 
-module _ (j : StatementJobs) (touched : TileSetState) (is : IsSound j) (own : j.own ≡ an_own.Whole touched) where
-  pub touched_size : touched.size ≡ j.size
-  touched_size = reached_size j.size (was_in j) j.operands touched (whole_own j touched is own).set_is
+module _ (j : StatementJobs) (job : WholeJob) (is : IsSound j) (own : j.own ≡ an_own.Whole job) where
+  pub touched_size : job.touched.size ≡ j.size
+  touched_size = reached_size j.size (was_in j) j.operands job.touched (whole_own j job is own).set_is
 
   -- where nothing stands beside the layer
-  pub alone_repaired : (patch : PatchState) (work : ℕ) → IsFalse (is_nearest (op_view j.op)) → IsWholeMade j.size (op_view j.op) (was_in j) j.operands patch work
-      → IsWholeRepaired j.size (op_view j.op) (was_in j) j.operands (record { patch = patch; beside = Nothing; evaluated = count_any touched patch None; worked = work })
-  alone_repaired patch work alone made =
-      let job = whole_own j touched is own in
+  pub alone_repaired : (lone : Lone) (patch : PatchState) (work : ℕ) → job.repair ≡ Alone lone → IsWholeMade j.size (op_view j.op) (was_in j) j.operands patch work
+      → IsWholeRepaired j.size (op_view j.op) (was_in j) j.operands (record { patch = patch; beside = Nothing; evaluated = count_any job.touched patch None; worked = work })
+  alone_repaired lone patch work repair made =
+      let whole = whole_own j job is own in
       let class = class_of (op_view j.op) in
+      let alone = alone_other lone (op_view j.op).head (subst (λ (r : Repair). IsRepairOf (op_view j.op) r) repair whole.repair_is) in
       record {
         repaired = record {
           size = made.size;
           cells = made.cells;
           exact = made.exact;
-          beside = work_beside class j.size (cells_after j.operands) job.class alone;
-          evaluated = damage_counted j.size (op_view j.op) j.operands touched patch None (was_in j) job.class made.size job.set_is made.exact (λ w e t l. alone_damaged class j.size (cells_were j.operands) (cells_after j.operands) w (now_in j) t job.class alone);
+          beside = work_beside class j.size (cells_after j.operands) whole.class alone;
+          evaluated = damage_counted j.size (op_view j.op) j.operands job.touched patch None (was_in j) whole.class made.size whole.set_is made.exact (λ w e t l. alone_damaged class j.size (cells_were j.operands) (cells_after j.operands) w (now_in j) t whole.class alone);
           worked = made.work_is;
           little = made.little;
         };
         narrow = made.narrow;
       }
 
--- the piece of the one job
-pub whole_is : (j : StatementJobs) (r : Result Piece KernelRefusal) → IsTrue (is_whole j.own) → IsPiece j 0 r → IsWholePiece j.size (op_view j.op) (was_in j) j.operands r
-unfolding IsPiece
-whole_is j r e p = at j.own e p
-  where
-    at : (o : Own) → IsTrue (is_whole o) → IsPieceOf o j 0 r → IsWholePiece j.size (op_view j.op) (was_in j) j.operands r
-    at (an_own.Tiles jobs) e p = absurd cc
-    at (an_own.Whole set) e p = p
+  -- the piece of the one job
+  pub whole_pieces : (pieces : List Piece) → length pieces ≡ 1 → ArePieces j pieces → (m : Made Beside) × (pieces ≡ Whole m ∷ []) × IsWholeRepaired j.size (op_view j.op) (was_in j) j.operands m
+  unfolding IsPiece
+  whole_pieces [] n are = absurd (omega (arith, n))
+  whole_pieces (p ∷ []) n are = at p (let P : Own → Type 0 = λ o. IsPieceOf o j 0 (Ok p) in subst P own (are 0 p refl))
+    where
+      at : (p : Piece) → IsWholePiece j.size (op_view j.op) (was_in j) j.operands (Ok p) → (m : Made Beside) × (p ∷ [] ≡ Whole m ∷ []) × IsWholeRepaired j.size (op_view j.op) (was_in j) j.operands m
+      at (Whole m) is = (m, refl, is)
+      at (Tile made) is = absurd is
+  whole_pieces (p ∷ q ∷ pieces) n are = absurd (omega (arith, n))

@@ -3,7 +3,7 @@ use Rattle.std.proofs.Common.{◌≡◌, ℕ, suc, ◌<◌, List, length, Some, 
 use Rattle.map_nums.specs.Grids.{Size, Cells}
 use Rattle.region_labels.specs.Provisional.{AreLabelBands}
 use Rattle.region_labels.specs.declared.bands.LabelBand.{LabelBand}
-use Rattle.op_jobs.specs.Fresh.{IsLabels}
+use Rattle.op_jobs.specs.Grounds.{IsLabels}
 use Rattle.op_jobs.specs.Parts.{part_start}
 use Rattle.op_jobs.specs.declared.ground.Part.{Part}
 use Rattle.op_jobs.specs.declared.ground.Part.TheVariants.{Labels}

@@ -1,14 +1,14 @@
 -- Layers that were not there, place by place, in the words of operations.
-use Rattle.std.proofs.Common.{◌≡◌, ℕ, ◌^◌, ◌<◌, List, Option, Some, None, Result, refl, sym, ◌∙◌, ap, subst, arith, IsTrue, IsFalse}
+use Rattle.std.proofs.Common.{◌≡◌, ℕ, ◌^◌, ◌<◌, List, None, refl, sym, ◌∙◌, ap, subst, IsTrue, IsFalse}
 use Rattle.map_nums.specs.Grids.{Size, IsSize, Cells}
 use Rattle.map_nums.specs.Tiles.{tiles}
 use Rattle.map_defs.specs.Damage.{op_damage, has_work}
 use Rattle.map_defs.specs.Flow.{flow_grid}
 use Rattle.map_defs.specs.Operate.{operate, operand}
 use Rattle.map_defs.specs.Differences.{costs_by}
-use Rattle.map_defs.specs.Facts.{Class, local_class, class_of, is_repaired}
+use Rattle.map_defs.specs.Facts.{class_of}
 use Rattle.map_defs.specs.Nearest.{AreNearest, nearest_grid}
-use Rattle.map_defs.specs.Ops.{Head, region_head, Op, Term, flow_op, spread_op, nearest_op}
+use Rattle.map_defs.specs.Ops.{Op, Term, flow_op, spread_op, nearest_op, region_op}
 use Rattle.map_defs.specs.Regions.{AreRegions}
 use Rattle.map_defs.specs.Rounds.{spread_grid, region_grid}
 use Rattle.map_defs.specs.Spread.{IsSpread}
@@ -16,11 +16,8 @@ use Rattle.map_defs.specs.Work.{op_work, first_work}
 use Rattle.map_defs.proofs.NearestCells.{nearest_is, nearest_only}
 use Rattle.map_defs.proofs.RegionCells.{regions_are, regions_only}
 use Rattle.map_defs.proofs.SpreadCells.{spread_is, spread_only}
-use Rattle.layer_tiles.specs.Answers.{IsTileAnswer}
 use Rattle.layer_tiles.specs.Changes.{ChangeState}
 use Rattle.layer_tiles.specs.Operands.{cells_after}
-use Rattle.layer_tiles.specs.Tiles.{Block}
-use Rattle.layer_tiles.specs.declared.kernels.KernelRefusal.{KernelRefusal}
 use Rattle.friction_spread.specs.Bands.{ground_of}
 use Rattle.friction_spread.specs.Lists.{IsCostList, list_cells as cost_cells}
 use Rattle.friction_spread.specs.declared.lists.CostList.{CostList}
@@ -29,44 +26,21 @@ use Rattle.region_labels.specs.Provisional.{IsLabelList}
 use Rattle.region_labels.specs.declared.shows.ProvisionalLabels.{ProvisionalLabels}
 use Rattle.map_waves.specs.Statements.{made, damage_by, work_by, cells_were}
 use Rattle.op_jobs.specs.Beside.{AreCosts}
-use Rattle.op_jobs.specs.Classes.{is_local_in, is_nearest, is_region}
-use Rattle.op_jobs.specs.Lists.{IsList, list_cells, IsListMade, IsFreshMade, IsListOf}
+use Rattle.op_jobs.specs.Classes.{is_nearest}
+use Rattle.op_jobs.specs.Lists.{IsList, list_cells, IsListMade, IsFreshMade}
 use Rattle.op_jobs.specs.Nearest.{IsNearestFresh}
 use Rattle.op_jobs.specs.declared.beside.Beside.TheVariants.{Nothing}
 use Rattle.op_jobs.specs.declared.lists.FreshLayer.{FreshLayer}
 use Rattle.op_jobs.specs.declared.lists.LayerList.{LayerList}
 use Rattle.op_jobs.specs.declared.lists.LayerList.TheVariants.{Costs, Nearest, Labels}
-use Rattle.op_jobs.proofs.FreshOps.{region_is}
-use Rattle.op_jobs.proofs.Hits.{work_none}
 use Rattle.op_jobs.proofs.Kept.{work_beside}
 use Rattle.op_jobs.proofs.WholeRanges.{nearest_work, work_little}
-
--- ---- what a list tells of the jobs that share it
-
-pub work_told : (s : Size) (op : Op) (operands : List ChangeState) (was : Option Cells) (list : Option LayerList) (work : ℕ) → IsListOf s op operands was list work → (work ≡ work_by s op was operands) × (work < 2 ^ 32)
-work_told s op operands was None work is = (is.1 ∙ sym (work_none s op was operands is.0), omega (arith, is.1))
-work_told s op operands was (Some list) work is = (is.1.work_is ∙ ap (λ (w : Option Cells). work_by s op w operands) (sym is.0), is.1.little)
-
-module _ (s : Size) (op : Op) (operands : List ChangeState) (was : Option Cells) (work : ℕ) where
-  pub class_told : (list : Option LayerList) → ((l : LayerList) → list ≡ Some l → ⊥) → IsListOf s op operands was list work → IsFalse (has_work op)
-  class_told None none is = is.0
-  class_told (Some l) none is = absurd (none l refl)
-
-  pub made_told : (list : Option LayerList) (l : LayerList) → list ≡ Some l → IsListOf s op operands was list work → IsListMade s op operands l work
-  made_told list l e is = let P : Option LayerList → Type 0 = λ o. IsListOf s op operands was o work in (subst P e is).1
-
-pub answer_told : (s : Size) (op : Op) (operands : List ChangeState) (list : LayerList) (work t : ℕ) (r : Result Block KernelRefusal) → IsListMade s op operands list work → IsTileAnswer s (list_cells s list) t r → IsTileAnswer s (made s op (cells_after operands)) t r
-answer_told s op operands list work t r is = subst (λ (cells : Cells). IsTileAnswer s cells t r) is.cells
 
 -- ---- operations that take work where there was no layer
 
 pub all_damaged : (s : Size) (op : Op) (operands : List ChangeState) → tiles s ≡ damage_by s op None operands
 unfolding op_damage
 all_damaged s op operands = refl
-
-pub work_not_local : (class : Class) → IsTrue (is_repaired class) → IsFalse (is_local_in class)
-work_not_local local_class e = absurd cc
-work_not_local class e = refl
 
 work_fresh : (s : Size) (op : Op) (operands : List ChangeState) → IsTrue (has_work op) → work_by s op None operands ≡ first_work s (made s op (cells_after operands))
 unfolding op_work
@@ -130,11 +104,10 @@ module _ (s : Size) (h : IsSize s) (operands : List ChangeState) (one other : Ce
       })
 
 module _ (s : Size) (h : IsSize s) (operands : List ChangeState) (one : Cells) (e : one ≡ operand (cells_after operands) 0) (list : ProvisionalLabels) (is : IsLabelList s one list) where
-  pub labels_listed : (op : Op) (fresh : FreshLayer) → IsTrue (is_region op) → fresh ≡ alone (Labels list) list.worked → IsFreshMade s op operands fresh
+  pub labels_listed : (op : Op) (t : Term) (fresh : FreshLayer) → op ≡ region_op t → fresh ≡ alone (Labels list) list.worked → IsFreshMade s op operands fresh
   unfolding operate
-  labels_listed op fresh r alone_is =
+  labels_listed op t fresh o alone_is =
       let of = operand (cells_after operands) 0 in
       let here : AreRegions s of (list_cells s (Labels list)) = subst (λ (xs : Cells). AreRegions s xs (list_cells s (Labels list))) e is.regions in
       let cells : list_cells s (Labels list) ≡ (region_grid s of).cells = regions_only s of _ _ here (regions_are s of) in
-      let P : Head → Type 0 = λ h. IsFreshMade s (record { head = h; terms = op.terms }) operands (alone (Labels list) list.worked) in
-      rw (alone_is) (subst P (sym (region_is op.head r)) (alone_listed s (record { head = region_head; terms = op.terms }) operands (Labels list) list.worked h refl refl (is.back, is.count) cells is.worked))
+      rw (o, alone_is) (alone_listed s (region_op t) operands (Labels list) list.worked h refl refl (is.back, is.count) cells is.worked)

@@ -1,4 +1,5 @@
 pub mod Operating
+pub mod Repairing
 pub mod Narrow
 pub mod Sharing
 pub mod Telling
@@ -49,3 +50,6 @@ pub mod Kept
 pub mod NearestJobs
 pub mod Once
 pub mod OneKind
+pub mod After
+pub mod Plain
+pub mod Owned

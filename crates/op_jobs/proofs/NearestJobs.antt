@@ -1,12 +1,9 @@
 -- The job of a nearest-source statement, to its kernel and back.
-use Rattle.std.proofs.Common.{◌≡◌, ℕ, ◌*◌, ℤ, unsigned_abs, List, [], ◌∷◌, length, Option, Some, None, refl, sym, ◌∙◌, ap, subst, arith, IsTrue}
-use mir.Val.{to_z, of_z}
+use Rattle.std.proofs.Common.{◌≡◌, ℕ, ◌*◌, List, [], ◌∷◌, length, Option, Some, None, refl, sym, ◌∙◌, ap, subst, arith}
 use Rattle.std.specs.List.{All}
 use Rattle.std.specs.Option.{IsSome}
-use Rattle.map_nums.specs.Widths.{value_width}
 use Rattle.map_nums.specs.Grids.{Size, Cells}
 use Rattle.map_defs.specs.Differences.{costs_by}
-use Rattle.map_defs.specs.Facts.{Class, nearest_class, class_of}
 use Rattle.map_defs.specs.Nearest.{AreNearest}
 use Rattle.map_defs.specs.Operate.{operate}
 use Rattle.map_defs.specs.Ops.{Op, Term, nearest_op}
@@ -18,20 +15,16 @@ use Rattle.layer_tiles.specs.Layers.{LayerState}
 use Rattle.layer_tiles.specs.Operands.{size_of}
 use Rattle.layer_tiles.specs.Tallies.{TallyState, RisesBy}
 use Rattle.tile_work.specs.Working.{before_of}
-use Rattle.damage_sets.specs.Sets.{TileSetState}
 use Rattle.friction_neighbor.specs.Results.{costs_of, values_of, AreRightBefore, AreOldFor}
 use Rattle.friction_neighbor.specs.declared.repair.Nearest.{Nearest}
-use Rattle.statement_parser.specs.Views.{op_view, term_view}
-use Rattle.statement_parser.specs.declared.op.Op.TheVariants as an_op
-use Rattle.statement_parser.specs.declared.op.Term as terms
+use Rattle.statement_parser.specs.Views.{op_view}
 use Rattle.map_waves.specs.Jobs.{was_in}
 use Rattle.map_waves.specs.Keeping.{IsRightKept}
 use Rattle.map_waves.specs.Operands.{IsOperand}
 use Rattle.map_waves.specs.Statements.{cells_were, damage_by, work_by}
 use Rattle.map_waves.specs.declared.keeping.Kept.{Kept}
 use Rattle.map_waves.specs.declared.keeping.Made.{Made}
-use Rattle.op_jobs.specs.Beside.{suits, suits_in, AreCosts, costs_at, costs_in, layer_in}
-use Rattle.op_jobs.specs.Classes.{is_nearest, is_nearest_in}
+use Rattle.op_jobs.specs.Beside.{suits, AreCosts, costs_at, costs_in, layer_in}
 use Rattle.op_jobs.specs.Nearest.{HasCosts, AreHanded}
 use Rattle.op_jobs.specs.Owning.{reached}
 use Rattle.op_jobs.specs.Pieces.{IsWholeRepaired}
@@ -40,23 +33,19 @@ use Rattle.op_jobs.specs.Sound.{StatementJobs, IsSound, damage_in}
 use Rattle.op_jobs.specs.declared.beside.Beside.{Beside}
 use Rattle.op_jobs.specs.declared.beside.Beside.TheVariants.{Costs}
 use Rattle.op_jobs.specs.declared.own.Own.TheVariants as an_own
+use Rattle.op_jobs.specs.declared.own.WholeJob.{WholeJob}
 use Rattle.op_jobs.proofs.Kept.{before_is, whole_own}
 use Rattle.op_jobs.proofs.Sharing.{extent_is}
-use Rattle.op_jobs.proofs.WholeOps.{nearest_limit_is}
 
 -- ---- what is kept
 
-costs_there : (class : Class) (s : Size) (cells : List Cells) (b : Beside) → IsTrue (is_nearest_in class) → suits_in class s cells b → IsSome (costs_at b)
-costs_there (nearest_class limit) s cells b e is = at b is
-  where
-    at : (b : Beside) → AreCosts s (costs_by limit s cells) b → IsSome (costs_at b)
-    at (Costs l) is = refl
-    at b is = absurd is
-costs_there class s cells b e is = absurd cc
+costs_there : (limit : ℕ) (s : Size) (cells : List Cells) (b : Beside) → AreCosts s (costs_by limit s cells) b → IsSome (costs_at b)
+costs_there limit s cells (Costs l) is = refl
+costs_there limit s cells b is = absurd is
 
-pub has_costs : (s : Size) (op : Op) (operands : List ChangeState) (kept : Option (Kept Beside)) → IsTrue (is_nearest op) → IsRightKept suits s op operands kept → HasCosts kept
-has_costs s op operands None e is = tt
-has_costs s op operands (Some k) e is = costs_there (class_of op) s (cells_were operands) k.beside e is.beside
+pub has_costs : (s : Size) (op : Op) (operands : List ChangeState) (kept : Option (Kept Beside)) (limit : ℕ) (t u : Term) → op ≡ nearest_op limit t u → IsRightKept suits s op operands kept → HasCosts kept
+has_costs s op operands None limit t u e is = tt
+has_costs s op operands (Some k) limit t u e is = costs_there limit s (cells_were operands) k.beside (subst (λ (o : Op). suits s o (cells_were operands) k.beside) e is.beside)
 
 right_before : (sources friction : ChangeState) (limit : ℕ) (t u : Term) (kept : Option (Kept Beside)) (old : Option Nearest) → costs_of old ≡ costs_in kept → values_of old ≡ layer_in kept → IsRightKept suits sources.size (nearest_op limit t u) (sources ∷ friction ∷ []) kept → AreOldFor sources friction limit old
 unfolding operate
@@ -86,19 +75,16 @@ right_before sources friction limit t u (Some k) (Some n) e f is = at k.beside e
 carried : (P : Size → Op → Option Cells → List ChangeState → Type 0) (s z : Size) (op o : Op) (was w : Option Cells) (xs ys : List ChangeState) → s ≡ z → op ≡ o → was ≡ w → xs ≡ ys → P s op was xs → P z o w ys
 carried P s z op o was w xs ys e f g h p = subst (λ x. P x o w ys) e (subst (λ x. P s x w ys) f (subst (λ x. P s op x ys) g (subst (P s op was) h p)))
 
--- the jobs as they are seen, both operands, the operation as it is written, and what is kept
-module _ (j : StatementJobs) (is : IsSound j) (x : StatementJobs) (seen : x ≡ j) (a b : ChangeState) (both : x.operands ≡ a ∷ b ∷ []) (limit : ℕ) (z : ℤ) (t u : terms.Term) (written : x.op ≡ an_op.Neighbor t u z) (number : limit ≡ unsigned_abs (to_z value_width (of_z value_width z))) (old : Option Nearest) (costs : costs_of old ≡ costs_in x.kept) (values : values_of old ≡ layer_in x.kept) where
+-- the jobs as they are seen, both operands, the operation, and what is kept
+module _ (j : StatementJobs) (is : IsSound j) (x : StatementJobs) (seen : x ≡ j) (a b : ChangeState) (both : x.operands ≡ a ∷ b ∷ []) (limit : ℕ) (t u : Term) (view : op_view j.op ≡ nearest_op limit t u) (old : Option Nearest) (costs : costs_of old ≡ costs_in x.kept) (values : values_of old ≡ layer_in x.kept) where
   abbrev op : Op
-  op = nearest_op limit (term_view t) (term_view u)
+  op = nearest_op limit t u
 
   operands : j.operands ≡ a ∷ b ∷ []
   operands = ap (λ (y : StatementJobs). y.operands) (sym seen) ∙ both
 
   extent : j.size ≡ a.size
   extent = sym (extent_is j.size (op_view j.op) j.operands is.edited.operands_are) ∙ ap size_of operands
-
-  view : op_view j.op ≡ op
-  view = nearest_limit_is (op_view j.op) limit z (term_view t) (term_view u) (ap (λ (y : StatementJobs). op_view y.op) (sym seen) ∙ ap op_view written) is.edited.operands_are.formed number
 
   layer : values_of old ≡ layer_in j.kept
   layer = values ∙ ap (λ (y : StatementJobs). layer_in y.kept) seen
@@ -114,20 +100,20 @@ module _ (j : StatementJobs) (is : IsSound j) (x : StatementJobs) (seen : x ≡ 
   from_kernel : (P : Size → Op → Option Cells → List ChangeState → Type 0) → P a.size op (before_of (values_of old)) (a ∷ b ∷ []) → P j.size (op_view j.op) (was_in j) j.operands
   from_kernel P = carried P a.size j.size op (op_view j.op) (before_of (values_of old)) (was_in j) (a ∷ b ∷ []) j.operands (sym extent) (sym view) (sym was) (sym operands)
 
-  pub handed : (touched : TileSetState) → j.own ≡ an_own.Whole touched → AreHanded a b limit old touched
-  handed touched own =
+  pub handed : (job : WholeJob) → j.own ≡ an_own.Whole job → AreHanded a b limit old job.touched
+  handed job own =
       let each = to_kernel (λ s o w xs. All (IsOperand s) xs) is.edited.operands_are.each in
       let formed : HasRanges op = to_kernel (λ s o w xs. HasRanges o) is.edited.operands_are.formed in
       record {
         first = each 0 a (omega arith);
         second = each 1 b (omega arith);
         low = formed.0;
-        right = right_before a b limit (term_view t) (term_view u) j.kept old (costs ∙ ap (λ (y : StatementJobs). costs_in y.kept) seen) layer (to_kernel (λ s o w xs. IsRightKept suits s o xs j.kept) is.edited.right);
-        tiles = to_kernel (λ s o w xs. touched ≡ reached 0 s w xs) (whole_own j touched is own).set_is;
+        right = right_before a b limit t u j.kept old (costs ∙ ap (λ (y : StatementJobs). costs_in y.kept) seen) layer (to_kernel (λ s o w xs. IsRightKept suits s o xs j.kept) is.edited.right);
+        tiles = to_kernel (λ s o w xs. job.touched ≡ reached 0 s w xs) (whole_own j job is own).set_is;
       }
 
   pub nearest_piece : (m : Made Beside) → ((v w : Term) → IsWholeRepaired a.size (nearest_op limit v w) (before_of (values_of old)) (a ∷ b ∷ []) m) → IsWholeRepaired j.size (op_view j.op) (was_in j) j.operands m
-  nearest_piece m h = from_kernel (λ s o w xs. IsWholeRepaired s o w xs m) (h (term_view t) (term_view u))
+  nearest_piece m h = from_kernel (λ s o w xs. IsWholeRepaired s o w xs m) (h t u)
 
   pub nearest_tally : (from to : TallyState) → ((v w : Term) → RisesBy (32 * length (damage_by a.size (nearest_op limit v w) (before_of (values_of old)) (a ∷ b ∷ []))) (1000 * work_by a.size (nearest_op limit v w) (before_of (values_of old)) (a ∷ b ∷ [])) from to) → RisesBy (32 * damage_in j) (1000 * work_by j.size (op_view j.op) (was_in j) j.operands) from to
-  nearest_tally from to h = from_kernel (λ s o w xs. RisesBy (32 * length (damage_by s o w xs)) (1000 * work_by s o w xs) from to) (h (term_view t) (term_view u))
+  nearest_tally from to h = from_kernel (λ s o w xs. RisesBy (32 * length (damage_by s o w xs)) (1000 * work_by s o w xs) from to) (h t u)

@@ -1,10 +1,8 @@
 -- What jobs rest on holds in one way at most.
-use Rattle.std.proofs.Common.{◌≡◌, ℕ, zero, suc, ℤ, pos, negsuc, List, [], ◌∷◌, Option, Some, None, subst}
+use Rattle.std.proofs.Common.{ℕ, zero, suc, ℤ, pos, negsuc, List, [], ◌∷◌, length, Option, Some, None}
 use Rattle.std.proofs.Math.Logic.{∥∥₁_elim}
 use Rattle.std.proofs.Props.{props}
 use Rattle.std.specs.Coded.{×_prop, Π_prop, Unit-prop}
-use Rattle.std.specs.Prelude.{Vec}
-use Rattle.std.specs.declared.alloc.Global.{Global}
 use Rattle.map_nums.specs.declared.Stat.{Stat}
 use Rattle.map_nums.specs.declared.Stat.TheVariants.{Product}
 use Rattle.map_nums.specs.declared.Rate.{Rate}
@@ -21,7 +19,6 @@ use Rattle.local_ops.specs.Operations.{op_of, Takes}
 use Rattle.drainage_flow.specs.FlowBands.{AreEven}
 use Rattle.drainage_flow.specs.declared.flow_band.FlowBand.{FlowBand}
 use Rattle.region_labels.specs.Roots.{IsBack, AreBack}
-use Rattle.local_ops.specs.declared.ops.LocalOp.{LocalOp as KernelOp}
 use Rattle.statement_parser.specs.Formed.{Each, IsRate, IsNoProduct, IsRadius, IsHead}
 use Rattle.statement_parser.specs.Views.{op_view}
 use Rattle.map_waves.specs.Statements.{cells_were}
@@ -29,16 +26,18 @@ use Rattle.map_waves.specs.Jobs.{was_in}
 use Rattle.map_waves.specs.Keeping.{IsRightKept}
 use Rattle.map_waves.specs.declared.keeping.Kept.{Kept}
 use Rattle.op_jobs.specs.Beside.{IsNothing, IsBook, AreViewers, AreCosts, suits, suits_in}
-use Rattle.op_jobs.specs.Owning.{IsLocalOf, IsOwn}
-use Rattle.op_jobs.specs.Fresh.{AreBothCells, AreOnlyCells, IsCounted, IsGrounded}
-use Rattle.op_jobs.specs.declared.ground.BothCells.{BothCells}
+use Rattle.op_jobs.specs.Grounds.{IsGround, IsGroundOf, IsGrounded}
+use Rattle.op_jobs.specs.Kernels.{CanMake, beside_by}
+use Rattle.op_jobs.specs.Owning.{IsOwn}
 use Rattle.op_jobs.specs.declared.ground.Ground.{Ground}
 use Rattle.op_jobs.specs.declared.ground.Ground.TheVariants as a_ground
-use Rattle.op_jobs.specs.Lists.{IsList, IsListOf}
+use Rattle.op_jobs.specs.Lists.{IsList}
 use Rattle.op_jobs.specs.Ranges.{IsInRange, HasRanges}
 use Rattle.op_jobs.specs.Sound.{StatementJobs, IsSound}
 use Rattle.op_jobs.specs.declared.beside.Beside.{Beside}
 use Rattle.op_jobs.specs.declared.beside.Beside.TheVariants as a_beside
+use Rattle.op_jobs.specs.declared.kernels.Kernel.{Kernel}
+use Rattle.op_jobs.specs.declared.kernels.Kernel.TheVariants as a_kernel
 use Rattle.op_jobs.specs.declared.lists.LayerList.{LayerList}
 use Rattle.op_jobs.specs.declared.lists.LayerList.TheVariants.{Costs, Nearest, Flow, Labels}
 use Rattle.op_jobs.specs.declared.own.Own.{Own}
@@ -117,10 +116,6 @@ takes_once difference n = hlevel props
 takes_once ratio n = hlevel props
 takes_once (rating rates) n = hlevel props
 
-local_once : (op : Op) (l : Option KernelOp) → IsProp (IsLocalOf op l)
-local_once op None = hlevel props
-local_once op (Some l) = ×_prop (hlevel props) (takes_once (op_of l) _)
-
 even_once : (bands : List FlowBand) → IsProp (AreEven bands)
 even_once [] = Unit-prop
 even_once (b ∷ bands) = let rest : IsProp (AreEven bands) = even_once bands in hlevel (rest, props)
@@ -140,39 +135,43 @@ list_once s (Nearest list) = hlevel props
 list_once s (Flow list) = let even : IsProp (AreEven list.bands.items) = even_once list.bands.items in hlevel (even, props)
 list_once s (Labels list) = let back : IsProp (AreBack list.labels.items) = all_back_once list.labels.items in hlevel (back, props)
 
-listed_once : (s : Size) (op : Op) (operands : List ChangeState) (was : Option Cells) (list : Option LayerList) (work : ℕ) → IsProp (IsListOf s op operands was list work)
-listed_once s op operands was None work = hlevel props
-listed_once s op operands was (Some list) work = let is : IsProp (IsList s list) = list_once s list in hlevel (is, props)
+can_once : (s : Size) (operands : List ChangeState) (kernel : Kernel) → IsProp (CanMake s operands kernel)
+can_once s operands (a_kernel.Local l) = takes_once (op_of l) (length operands)
+can_once s operands (a_kernel.Focal stat r) = ×_prop (radius_once r) (hlevel props)
+can_once s operands (a_kernel.Fresh fresh) = list_once s fresh.list
+can_once s operands kernel = hlevel props
 
 own_once : (s : Size) (op : Op) (operands : List ChangeState) (was : Option Cells) (own : Own) → IsProp (IsOwn s op operands was own)
 own_once s op operands was (an_own.Tiles jobs) =
-    let local : IsProp (IsLocalOf op jobs.local) = local_once op jobs.local in
-    let beside : IsProp (suits s op (cells_after operands) jobs.beside) = suits_once (class_of op) s (cells_after operands) jobs.beside in
-    let listed : IsProp (IsListOf s op operands was jobs.list jobs.worked) = listed_once s op operands was jobs.list jobs.worked in
-    hlevel (local, beside, listed, props)
-own_once s op operands was (an_own.Whole set) = hlevel props
+    let can : IsProp (CanMake s operands jobs.kernel) = can_once s operands jobs.kernel in
+    let beside : IsProp (suits s op (cells_after operands) (beside_by jobs.kernel)) = suits_once (class_of op) s (cells_after operands) (beside_by jobs.kernel) in
+    hlevel (can, beside, props)
+own_once s op operands was (an_own.Whole job) = hlevel props
 
 -- ---- what parts are found from
 
-cells_once : (s : Size) (op : Op) (operands : List ChangeState) (n : ℕ) (cells : BothCells) → IsProp (AreBothCells s op operands n cells)
-cells_once s op operands n cells = let formed : IsProp (HasRanges op) = op_once op in hlevel (formed, props)
+ground_of_once : (op : Op) (ground : Ground) → IsProp (IsGroundOf op ground)
+ground_of_once op (a_ground.Costs g) = hlevel props
+ground_of_once op (a_ground.Nearest g) = hlevel props
+ground_of_once op (a_ground.Flow g) = hlevel props
+ground_of_once op (a_ground.Regions cells) = hlevel props
+ground_of_once op a_ground.Zones = hlevel props
+
+ground_once : (s : Size) (operands : List ChangeState) (ground : Ground) → IsProp (IsGround s operands ground)
+ground_once s operands (a_ground.Costs g) = hlevel props
+ground_once s operands (a_ground.Nearest g) = hlevel props
+ground_once s operands (a_ground.Flow g) = hlevel props
+ground_once s operands (a_ground.Regions cells) = hlevel props
+ground_once s operands a_ground.Zones = hlevel props
 
 grounded_once : (s : Size) (op : Op) (operands : List ChangeState) (n : ℕ) (ground : Ground) → IsProp (IsGrounded s op operands n ground)
-grounded_once s op operands n (a_ground.Cells cells) = cells_once s op operands n cells
-grounded_once s op operands n (a_ground.Only cells) = hlevel props
-grounded_once s op operands n a_ground.Tiles = hlevel props
+grounded_once s op operands n ground =
+    let of : IsProp (IsGroundOf op ground) = ground_of_once op ground in
+    let is : IsProp (IsGround s operands ground) = ground_once s operands ground in
+    hlevel (of, is, props)
 
 pub grounded_of : (s : Size) (op : Op) (operands : List ChangeState) (n : ℕ) (ground : Ground) → ∥ IsGrounded s op operands n ground ∥₁ → IsGrounded s op operands n ground
 grounded_of s op operands n ground is = ∥∥₁_elim is (grounded_once s op operands n ground) (λ x. x)
-
-pub cells_of_ground : (s : Size) (op : Op) (operands : List ChangeState) (n : ℕ) (ground : Ground) (cells : BothCells) → ground ≡ a_ground.Cells cells → ∥ IsGrounded s op operands n ground ∥₁ → AreBothCells s op operands n cells
-cells_of_ground s op operands n ground cells e is = subst (IsGrounded s op operands n) e (grounded_of s op operands n ground is)
-
-pub only_of_ground : (s : Size) (op : Op) (operands : List ChangeState) (n : ℕ) (ground : Ground) (cells : Vec (Option ℤ) Global) → ground ≡ a_ground.Only cells → ∥ IsGrounded s op operands n ground ∥₁ → AreOnlyCells s op operands n cells.items
-only_of_ground s op operands n ground cells e is = subst (IsGrounded s op operands n) e (grounded_of s op operands n ground is)
-
-pub counted_of : (s : Size) (op : Op) (operands : List ChangeState) (n : ℕ) (ground : Ground) → ground ≡ a_ground.Tiles → ∥ IsGrounded s op operands n ground ∥₁ → IsCounted s op operands n
-counted_of s op operands n ground e is = subst (IsGrounded s op operands n) e (grounded_of s op operands n ground is)
 
 -- ---- all of it
 

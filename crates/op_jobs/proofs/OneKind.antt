@@ -7,7 +7,7 @@ use Rattle.friction_neighbor.specs.declared.bands.NearestBand.{NearestBand}
 use Rattle.drainage_flow.specs.declared.flow_band.FlowBand.{FlowBand}
 use Rattle.region_labels.specs.declared.bands.LabelBand.{LabelBand}
 use Rattle.zonal_totals.specs.Ranges.{CountsState}
-use Rattle.op_jobs.specs.Fresh.{IsCosts, IsNearest, IsFlows, IsLabels, IsCounts}
+use Rattle.op_jobs.specs.Grounds.{IsCosts, IsNearest, IsFlows, IsLabels, IsCounts}
 use Rattle.op_jobs.specs.declared.ground.Part.{Part}
 use Rattle.op_jobs.specs.declared.ground.Part.TheVariants.{Costs, Nearest, Flows, Labels, Counts}
 

@@ -4,7 +4,7 @@ use Rattle.map_nums.specs.Grids.{Size, Cells}
 use Rattle.friction_spread.specs.Costs.{GroundState}
 use Rattle.friction_spread.specs.Bands.{ground_of, AreCostBands}
 use Rattle.friction_neighbor.specs.Bands.{AreNearestBands}
-use Rattle.op_jobs.specs.Fresh.{IsCosts, IsNearest}
+use Rattle.op_jobs.specs.Grounds.{IsCosts, IsNearest}
 use Rattle.op_jobs.specs.Parts.{part_start}
 use Rattle.op_jobs.specs.declared.ground.Part.{Part}
 use Rattle.op_jobs.specs.declared.ground.Part.TheVariants.{Costs, Nearest}

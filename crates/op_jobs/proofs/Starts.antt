@@ -1,6 +1,6 @@
 -- Parts that follow one another.
 use Rattle.std.proofs.Common.{◌≡◌, ℕ, suc, ◌+◌, ◌*◌, ◌/◌, ◌<◌, ◌≤◌, List, [], ◌∷◌, length, Some, slice_get, refl, sym, ap, subst, ◌∙◌, arith}
-use Rattle.std.proofs.lemmas.Nat.{div-mul-add, le-div, div-add-mod', mul-le}
+use Rattle.std.proofs.lemmas.Nat.{div-mul-add, le-div, div-add-mod'}
 use Rattle.op_jobs.specs.Parts.{part_start}
 
 pub part_first : (all n : ℕ) → 0 < n → part_start all n 0 ≡ 0
@@ -14,13 +14,6 @@ pub part_rises : (all n m k : ℕ) → 0 < n → m * n ≤ all → part_start al
 part_rises all n m k some room =
     let whole = div-add-mod' (k * all) n in
     le-div (part_start all n k + m) (suc k * all) n some (omega (arith, whole, room))
-
-pub part_most : (all n k : ℕ) → 0 < n → k ≤ n → part_start all n k ≤ all
-part_most all n k some within =
-    let whole = div-add-mod' (k * all) n in
-    let most = mul-le k all n all within (omega arith) in
-    let top : all * n ≡ all * n + 0 = omega arith in
-    omega (arith, le-div (part_start all n k) (all * n) n some (omega (arith, whole, most)), div-mul-add all n 0 some, ap (λ m. m / n) top)
 
 -- what is found part by part, from where each begins to the end of the last
 module _ {B : Type 0} (n : ℕ) (start : ℕ → ℕ) (Is : ℕ → B → Type 0) (Are : ℕ → List B → Type 0) (none : Are (start n) []) (more : (k : ℕ) (b : B) (bs : List B) → Is k b → Are (start (suc k)) bs → Are (start k) (b ∷ bs)) where

@@ -5,7 +5,7 @@ use Rattle.std.proofs.lemmas.Int.{to_z-of_z, fits_signed_from_abs}
 use Rattle.map_nums.specs.Widths.{value_width}
 use Rattle.map_nums.specs.Numbers.{greatest_value}
 use Rattle.map_nums.specs.Grids.{Cells}
-use Rattle.map_defs.specs.Ops.{Op, Term, spread_op, nearest_op}
+use Rattle.map_defs.specs.Ops.{Op}
 use Rattle.layer_tiles.specs.Changes.{ChangeState}
 use Rattle.layer_tiles.specs.Layers.{LayerState}
 use Rattle.layer_tiles.specs.Operands.{size_of}
@@ -13,7 +13,6 @@ use Rattle.layer_tiles.specs.Patches.{PatchState}
 use Rattle.layer_tiles.specs.Tallies.{TallyState, RisesBy}
 use Rattle.layer_tiles.specs.declared.kernels.KernelRefusal.{KernelRefusal}
 use Rattle.map_waves.specs.Statements.{damage_by, work_by}
-use Rattle.op_jobs.specs.Ranges.{HasRanges}
 use Rattle.op_jobs.specs.Whole.{IsRightBefore, IsWholeAnswer}
 use Rattle.op_jobs.proofs.WholeOperands.{magnitude_is}
 
@@ -31,15 +30,6 @@ module _ (xs ys : List ChangeState) (op o : Op) (e : xs ≡ ys) (f : op ≡ o) w
 
 -- ---- the limit
 
-limit_value : (n : ℕ) (z : ℤ) → nat_abs z ≤ greatest_value → n ≡ unsigned_abs (to_z value_width (of_z value_width z)) → n ≡ nat_abs z
-limit_value n z l e = e ∙ ap (λ (x : ℤ). unsigned_abs x) (to_z-of_z value_width z (fits_signed_from_abs value_width z (omega (arith, l, magnitude_is z)))) ∙ magnitude_is z
-
 -- as it is written
-limit_by : (make : ℕ → Op) (op : Op) (n : ℕ) (z : ℤ) → nat_abs z ≤ greatest_value → op ≡ make (nat_abs z) → n ≡ unsigned_abs (to_z value_width (of_z value_width z)) → op ≡ make n
-limit_by make op n z l f e = f ∙ ap make (sym (limit_value n z l e))
-
-pub limit_is : (op : Op) (n : ℕ) (z : ℤ) (t u : Term) → op ≡ spread_op (nat_abs z) t u → HasRanges op → n ≡ unsigned_abs (to_z value_width (of_z value_width z)) → op ≡ spread_op n t u
-limit_is op n z t u f formed e = let h : HasRanges (spread_op (nat_abs z) t u) = subst (λ (o : Op). HasRanges o) f formed in limit_by (λ k. spread_op k t u) op n z h.0 f e
-
-pub nearest_limit_is : (op : Op) (n : ℕ) (z : ℤ) (t u : Term) → op ≡ nearest_op (nat_abs z) t u → HasRanges op → n ≡ unsigned_abs (to_z value_width (of_z value_width z)) → op ≡ nearest_op n t u
-nearest_limit_is op n z t u f formed e = let h : HasRanges (nearest_op (nat_abs z) t u) = subst (λ (o : Op). HasRanges o) f formed in limit_by (λ k. nearest_op k t u) op n z h.0 f e
+pub limit_value : (n : ℕ) (z : ℤ) → nat_abs z ≤ greatest_value → n ≡ unsigned_abs (to_z value_width (of_z value_width z)) → n ≡ nat_abs z
+limit_value n z l e = e ∙ ap (λ (x : ℤ). unsigned_abs x) (to_z-of_z value_width z (fits_signed_from_abs value_width z (omega (arith, l, magnitude_is z)))) ∙ magnitude_is z

@@ -1,6 +1,6 @@
 -- What parts of a map's tiles count, and the looks that it takes.
-use Rattle.std.proofs.Common.{◌≡◌, ℕ, zero, suc, ℤ, ◌+◌, ◌-◌, ◌*◌, ◌<◌, Bool, true, false, List, [], ◌∷◌, length, Option, Some, None, slice_get, refl, sym, ap, subst, ◌∙◌, arith, IsTrue, cond, Result, Ok, Err, IfOk}
-use Rattle.std.specs.Prelude.{IfSome, Vec, is_some}
+use Rattle.std.proofs.Common.{◌≡◌, ℕ, zero, suc, ◌+◌, ◌-◌, ◌*◌, ◌<◌, Bool, true, false, List, [], ◌∷◌, length, Option, Some, None, slice_get, refl, sym, ap, subst, ◌∙◌, arith, IsTrue, cond, Result, Ok, Err, IfOk}
+use Rattle.std.specs.Prelude.{IfSome, Vec, is_some, option_map}
 use Rattle.std.specs.Borrow.{Bor}
 use Rattle.std.specs.List.{All, sum_by, range_with_len}
 use Rattle.std.specs.declared.alloc.Global.{Global}
@@ -8,9 +8,8 @@ use Rattle.std.proofs.lemmas.List.Sums.{sum_by-cons}
 use Rattle.map_nums.specs.declared.Stat.{Stat}
 use Rattle.map_nums.specs.Grids.{Size, Cells}
 use Rattle.map_nums.specs.Tiles.{tiles_in}
-use Rattle.map_defs.specs.Damage.{has_work}
 use Rattle.map_defs.specs.Operate.{operand}
-use Rattle.map_defs.specs.Facts.{Class, zonal_class, facts, class_of, is_repaired}
+use Rattle.map_defs.specs.Facts.{facts}
 use Rattle.map_defs.specs.Ops.{Head, zonal_head, Op, Term, zonal_op}
 use Rattle.layer_tiles.specs.Changes.{ChangeState}
 use Rattle.layer_tiles.specs.Operands.{cells_after}
@@ -22,13 +21,11 @@ use Rattle.map_waves.specs.Operands.{IsOperand}
 use Rattle.map_waves.specs.Keeping.{kept_now, was_of}
 use Rattle.map_waves.specs.declared.keeping.Kept.{Kept}
 use Rattle.map_waves.proofs.Totals.{sum_next}
-use Rattle.op_jobs.specs.Classes.{is_zonal, is_zonal_in, is_region_in}
-use Rattle.op_jobs.specs.Fresh.{is_banded_in, AreBothCells, AreOnlyCells, IsCounted, IsCounts, AreAllCounts, IsGrounded, IsBand, IsPart, grounding, finding}
+use Rattle.op_jobs.specs.Classes.{is_zonal, is_zonal_in}
+use Rattle.op_jobs.specs.Grounds.{IsCounts, AreAllCounts, IsGrounded, IsBand, IsPart, laying, grounding, finding}
 use Rattle.op_jobs.specs.Parts.{part_start}
 use Rattle.op_jobs.specs.declared.beside.Beside.{Beside}
-use Rattle.op_jobs.specs.declared.ground.BothCells.{BothCells}
 use Rattle.op_jobs.specs.declared.ground.Ground.{Ground}
-use Rattle.op_jobs.specs.declared.ground.Ground.TheVariants as a_ground
 use Rattle.op_jobs.specs.declared.ground.Part.{Part}
 use Rattle.op_jobs.specs.declared.ground.Part.TheVariants.{Counts}
 use Rattle.op_jobs.proofs.Starts.{part_first, part_last, part_rises, parts_all}
@@ -66,33 +63,20 @@ bands_quiet s op operands n other =
     let P : Bool → Type 0 = λ b. sum_by (finding_if b s n) (range_with_len 0 n) ≡ 0 in
     subst P (sym other) (quiet (range_with_len 0 n))
 
-pub banded_other : (class : Class) → IsTrue (is_banded_in class) → is_zonal_in class ≡ false
-banded_other (zonal_class stat) b = absurd (no b)
-banded_other class b = refl
-
-pub region_other : (class : Class) → IsTrue (is_region_in class) → is_zonal_in class ≡ false
-region_other (zonal_class stat) r = absurd (no r)
-region_other class r = refl
-
-worked_other : (class : Class) → IsTrue (is_repaired class) → is_zonal_in class ≡ false
-worked_other (zonal_class stat) w = absurd (no w)
-worked_other class w = refl
-
 pub none_was : (kept : Option (Bor (Kept Beside))) → false ≡ is_some kept → was_of (kept_now kept) ≡ None
 none_was None e = refl
 none_was (Some k) e = absurd (no e)
 
-pub all_found : (s : Size) (op : Op) (was : Option Cells) (operands : List ChangeState) (n : ℕ) (a b : TallyState) → was ≡ None → IsTrue (is_zonal op) → 0 < n → RisesBy (sum_by (finding s op operands n) (range_with_len 0 n)) 0 a b → RisesBy (grounding s op was operands) 0 a b
-all_found s op was operands n a b none z some r =
-    let looks : grounding s op was operands ≡ 2 * tiles_in s = ap (λ w. grounding s op w operands) none in
-    rises_within (sum_by (finding s op operands n) (range_with_len 0 n)) 0 (grounding s op was operands) 0 a b (omega (arith, looks, tiles_counted s op operands n z some)) (omega arith) r
-
--- the ground of bands takes all looks
-pub bands_found : (s : Size) (op : Op) (was : Option Cells) (operands : List ChangeState) (n : ℕ) (a b c : TallyState) → was ≡ None → is_zonal op ≡ false → RisesBy (2 * tiles_in s) 0 a b → RisesBy (sum_by (finding s op operands n) (range_with_len 0 n)) 0 b c → RisesBy (grounding s op was operands) 0 a c
-bands_found s op was operands n a b c none other r q =
+-- laying the ground and finding all parts take the looks of both
+pub all_found : (s : Size) (op : Op) (was : Option Cells) (operands : List ChangeState) (n : ℕ) (a b c : TallyState) → was ≡ None → 0 < n → RisesBy (laying s op) 0 a b → RisesBy (sum_by (finding s op operands n) (range_with_len 0 n)) 0 b c → RisesBy (grounding s op was operands) 0 a c
+all_found s op was operands n a b c none some r q =
     let looks : grounding s op was operands ≡ 2 * tiles_in s = ap (λ w. grounding s op w operands) none in
     let y = sum_by (finding s op operands n) (range_with_len 0 n) in
-    rises_within (2 * tiles_in s + y) (0 + 0) (grounding s op was operands) 0 a c (omega (arith, looks, bands_quiet s op operands n other)) (omega arith) (rises_then (2 * tiles_in s) 0 y 0 a b c r q)
+    rises_within (laying s op + y) (0 + 0) (grounding s op was operands) 0 a c (omega (arith, looks, both (is_zonal op) refl)) (omega arith) (rises_then (laying s op) 0 y 0 a b c r q)
+  where
+    both : (v : Bool) → v ≡ is_zonal op → laying s op + sum_by (finding s op operands n) (range_with_len 0 n) ≡ 2 * tiles_in s
+    both true e = let none : laying s op ≡ 0 = ap (λ b. cond b 0 (2 * tiles_in s)) (sym e) in omega (arith, none, tiles_counted s op operands n (sym e) some)
+    both false e = let all : laying s op ≡ 2 * tiles_in s = ap (λ b. cond b 0 (2 * tiles_in s)) (sym e) in omega (arith, all, bands_quiet s op operands n (sym e))
 
 -- ---- what is found
 
@@ -120,38 +104,16 @@ counts_are s xs v z n m k all first end c both are ea en ef ee h =
     (subst (λ (q : Size). AreTileCounts q V Z first end c) size
     (subst (λ (ys : Cells). AreTileCounts z.size V ys first end c) (sym (zones_are xs v z both)) (subst (λ (ys : Cells). AreTileCounts z.size ys z.cells first end c) (sym (values_are xs v z both)) h))))
 
-some_parts : (s : Size) (op : Op) (operands : List ChangeState) (n : ℕ) (ground : Ground) → IsGrounded s op operands n ground → 0 < n
-some_parts s op operands n (a_ground.Cells cells) is = is.some
-some_parts s op operands n (a_ground.Only cells) is = is.some
-some_parts s op operands n a_ground.Tiles is = is.some
-
 pub all_counts : (s : Size) (op : Op) (operands : List ChangeState) (ground : Ground) (parts : List Part) (stat : Stat) (t u : Term) → op ≡ zonal_op stat t u → AreFound IsGrounded IsPart s op operands ground parts → AreAllCounts s (operand (cells_after operands) 0) (operand (cells_after operands) 1) parts
 all_counts s op operands ground parts stat t u is found = record {
-  some = some_parts s op operands (length parts) ground found.from;
+  some = found.from.some;
   each = λ k p e. subst (λ (o : Op). IsBand o.head s (operand (cells_after operands) 0) (operand (cells_after operands) 1) (length parts) k p) is (found.each k p e);
 }
 
 pub counts_found : (s : Size) (op : Op) (operands : List ChangeState) (found : Option (Ground × Vec Part Global)) (stat : Stat) (t u : Term) → op ≡ zonal_op stat t u → IfSome found (λ q. AreFound IsGrounded IsPart s op operands q.0 q.1.items)
-    → IfSome found (λ q. AreAllCounts s (operand (cells_after operands) 0) (operand (cells_after operands) 1) q.1.items)
+    → IfSome (option_map (λ (q : Ground × Vec Part Global). q.1) found) (λ parts. AreAllCounts s (operand (cells_after operands) 0) (operand (cells_after operands) 1) parts.items)
 counts_found s op operands None stat t u is h = tt
 counts_found s op operands (Some q) stat t u is h = all_counts s op operands q.0 q.1.items stat t u is h
-
-pub found_cells : (s : Size) (op : Op) (operands : List ChangeState) (ground : Ground) (cells : BothCells) (parts : List Part) → ground ≡ a_ground.Cells cells → AreFound IsGrounded IsPart s op operands ground parts → AreFound AreBothCells IsPart s op operands cells parts
-found_cells s op operands ground cells parts is found = record {
-  from = subst (λ (g : Ground). IsGrounded s op operands (length parts) g) is found.from;
-  each = found.each;
-}
-
-pub found_only : (s : Size) (op : Op) (operands : List ChangeState) (ground : Ground) (cells : Vec (Option ℤ) Global) (parts : List Part) → ground ≡ a_ground.Only cells → AreFound IsGrounded IsPart s op operands ground parts → AreOnlyCells s op operands (length parts) cells.items
-found_only s op operands ground cells parts is found = subst (λ (g : Ground). IsGrounded s op operands (length parts) g) is found.from
-
--- nothing that takes work is counted
-pub tiles_worked : (s : Size) (op : Op) (operands : List ChangeState) (ground : Ground) (parts : List Part) → ground ≡ a_ground.Tiles → IsTrue (has_work op) → AreFound IsGrounded IsPart s op operands ground parts → ⊥
-tiles_worked s op operands ground parts is works found =
-    let from : IsCounted s op operands (length parts) = subst (λ (g : Ground). IsGrounded s op operands (length parts) g) is found.from in
-    no (sym (worked_other (class_of op) works) ∙ from.zonal)
-
--- ---- parts of one kind are no others
 
 -- ---- the book of them
 

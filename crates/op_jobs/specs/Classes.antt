@@ -1,11 +1,7 @@
 -- Kinds of operations, by their classes.
 use Rattle.std.specs.Prelude.{Bool, true, false}
 use Rattle.map_defs.specs.Ops.{Op}
-use Rattle.map_defs.specs.Facts.{Class, local_class, near_class, zonal_class, sight_class, path_class, nearest_class, region_class, class_of}
-
-abbrev pub is_local_in : Class → Bool
-is_local_in local_class = true
-is_local_in class = false
+use Rattle.map_defs.specs.Facts.{Class, local_class, near_class, zonal_class, path_class, nearest_class, region_class, class_of}
 
 abbrev pub by_reach_in : Class → Bool
 by_reach_in (zonal_class stat) = false
@@ -23,21 +19,9 @@ abbrev pub is_zonal_in : Class → Bool
 is_zonal_in (zonal_class stat) = true
 is_zonal_in class = false
 
-abbrev pub is_sight_in : Class → Bool
-is_sight_in (sight_class r) = true
-is_sight_in class = false
-
 abbrev pub is_nearest_in : Class → Bool
 is_nearest_in (nearest_class limit) = true
 is_nearest_in class = false
-
-abbrev pub is_region_in : Class → Bool
-is_region_in region_class = true
-is_region_in class = false
-
--- a cell comes from the operands' cells at its place
-abbrev pub is_local : Op → Bool
-is_local op = is_local_in (class_of op)
 
 -- its reach alone tells its damage
 abbrev pub by_reach : Op → Bool
@@ -50,11 +34,5 @@ is_plain op = is_plain_in (class_of op)
 abbrev pub is_zonal : Op → Bool
 is_zonal op = is_zonal_in (class_of op)
 
-abbrev pub is_sight : Op → Bool
-is_sight op = is_sight_in (class_of op)
-
 abbrev pub is_nearest : Op → Bool
 is_nearest op = is_nearest_in (class_of op)
-
-abbrev pub is_region : Op → Bool
-is_region op = is_region_in (class_of op)

@@ -1,7 +1,7 @@
 pub mod Beside
 pub mod Changed
 pub mod Classes
-pub mod Fresh
+pub mod Grounds
 pub mod Kernels
 pub mod Lists
 pub mod Nearest
@@ -11,6 +11,7 @@ pub mod Owning
 pub mod Parts
 pub mod Pieces
 pub mod Ranges
+pub mod Repairs
 pub mod Sound
 pub mod Tiling
 pub mod Whole

@@ -1,5 +1,5 @@
 -- Layers that were not there, place by place.
-use Rattle.std.specs.Prelude.{◌≡◌, ◌^◌, ◌<◌, ◌≤◌, ℕ, List, length, Option, Some, None, IsTrue, IsFalse}
+use Rattle.std.specs.Prelude.{◌≡◌, ◌^◌, ◌<◌, ◌≤◌, ℕ, List, length, None, IsTrue}
 use Rattle.map_nums.specs.Grids.{Size, Cells, cells_in}
 use Rattle.map_nums.specs.Numbers.{greatest_value}
 use Rattle.map_defs.specs.Damage.{has_work}
@@ -43,8 +43,3 @@ pub record IsListMade (s : Size) (op : Op) (operands : List ChangeState) (list :
 pub record IsFreshMade (s : Size) (op : Op) (operands : List ChangeState) (fresh : FreshLayer) : Type 0 where
   pub made_is : IsListMade s op operands fresh.list fresh.worked
   pub beside_is : suits s op (cells_after operands) fresh.beside
-
--- it is listed where there was none and the operation takes work; no other takes any
-abbrev pub IsListOf : Size → Op → List ChangeState → Option Cells → Option LayerList → ℕ → Type 0
-IsListOf s op operands was None work = IsFalse (has_work op) × (work ≡ 0)
-IsListOf s op operands was (Some list) work = (was ≡ None) × IsListMade s op operands list work

@@ -1,5 +1,5 @@
 -- What jobs make.
-use Rattle.std.specs.Prelude.{◌≡◌, ◌<◌, ◌^◌, ℕ, List, [], ◌∷◌, map, Option, Some, None, Result, Ok, Err, IsFalse, unwrap_or, if◌then◌else◌}
+use Rattle.std.specs.Prelude.{◌≡◌, ◌<◌, ◌^◌, ℕ, List, [], ◌∷◌, ◌++◌, slice_get, slice_index, Option, Some, None, Result, Ok, Err, IsFalse, unwrap_or, if◌then◌else◌}
 use Rattle.std.specs.List.{All, position}
 use Rattle.map_nums.specs.Answers.{is_wide}
 use Rattle.map_nums.specs.Grids.{Size, Cells}
@@ -46,10 +46,14 @@ FitsTile s t (Tile None) = Unit {0}
 FitsTile s t (Tile (Some b)) = IsBlockOf s t b
 FitsTile s t (Whole m) = Unit {0}
 
--- exactly the tiles that changed
-pub record IsTilePatch (s : Size) (was : Option Cells) (now : Cells) (patch : PatchState) : Type 0 where
-  pub size : patch.size ≡ s
-  pub tiles : patch.tiles ≡ map (λ t. (t, tile_block s now t)) (changed_tiles s was now)
+-- of several tiles, in their order
+abbrev pub tiles_of : List ℕ → List Piece → List (ℕ × Block)
+tiles_of [] pieces = []
+tiles_of (t ∷ ts) [] = []
+tiles_of (t ∷ ts) (p ∷ pieces) = tiles_at t p ++ tiles_of ts pieces
+
+abbrev pub FitTiles : Size → List ℕ → List Piece → Type 0
+FitTiles s ts pieces = (k : ℕ) (p : Piece) → slice_get pieces k ≡ Some p → FitsTile s (slice_index ts k) p
 
 -- ---- a job for all
 

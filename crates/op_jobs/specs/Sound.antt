@@ -1,6 +1,6 @@
 -- The jobs of a statement that is written: what they rest on, what they read, and what they may answer.
-use Rattle.std.specs.Prelude.{◌≡◌, ℕ, ◌*◌, length, slice_index, slice_get, List, Some, Bool, true, false, Result, Ok}
-use Rattle.map_nums.specs.Grids.{IsSize, Cells}
+use Rattle.std.specs.Prelude.{◌≡◌, ℕ, ◌*◌, length, slice_index, slice_get, List, Some, Result, Ok}
+use Rattle.map_nums.specs.Grids.{Size, IsSize, Cells}
 use Rattle.layer_tiles.specs.Operands.{cells_after}
 use Rattle.layer_tiles.specs.declared.kernels.KernelRefusal.{KernelRefusal}
 use Rattle.statement_parser.specs.Views.{op_view}
@@ -8,14 +8,15 @@ use Rattle.statement_parser.specs.declared.op.Op.{Op}
 use Rattle.map_waves.specs.Statements.{made, damage_by, work_by}
 use Rattle.map_waves.specs.Jobs.{JobsState, was_in}
 use Rattle.map_waves.specs.declared.keeping.Made.{Made}
-use Rattle.layer_tiles.specs.Patches.{PatchState}
 use Rattle.op_jobs.specs.Operands.{IsEdited}
 use Rattle.op_jobs.specs.Owning.{IsOwn, count_of}
-use Rattle.op_jobs.specs.Pieces.{IsTilePiece, IsWholePiece}
+use Rattle.op_jobs.specs.Kernels.{beside_by, worked_by}
+use Rattle.op_jobs.specs.Pieces.{IsTilePiece, IsWholePiece, tiles_of}
 use Rattle.op_jobs.specs.declared.beside.Beside.{Beside}
 use Rattle.op_jobs.specs.declared.pieces.Piece.{Piece}
 use Rattle.op_jobs.specs.declared.own.Own.{Own}
 use Rattle.op_jobs.specs.declared.own.Own.TheVariants as an_own
+use Rattle.op_jobs.specs.declared.own.TileJobs.{TileJobs}
 
 abbrev pub StatementJobs : Type 0
 StatementJobs = JobsState Op Beside Own
@@ -37,15 +38,15 @@ damage_in j = length (damage_by j.size (op_view j.op) (was_in j) j.operands)
 
 abbrev pub first_by : Own → ℕ → ℕ
 first_by (an_own.Tiles jobs) damage = 34 * damage
-first_by (an_own.Whole set) damage = 28 * damage
+first_by (an_own.Whole job) damage = 28 * damage
 
 abbrev pub looks_by : Own → ℕ → ℕ
 looks_by (an_own.Tiles jobs) damage = 26
-looks_by (an_own.Whole set) damage = 32 * damage
+looks_by (an_own.Whole job) damage = 32 * damage
 
 abbrev pub picks_by : Own → ℕ → ℕ
 picks_by (an_own.Tiles jobs) work = 0
-picks_by (an_own.Whole set) work = 1000 * work
+picks_by (an_own.Whole job) work = 1000 * work
 
 abbrev pub first : StatementJobs → ℕ
 first j = first_by j.own (damage_in j)
@@ -60,7 +61,7 @@ picks j k = picks_by j.own (work_by j.size (op_view j.op) (was_in j) j.operands)
 
 abbrev pub IsPieceOf : Own → StatementJobs → ℕ → Result Piece KernelRefusal → Type 0
 IsPieceOf (an_own.Tiles jobs) j k answer = IsTilePiece j.size (was_in j) (now_in j) (slice_index jobs.tiles.items k) answer
-IsPieceOf (an_own.Whole set) j k answer = IsWholePiece j.size (op_view j.op) (was_in j) j.operands answer
+IsPieceOf (an_own.Whole job) j k answer = IsWholePiece j.size (op_view j.op) (was_in j) j.operands answer
 
 -- what job k may answer
 unfoldable pub IsPiece : StatementJobs → ℕ → Result Piece KernelRefusal → Type 0
@@ -70,17 +71,10 @@ IsPiece j k answer = IsPieceOf j.own j k answer
 abbrev pub ArePieces : StatementJobs → List Piece → Type 0
 ArePieces j pieces = (k : ℕ) (p : Piece) → slice_get pieces k ≡ Some p → IsPiece j k (Ok p)
 
--- a job for each tile
-abbrev pub are_tiles : Own → Bool
-are_tiles (an_own.Tiles jobs) = true
-are_tiles (an_own.Whole set) = false
-
--- one job for all
-abbrev pub is_whole : Own → Bool
-is_whole (an_own.Tiles jobs) = false
-is_whole (an_own.Whole set) = true
-
--- the patch, what stands beside the layer, so many tiles of the damage, and the work
-abbrev pub IsMadeOf : PatchState → Own → Made Beside → Type 0
-IsMadeOf patch (an_own.Tiles jobs) m = m ≡ record { patch = patch; beside = jobs.beside; evaluated = length jobs.tiles.items; worked = jobs.worked }
-IsMadeOf patch (an_own.Whole set) m = ⊥
+-- what pieces of tiles come to, beside what their jobs share
+pub record IsMadeOf (s : Size) (jobs : TileJobs) (pieces : List Piece) (m : Made Beside) : Type 0 where
+  pub size : m.patch.size ≡ s
+  pub tiles : m.patch.tiles ≡ tiles_of jobs.tiles.items pieces
+  pub beside_is : m.beside ≡ beside_by jobs.kernel
+  pub evaluated : m.evaluated ≡ length jobs.tiles.items
+  pub worked : m.worked ≡ worked_by jobs.kernel

@@ -52,6 +52,27 @@ pub(crate) fn tiles_of(alloc: Global, set: &TileSet) -> Result<Vec<u32>, NoMemor
     Ok(list)
 }
 
+/// The tiles whose square, grown by a reach, has a changed operand cell, or all of them, in ascending order. Two looks at each tile that
+/// an operand's patch holds.
+pub(crate) fn felt_tiles<M: Tally>(
+    alloc: Global,
+    reach: u32,
+    operands: &Operands<'_>,
+    kept: Option<&Kept<Beside>>,
+    extent: Extent,
+    tally: &mut M,
+) -> Result<Vec<u32>, NoMemory>
+    requires some { 0 < length operands.now }
+    requires operands_are { All (IsOperand extent) operands.now }
+    requires there { IfSome (kept_now kept) (λ _. All (λ c. IsSome c.before) operands.now) }
+    requires reach { reach ≤ 64 }
+    ensures list { let set = reached reach extent (was_of (kept_now kept.entry)) operands.entry.now in IfOk result (λ list. list.items ≡ filter (has_tile set) (tiles set.size)) }
+    ensures looks { RisesBy (reached_looks (was_of (kept_now kept.entry)) operands.entry.now) 0 (M.counts tally.old) (M.counts tally.new) }
+{
+    let set = reached_tiles(alloc, reach, operands, kept, extent, tally)?;
+    tiles_of(alloc, &set)
+}
+
 /// All tiles, in ascending order.
 pub(crate) fn all_tiles(alloc: Global, extent: Extent) -> Result<Vec<u32>, NoMemory>
     ensures { IfOk result (λ list. list.items ≡ tiles extent) }

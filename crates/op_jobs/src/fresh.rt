@@ -1,96 +1,107 @@
-//! Layers that were not there, which workers make in bands of rows.
-ghost use Rattle.std.specs.Prelude.{◌≡◌, ◌*◌, ◌<◌, ◌≤◌, IfOk, IsTrue};
-ghost use Rattle.std.specs.List.{All};
+//! Layers that were not there, which workers make of parts.
+ghost use Rattle.std.specs.Prelude.{◌≡◌, ◌*◌, ◌<◌, ◌≤◌, ℕ, List, length, Some, slice_get, IfOk, IfSome};
+ghost use Rattle.map_nums.specs.Numbers.{greatest_value};
 ghost use Rattle.map_nums.specs.Tiles.{tiles_in};
-ghost use Rattle.map_defs.specs.Damage.{has_work};
+ghost use Rattle.map_defs.specs.Ops.{Op as Operation};
+ghost use Rattle.layer_tiles.specs.Changes.{ChangeState};
 ghost use Rattle.layer_tiles.specs.Tallies.{RisesBy};
 ghost use Rattle.statement_parser.specs.Views.{op_view};
-ghost use Rattle.map_waves.specs.Found.{AreFound};
-ghost use Rattle.op_jobs.specs.Fresh.{is_banded, AreBothCells, IsGrounded, IsPart};
+ghost use Rattle.op_jobs.specs.Grounds.{laying, ArePathCells, AreFlowCells, IsGround, IsGroundOf, IsGroundPart};
 ghost use Rattle.op_jobs.specs.Lists.{IsFreshMade};
-ghost use Rattle.op_jobs.specs.Operands.{AreOperandsOf};
+ghost use Rattle.op_jobs.specs.Operands.{AreBoth, AreOperandsOf};
+ghost use Rattle.op_jobs.specs.Ranges.{HasRanges};
+ghost use Rattle.op_jobs.specs.declared.ground.Part.{Part};
 
 use crate::beside::Beside;
-use crate::flow_bands::{find_flows, flow_by};
-use crate::ground::{BothCells, Ground, Part};
+use crate::classes::limit_of;
+use crate::flow_bands::flow_by;
+use crate::ground::{FlowCells, Ground, Part, PathCells};
 use crate::label_bands::labels_by;
 use crate::lists::{FreshLayer, LayerList};
-use crate::nearest_bands::{find_nearest, nearest_by};
-use crate::operands::both_of;
-use crate::spread_bands::{find_costs, spread_by};
+use crate::nearest_bands::nearest_by;
+use crate::operands::{both_of, only_of};
+use crate::spread_bands::spread_by;
 use flat_cells::cells_of;
 use layer_tiles::{Extent, Operands, Tally};
 use map_nums::NoMemory;
 use statement_parser::Op;
 use std::alloc::Global;
 
-/// Whether workers make the layer of an operation in bands where it was not there.
-pub(crate) fn is_banded(op: &Op) -> bool
-    ensures { result ≡ is_banded (op_view op.now) }
-{
-    match op {
-        Op::Flow { .. } | Op::Spread { .. } | Op::Neighbor { .. } => true,
-        _ => false,
-    }
-}
-
-/// All cells of both operands. Two looks at each tile of the map.
-pub(crate) fn lay<M: Tally>(
+/// All cells of sources and frictions. Two looks at each tile of the map.
+fn path_cells<M: Tally>(
     alloc: Global,
-    op: &Op,
     operands: &Operands<'_>,
+    limit: u64,
     extent: Extent,
-    parts: u32,
     tally: &mut M,
-) -> Result<BothCells, NoMemory>
-    requires operands_are { AreOperandsOf extent (op_view op.now) operands.now }
-    requires banded { IsTrue (is_banded (op_view op.now)) }
-    requires some { 0 < parts }
-    requires few { parts ≤ extent.rows }
-    ensures ground { IfOk result (AreBothCells extent (op_view op.now) operands.now parts) }
+) -> Result<PathCells, NoMemory>
+    requires both { AreBoth extent operands.now }
+    requires limit { limit ≤ greatest_value }
+    ensures cells { IfOk result (ArePathCells extent operands.now limit) }
     ensures looks { RisesBy (2 * tiles_in extent) 0 (M.counts tally.old) (M.counts tally.new) }
 {
-    let (one, other) = both_of(operands);
-    let _one = one.extent();
-    let _other = other.extent();
-    let first = cells_of(alloc, one, tally)?;
-    let second = cells_of(alloc, other, tally)?;
-    Ok(BothCells { first, second })
+    let (first, second) = both_of(operands);
+    let _first = first.extent();
+    let _second = second.extent();
+    let sources = cells_of(alloc, first, tally)?;
+    let friction = cells_of(alloc, second, tally)?;
+    Ok(PathCells {
+        sources,
+        friction,
+        limit,
+    })
 }
 
-/// What is found of one of so many bands.
-pub(crate) fn find_band(
+/// All cells of a surface and its weights. Two looks at each tile of the map.
+fn flow_cells<M: Tally>(
+    alloc: Global,
+    operands: &Operands<'_>,
+    extent: Extent,
+    tally: &mut M,
+) -> Result<FlowCells, NoMemory>
+    requires both { AreBoth extent operands.now }
+    ensures cells { IfOk result (AreFlowCells extent operands.now) }
+    ensures looks { RisesBy (2 * tiles_in extent) 0 (M.counts tally.old) (M.counts tally.new) }
+{
+    let (first, second) = both_of(operands);
+    let _first = first.extent();
+    let _second = second.extent();
+    let surface = cells_of(alloc, first, tally)?;
+    let weights = cells_of(alloc, second, tally)?;
+    Ok(FlowCells { surface, weights })
+}
+
+/// What parts of the layer of an operation are found from; none of one whose layer is made tile by tile from the operands.
+pub(crate) fn ground_by<M: Tally>(
     alloc: Global,
     op: &Op,
     operands: &Operands<'_>,
     extent: Extent,
-    ground: &BothCells,
-    count: u64,
-    k: u64,
-) -> Result<Part, NoMemory>
-    requires ground { AreBothCells extent (op_view op.now) operands.now count ground.now }
-    requires below { k < count }
-    ensures { IfOk result (IsPart extent (op_view op.now) operands.now count k) }
+    tally: &mut M,
+) -> Result<Option<Ground>, NoMemory>
+    requires operands_are { AreOperandsOf extent (op_view op.now) operands.now }
+    ensures ground { IfOk result (λ found. IfSome found (λ q. IsGroundOf (op_view op.now) q × IsGround extent operands.now q)) }
+    ensures looks { RisesBy (laying extent (op_view op.now)) 0 (M.counts tally.old) (M.counts tally.new) }
 {
-    let _rows = extent.rows();
-    let parts = count as u32;
-    match op {
+    let ground = match op {
+        Op::Zonal { .. } => Ground::Zones,
+        Op::Region { .. } => {
+            let only = only_of(operands);
+            let _only = only.extent();
+            Ground::Regions(cells_of(alloc, only, tally)?)
+        }
+        Op::Flow { .. } => Ground::Flow(flow_cells(alloc, operands, extent, tally)?),
         Op::Spread { limit, .. } => {
-            let limit = limit.unsigned_abs() as u64;
-            let band = find_costs(alloc, extent, ground, limit, parts, k)?;
-            Ok(Part::Costs(band))
+            let limit = limit_of(*limit);
+            Ground::Costs(path_cells(alloc, operands, limit, extent, tally)?)
         }
         Op::Neighbor { limit, .. } => {
-            let limit = limit.unsigned_abs() as u64;
-            let band = find_nearest(alloc, extent, ground, limit, parts, k)?;
-            Ok(Part::Nearest(band))
+            let limit = limit_of(*limit);
+            Ground::Nearest(path_cells(alloc, operands, limit, extent, tally)?)
         }
-        Op::Flow { .. } => {
-            let band = find_flows(alloc, extent, ground, parts, k)?;
-            Ok(Part::Flows(band))
-        }
-        _ => unreachable!(),
-    }
+        _ => return Ok(None),
+    };
+    Ok(Some(ground))
 }
 
 /// A layer that was not there, beside which nothing stands.
@@ -104,59 +115,35 @@ fn alone(list: LayerList, worked: u64) -> FreshLayer
     }
 }
 
-/// Costs, nearest sources or flow that were not there, place by place, from what was found of their bands; and the units of work.
-fn make_of_both(
-    alloc: Global,
-    op: &Op,
-    _operands: &Operands<'_>,
-    extent: Extent,
-    ground: BothCells,
-    parts: Vec<Part>,
-) -> Result<FreshLayer, NoMemory>
-    requires found { AreFound AreBothCells IsPart extent (op_view op.now) _operands.now ground parts.items }
-    ensures { IfOk result (IsFreshMade extent (op_view op.now) _operands.now) }
-{
-    let _tiles = extent.tiles();
-    match op {
-        Op::Spread { limit, .. } => {
-            let limit = limit.unsigned_abs() as u64;
-            let costs = spread_by(alloc, extent, &ground, limit, parts)?;
-            let worked = costs.worked;
-            Ok(alone(LayerList::Costs(costs), worked))
-        }
-        Op::Neighbor { limit, .. } => {
-            let limit = limit.unsigned_abs() as u64;
-            nearest_by(alloc, extent, &ground, limit, parts)
-        }
-        Op::Flow { .. } => {
-            let (list, worked) = flow_by(alloc, extent, ground, parts)?;
-            Ok(alone(list, worked))
-        }
-        _ => unreachable!(),
-    }
-}
-
-/// A layer that was not there, place by place, from what was found of its bands; and the units of work.
+/// A layer that was not there, place by place, from what was found of its parts; none of zones, whose parts make a book.
 pub(crate) fn make_fresh(
     alloc: Global,
-    op: &Op,
-    operands: &Operands<'_>,
     extent: Extent,
-    ground: Ground,
+    from: Ground,
     parts: Vec<Part>,
-) -> Result<FreshLayer, NoMemory>
-    requires class { IsTrue (has_work (op_view op.now)) }
-    requires found { AreFound IsGrounded IsPart extent (op_view op.now) operands.now ground parts.items }
-    ensures { IfOk result (IsFreshMade extent (op_view op.now) operands.now) }
+) -> Result<Option<FreshLayer>, NoMemory>
+    requires from { (operands : List ChangeState) × IsGround extent operands from }
+    requires some { 0 < length parts.items }
+    requires each { (k : ℕ) (p : Part) → slice_get parts.items k ≡ Some p → IsGroundPart extent from (length parts.items) k p }
+    ensures { (op : Operation) (operands : List ChangeState) → IsGroundOf op from → HasRanges op → IsGround extent operands from → IfOk result (λ made. IfSome made (IsFreshMade extent op operands)) }
 {
     let _tiles = extent.tiles();
-    match ground {
-        Ground::Cells(cells) => make_of_both(alloc, op, operands, extent, cells, parts),
-        Ground::Only(cells) => {
+    match from {
+        Ground::Costs(cells) => {
+            let costs = spread_by(alloc, extent, &cells, parts)?;
+            let worked = costs.worked;
+            Ok(Some(alone(LayerList::Costs(costs), worked)))
+        }
+        Ground::Nearest(cells) => Ok(Some(nearest_by(alloc, extent, &cells, parts)?)),
+        Ground::Flow(cells) => {
+            let (list, worked) = flow_by(alloc, extent, cells, parts)?;
+            Ok(Some(alone(list, worked)))
+        }
+        Ground::Regions(cells) => {
             let labels = labels_by(alloc, extent, &cells, parts)?;
             let worked = labels.worked;
-            Ok(alone(LayerList::Labels(labels), worked))
+            Ok(Some(alone(LayerList::Labels(labels), worked)))
         }
-        Ground::Tiles => unreachable!(),
+        Ground::Zones => Ok(None),
     }
 }

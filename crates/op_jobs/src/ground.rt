@@ -7,22 +7,34 @@ use layer_tiles::Cell;
 use region_labels::LabelBand;
 use zonal_totals::TileCounts;
 
-/// All cells of both operands.
+/// All cells of sources and frictions, and the greatest cost that counts.
 #[derive(Drop)]
-pub struct BothCells {
-    pub first: Vec<Cell>,
-    pub second: Vec<Cell>,
+pub struct PathCells {
+    pub sources: Vec<Cell>,
+    pub friction: Vec<Cell>,
+    pub limit: u64,
 }
 
-/// What parts are found from.
+/// All cells of a surface and of the weights that drain over it.
+#[derive(Drop)]
+pub struct FlowCells {
+    pub surface: Vec<Cell>,
+    pub weights: Vec<Cell>,
+}
+
+/// What parts are found from, by the class of the operation.
 #[derive(Drop)]
 pub enum Ground {
-    /// All cells of both operands, for bands of rows.
-    Cells(BothCells),
-    /// All cells of the one operand, for bands of rows.
-    Only(Vec<Cell>),
-    /// The operands, whose tiles are read part by part.
-    Tiles,
+    /// Least costs, in bands of rows.
+    Costs(PathCells),
+    /// Nearest sources, in bands of rows.
+    Nearest(PathCells),
+    /// Flow, in bands of rows.
+    Flow(FlowCells),
+    /// The regions of these cells, in bands of rows.
+    Regions(Vec<Cell>),
+    /// Zones, by tiles that are read part by part.
+    Zones,
 }
 
 /// What is found of a part.

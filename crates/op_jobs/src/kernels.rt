@@ -1,107 +1,75 @@
-//! A tile of an operation, by the kernel of its class.
-ghost use Rattle.std.specs.Prelude.{◌≡◌, ◌<◌, ◌≤◌, length, Some, IfOk, IsFalse};
+//! A tile of a statement, by the kernel of its class.
+ghost use Rattle.std.specs.Prelude.{◌≡◌, ◌<◌, ◌≤◌, length};
 ghost use Rattle.std.specs.List.{All};
-ghost use Rattle.map_defs.specs.Damage.{has_work, reach_of};
 ghost use Rattle.map_defs.specs.Drainage.{direction_grid};
-ghost use Rattle.map_defs.specs.Facts.{radius_of};
 ghost use Rattle.map_defs.specs.Focal.{focal_grid, offsets_of};
 ghost use Rattle.map_defs.specs.Incremental.{form_grid};
-ghost use Rattle.map_defs.specs.Operate.{operand, operate};
+ghost use Rattle.map_defs.specs.Local.{local_grid};
+ghost use Rattle.map_defs.specs.Operate.{operand};
 ghost use Rattle.layer_tiles.specs.Answers.{IsTileAnswer};
 ghost use Rattle.layer_tiles.specs.Operands.{cells_after};
 ghost use Rattle.layer_tiles.specs.Tallies.{RisesBy};
 ghost use Rattle.layer_tiles.specs.Tiles.{tiles_in};
-ghost use Rattle.incremental_ops.specs.Shapes.{form_of as form_of_shape};
+ghost use Rattle.local_ops.specs.Operations.{op_of, Takes};
+ghost use Rattle.incremental_ops.specs.Shapes.{form_of};
 ghost use Rattle.statement_parser.specs.Formed.{IsRadius};
-ghost use Rattle.statement_parser.specs.Forms.{form_of};
-ghost use Rattle.statement_parser.specs.Views.{op_view, reach_view};
-ghost use Rattle.map_waves.specs.Statements.{made};
-ghost use Rattle.op_jobs.specs.Beside.{suits};
-ghost use Rattle.op_jobs.specs.Operands.{AreOperandsOf};
-ghost use Rattle.op_jobs.specs.Owning.{IsLocalOf};
-ghost use Rattle.op_jobs.specs.Ranges.{HasRanges};
+ghost use Rattle.map_waves.specs.Operands.{IsOperand};
+ghost use Rattle.op_jobs.specs.Kernels.{CanMake, kernel_cells, kernel_reach, beside_by, worked_by};
 
+use crate::beside::Beside;
+use crate::lists::{FreshLayer, list_tile};
 use crate::operands::first_of;
-use crate::own::TileJobs;
-use crate::sight_jobs::tile_of_sights;
-use crate::zonal_jobs::tile_of_zones;
+use crate::sight::sight_piece;
+use crate::zonal::zonal_piece;
 use drainage_flow::direction_tile;
 use focal_ops::focal_tile;
 use incremental_ops::{Shape, shape_tile};
 use layer_tiles::{Extent, KernelRefusal, Operands, Tally, Tile};
-use local_ops::{LocalOp, Rates, local_tile};
+use local_ops::{LocalOp, local_tile};
 use map_nums::{NoMemory, Stat};
-use sight_lines::Sight;
-use statement_parser::{Form, Op, Reach};
+use sight_lines::{Sight, Viewers};
 use std::alloc::Global;
+use zonal_totals::Book;
 
-/// How many rows and columns off a changed operand cell is felt.
-pub(crate) fn felt_within(op: &Op) -> u32
-    requires { HasRanges (op_view op.now) }
-    ensures reach { result ≡ reach_of (op_view op.now) }
-    ensures most { result ≤ 64 }
-{
-    match op {
-        Op::Focal { reach, .. } => radius_within(*reach),
-        Op::Incremental { .. } | Op::Direction { .. } => 1,
-        Op::Sight { reach, .. } => *reach,
-        _ => 0,
-    }
+/// What makes a tile of an operation, with what it goes by beside the operands.
+#[derive(Drop)]
+pub enum Kernel {
+    Local(LocalOp),
+    /// Of the cells no farther than a radius, of the square of three by three without one.
+    Focal(Stat, Option<u32>),
+    Shape(Shape),
+    Direction,
+    /// Over the book after the edit.
+    Zonal(Stat, Book),
+    /// Over the viewers after the edit.
+    Sight(Sight, Viewers),
+    /// From a layer that was not there, place by place.
+    Fresh(FreshLayer),
 }
 
-/// How many rows and columns off a neighbourhood reaches.
-fn radius_within(reach: Reach) -> u32
-    requires { IsRadius (reach_view reach) }
-    ensures radius { result ≡ radius_of (reach_view reach) }
-    ensures most { result ≤ 64 }
-{
-    match reach {
-        Reach::Square => 1,
-        Reach::Disc(radius) => radius,
+impl Kernel {
+    /// How many rows and columns off a changed operand cell is felt, of a kernel that goes by the operands alone.
+    pub(crate) fn felt_within(&self) -> u32
+        ensures { result ≡ kernel_reach self.now }
+    {
+        match self {
+            Kernel::Focal(_, Some(radius)) => *radius,
+            Kernel::Focal(_, None) | Kernel::Shape(_) | Kernel::Direction => 1,
+            _ => 0,
+        }
     }
-}
 
-/// The radius of a disc; none of the square.
-fn radius_in(reach: Reach) -> Option<u32>
-    ensures { result ≡ reach_view reach }
-{
-    match reach {
-        Reach::Square => None,
-        Reach::Disc(radius) => Some(radius),
-    }
-}
-
-/// The kernel's name of a form.
-fn shape_of(form: Form) -> Shape
-    ensures { form_of_shape result ≡ form_of form }
-{
-    match form {
-        Form::Linkage => Shape::Linkage,
-        Form::Length => Shape::Length,
-        Form::Partition => Shape::Partition,
-        Form::Frontage => Shape::Frontage,
-        Form::Gradient => Shape::Gradient,
-        Form::Aspect => Shape::Aspect,
-    }
-}
-
-/// A Local operation as its kernel takes it; none of any other.
-#[tactic(auto, unfolding(map_defs::specs::Operate::operate))]
-pub(crate) fn local_of(alloc: Global, op: &Op) -> Result<Option<LocalOp>, NoMemory>
-    requires { HasRanges (op_view op.now) }
-    ensures { IfOk result (IsLocalOf (op_view op.now)) }
-{
-    match op {
-        Op::Local {
-            stat,
-            ignoring: true,
-            ..
-        } => Ok(Some(LocalOp::Ignoring(*stat))),
-        Op::Local { stat, .. } => Ok(Some(LocalOp::Stat(*stat))),
-        Op::Difference { .. } => Ok(Some(LocalOp::Difference)),
-        Op::Ratio { .. } => Ok(Some(LocalOp::Ratio)),
-        Op::Rating { rates, .. } => Ok(Some(LocalOp::Rating(Rates::of(alloc, rates)?))),
-        _ => Ok(None),
+    /// What is to stand beside the layer, and the units of work.
+    pub(crate) fn left(self) -> (Beside, u64)
+        ensures beside { result.0 ≡ beside_by self }
+        ensures work { result.1 ≡ worked_by self }
+    {
+        match self {
+            Kernel::Zonal(_, book) => (Beside::Book(book), 0),
+            Kernel::Sight(_, viewers) => (Beside::Viewers(viewers), 0),
+            Kernel::Fresh(fresh) => (fresh.beside, fresh.worked),
+            _ => (Beside::Nothing, 0),
+        }
     }
 }
 
@@ -109,27 +77,27 @@ pub(crate) fn local_of(alloc: Global, op: &Op) -> Result<Option<LocalOp>, NoMemo
 fn tile_of_focal<M: Tally>(
     alloc: Global,
     stat: Stat,
-    reach: Reach,
+    radius: Option<u32>,
     operands: &Operands<'_>,
     extent: Extent,
     tile: u32,
     tally: &mut M,
 ) -> Result<Tile, KernelRefusal>
-    requires radius { IsRadius (reach_view reach) }
+    requires radius { IsRadius radius }
     requires some { 0 < length operands.now }
     requires one_size { All (λ c. c.size ≡ extent) operands.now }
     requires within { tile < tiles_in extent }
-    ensures answer { IsTileAnswer extent (focal_grid stat (offsets_of (reach_view reach)) extent (operand (cells_after operands.now) 0)).cells tile result }
+    ensures answer { IsTileAnswer extent (focal_grid stat (offsets_of radius) extent (operand (cells_after operands.now) 0)).cells tile result }
     ensures tally { RisesBy 25 0 (M.counts tally.old) (M.counts tally.new) }
 {
     let first = first_of(operands);
-    focal_tile(alloc, stat, first, radius_in(reach), tile, tally)
+    focal_tile(alloc, stat, first, radius, tile, tally)
 }
 
 /// A tile of an Incremental operation.
-fn tile_of_form<M: Tally>(
+fn tile_of_shape<M: Tally>(
     alloc: Global,
-    form: Form,
+    shape: Shape,
     operands: &Operands<'_>,
     extent: Extent,
     tile: u32,
@@ -138,11 +106,11 @@ fn tile_of_form<M: Tally>(
     requires some { 0 < length operands.now }
     requires one_size { All (λ c. c.size ≡ extent) operands.now }
     requires within { tile < tiles_in extent }
-    ensures answer { IsTileAnswer extent (form_grid (form_of form) extent (operand (cells_after operands.now) 0)).cells tile result }
+    ensures answer { IsTileAnswer extent (form_grid (form_of shape) extent (operand (cells_after operands.now) 0)).cells tile result }
     ensures tally { RisesBy 25 0 (M.counts tally.old) (M.counts tally.new) }
 {
     let first = first_of(operands);
-    shape_tile(alloc, shape_of(form), first, tile, tally)
+    shape_tile(alloc, shape, first, tile, tally)
 }
 
 /// A tile of directions.
@@ -169,68 +137,48 @@ fn tile_of_directions<M: Tally>(
 /// A tile of a Local operation.
 fn tile_of_local<M: Tally>(
     alloc: Global,
-    op: &Op,
     local: &LocalOp,
     operands: &Operands<'_>,
     extent: Extent,
     tile: u32,
     tally: &mut M,
 ) -> Result<Tile, KernelRefusal>
-    requires local { IsLocalOf (op_view op.now) (Some local.now) }
-    requires terms { length operands.now ≡ length (op_view op.now).terms }
+    requires takes { Takes (op_of local.now) (length operands.now) }
     requires one_size { All (λ c. c.size ≡ extent) operands.now }
     requires within { tile < tiles_in extent }
-    ensures answer { IsTileAnswer extent (made extent (op_view op.now) (cells_after operands.now)) tile result }
+    ensures answer { IsTileAnswer extent (local_grid extent (op_of local.now) (cells_after operands.now)).cells tile result }
     ensures tally { RisesBy 25 0 (M.counts tally.old) (M.counts tally.new) }
 {
     let _few = operands.len();
     local_tile(alloc, local, operands, tile, tally)
 }
 
-/// A tile of an operation, by what its jobs share. At most 25 looks.
-#[tactic(auto, unfolding(map_defs::specs::Operate::operate))]
+/// A tile of an operation. At most 25 looks.
 pub(crate) fn make_tile<M: Tally>(
     alloc: Global,
-    op: &Op,
-    own: &TileJobs,
+    kernel: &Kernel,
     operands: &Operands<'_>,
     extent: Extent,
     tile: u32,
     tally: &mut M,
 ) -> Result<Tile, KernelRefusal>
-    requires operands_are { AreOperandsOf extent (op_view op.now) operands.now }
-    requires class { IsFalse (has_work (op_view op.now)) }
-    requires local { IsLocalOf (op_view op.now) own.now.local }
-    requires beside { suits extent (op_view op.now) (cells_after operands.now) own.now.beside }
+    requires operands_are { All (IsOperand extent) operands.now }
+    requires can { CanMake extent operands.now kernel.now }
     requires within { tile < tiles_in extent }
-    ensures answer { IsTileAnswer extent (made extent (op_view op.now) (cells_after operands.now)) tile result }
+    ensures answer { IsTileAnswer extent (kernel_cells extent operands.now kernel.now) tile result }
     ensures tally { RisesBy 25 0 (M.counts tally.old) (M.counts tally.new) }
 {
-    match op {
-        Op::Focal { stat, reach, .. } => {
-            tile_of_focal(alloc, *stat, *reach, operands, extent, tile, tally)
+    match kernel {
+        Kernel::Local(local) => tile_of_local(alloc, local, operands, extent, tile, tally),
+        Kernel::Focal(stat, radius) => {
+            tile_of_focal(alloc, *stat, *radius, operands, extent, tile, tally)
         }
-        Op::Incremental { form, .. } => tile_of_form(alloc, *form, operands, extent, tile, tally),
-        Op::Direction { .. } => tile_of_directions(alloc, operands, extent, tile, tally),
-        Op::Zonal { stat, .. } => {
-            tile_of_zones(alloc, *stat, &own.beside, operands, extent, tile, tally)
+        Kernel::Shape(shape) => tile_of_shape(alloc, *shape, operands, extent, tile, tally),
+        Kernel::Direction => tile_of_directions(alloc, operands, extent, tile, tally),
+        Kernel::Zonal(stat, book) => zonal_piece(alloc, *stat, book, operands, extent, tile, tally),
+        Kernel::Sight(sight, viewers) => {
+            sight_piece(alloc, *sight, viewers, operands, extent, tile, tally)
         }
-        Op::Sight {
-            from,
-            to,
-            reach,
-            ..
-        } => {
-            let sight = Sight {
-                from: *from,
-                to: *to,
-                reach: *reach,
-            };
-            tile_of_sights(alloc, sight, &own.beside, operands, extent, tile, tally)
-        }
-        _ => match &own.local {
-            Some(local) => tile_of_local(alloc, op, local, operands, extent, tile, tally),
-            None => unreachable!(),
-        },
+        Kernel::Fresh(fresh) => list_tile(alloc, extent, tile, &fresh.list),
     }
 }

@@ -4,6 +4,7 @@
 #![tactic(auto)]
 
 mod beside;
+mod classes;
 mod damage;
 mod flow_bands;
 mod fresh;
@@ -15,10 +16,10 @@ mod lists;
 mod nearest_bands;
 mod operands;
 mod own;
+mod owning;
 mod parts;
 mod pieces;
 mod sight;
-mod sight_jobs;
 mod spread_bands;
 mod statements;
 mod tiles;
@@ -31,13 +32,13 @@ mod whole_nearest;
 mod whole_regions;
 mod whole_spread;
 mod zonal;
-mod zonal_jobs;
 mod zonal_kernel;
 mod zonal_parts;
 mod zonal_zones;
 
 pub use beside::Beside;
-pub use ground::{BothCells, Ground, Part};
-pub use own::{Own, TileJobs};
+pub use ground::{FlowCells, Ground, Part, PathCells};
+pub use kernels::Kernel;
+pub use own::{Own, Repair, TileJobs, WholeJob};
 pub use pieces::Piece;
 pub use statements::Statements;

@@ -1,18 +1,15 @@
 //! Nearest sources of a map that had none, and the least costs beside them, in bands of rows.
 ghost use Rattle.std.specs.Prelude.{◌≡◌, ℕ, suc, ◌<◌, ◌≤◌, length, Some, slice_get, IfOk};
-ghost use Rattle.map_nums.specs.Grids.{cells_in};
-ghost use Rattle.map_nums.specs.Numbers.{greatest_value};
-ghost use Rattle.friction_spread.specs.Bands.{ground_of};
 ghost use Rattle.friction_neighbor.specs.Bands.{IsNearestBand};
 ghost use Rattle.friction_neighbor.specs.declared.bands.NearestBand.{NearestBand};
-ghost use Rattle.op_jobs.specs.Fresh.{IsNearest};
+ghost use Rattle.op_jobs.specs.Grounds.{FillPaths, path_ground, IsNearest};
 ghost use Rattle.op_jobs.specs.Nearest.{IsNearestFresh};
 ghost use Rattle.op_jobs.specs.Parts.{part_start};
 ghost use Rattle.op_jobs.specs.declared.ground.Part.{Part};
 ghost use Rattle.op_jobs.specs.declared.ground.Part.TheVariants.{Nearest};
 
 use crate::beside::Beside;
-use crate::ground::{BothCells, Part};
+use crate::ground::{Part, PathCells};
 use crate::kinds::all_of;
 use crate::lists::{FreshLayer, LayerList};
 use crate::parts::part_start;
@@ -26,27 +23,25 @@ use std::alloc::Global;
 pub(crate) fn find_nearest(
     alloc: Global,
     extent: Extent,
-    ground: &BothCells,
-    limit: u64,
-    parts: u32,
+    ground: &PathCells,
+    count: u64,
     k: u64,
 ) -> Result<NearestBand, NoMemory>
-    requires limit { limit ≤ greatest_value }
-    requires first { length ground.now.first.items ≡ cells_in extent }
-    requires second { length ground.now.second.items ≡ cells_in extent }
-    requires few { parts ≤ extent.rows }
-    requires below { k < parts }
-    ensures { IfOk result (IsNearestBand (ground_of extent ground.now.first.items ground.now.second.items limit) (part_start extent.rows parts k) (part_start extent.rows parts (suc k))) }
+    requires cells { FillPaths extent ground.now }
+    requires few { count ≤ extent.rows }
+    requires below { k < count }
+    ensures { IfOk result (IsNearestBand (path_ground extent ground.now) (part_start extent.rows count k) (part_start extent.rows count (suc k))) }
 {
     let rows = extent.rows();
+    let parts = count as u32;
     let first = part_start(rows, parts, k);
     let end = part_start(rows, parts, k + 1);
-    let most = limit as Value;
+    let most = ground.limit as Value;
     nearest_of_band(
         alloc,
         extent,
-        &ground.first,
-        &ground.second,
+        &ground.sources,
+        &ground.friction,
         most,
         first,
         end,
@@ -57,20 +52,24 @@ pub(crate) fn find_nearest(
 pub(crate) fn nearest_by(
     alloc: Global,
     extent: Extent,
-    ground: &BothCells,
-    limit: u64,
+    ground: &PathCells,
     parts: Vec<Part>,
 ) -> Result<FreshLayer, NoMemory>
-    requires limit { limit ≤ greatest_value }
-    requires first { length ground.now.first.items ≡ cells_in extent }
-    requires second { length ground.now.second.items ≡ cells_in extent }
+    requires cells { FillPaths extent ground.now }
     requires some { 0 < length parts.items }
-    requires each { (k : ℕ) (p : Part) → slice_get parts.items k ≡ Some p → IsNearest (ground_of extent ground.now.first.items ground.now.second.items limit) (length parts.items) k p }
-    ensures { IfOk result (IsNearestFresh (ground_of extent ground.now.first.items ground.now.second.items limit)) }
+    requires each { (k : ℕ) (p : Part) → slice_get parts.items k ≡ Some p → IsNearest (path_ground extent ground.now) (length parts.items) k p }
+    ensures { IfOk result (IsNearestFresh (path_ground extent ground.now)) }
 {
-    let most = limit as Value;
+    let most = ground.limit as Value;
     let bands = all_of::<NearestBand>(alloc, parts)?;
-    let list = nearest_of_bands(alloc, extent, &ground.first, &ground.second, most, bands)?;
+    let list = nearest_of_bands(
+        alloc,
+        extent,
+        &ground.sources,
+        &ground.friction,
+        most,
+        bands,
+    )?;
     let costs = list.costs(alloc, extent)?;
     let worked = list.worked();
     Ok(FreshLayer {

@@ -1,30 +1,47 @@
 //! What the jobs of one statement share.
 
-use crate::beside::Beside;
-use crate::lists::LayerList;
+use crate::kernels::Kernel;
 use damage_sets::TileSet;
-use local_ops::LocalOp;
 
 /// What the jobs of one statement share.
 #[derive(Drop)]
 pub enum Own {
     /// A job for each tile of the damage.
     Tiles(TileJobs),
-    /// One job for all; and the tiles in which an operand changed, all of them where no layer is kept.
-    Whole(TileSet),
+    /// One job for all.
+    Whole(WholeJob),
 }
 
-/// What the jobs of a statement share that makes its tiles one by one.
+/// A job for each tile of the damage.
 #[derive(Drop)]
 pub struct TileJobs {
     /// The damage, in ascending order.
     pub tiles: Vec<u32>,
-    /// The Local operation as its kernel takes it; none of any other.
-    pub local: Option<LocalOp>,
-    /// What is to stand beside the layer.
-    pub beside: Beside,
-    /// The layer place by place, where it was not there and is made of parts that workers found.
-    pub list: Option<LayerList>,
-    /// The units of work.
-    pub worked: u64,
+    pub kernel: Kernel,
+}
+
+/// One job that repairs all of a layer.
+#[derive(Drop)]
+pub struct WholeJob {
+    pub repair: Repair,
+    /// The tiles in which an operand changed, all of them where no layer is kept.
+    pub touched: TileSet,
+}
+
+/// What repairs a layer whole.
+#[derive(Clone, Copy)]
+pub enum Repair {
+    /// With nothing beside it.
+    Alone(Lone),
+    /// Nearest sources up to a limit, with the least costs beside them.
+    Nearest(u64),
+}
+
+/// What repairs a layer beside which nothing stands.
+#[derive(Clone, Copy)]
+pub enum Lone {
+    Flow,
+    /// Least costs, up to a limit.
+    Spread(u64),
+    Regions,
 }

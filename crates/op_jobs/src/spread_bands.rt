@@ -1,15 +1,13 @@
 //! The least costs of a map that had none, in bands of rows.
 ghost use Rattle.std.specs.Prelude.{◌≡◌, ℕ, suc, ◌<◌, ◌≤◌, length, Some, slice_get, IfOk};
-ghost use Rattle.map_nums.specs.Grids.{cells_in};
-ghost use Rattle.map_nums.specs.Numbers.{greatest_value};
-ghost use Rattle.friction_spread.specs.Bands.{ground_of, IsCostBand};
+ghost use Rattle.friction_spread.specs.Bands.{IsCostBand};
 ghost use Rattle.friction_spread.specs.Lists.{IsCostList};
 ghost use Rattle.friction_spread.specs.declared.bands.CostBand.{CostBand};
-ghost use Rattle.op_jobs.specs.Fresh.{IsCosts};
+ghost use Rattle.op_jobs.specs.Grounds.{FillPaths, path_ground, IsCosts};
 ghost use Rattle.op_jobs.specs.Parts.{part_start};
 ghost use Rattle.op_jobs.specs.declared.ground.Part.{Part};
 
-use crate::ground::{BothCells, Part};
+use crate::ground::{Part, PathCells};
 use crate::kinds::all_of;
 use crate::parts::part_start;
 use friction_spread::{CostBand, CostList, costs_of_band, spread_of_bands};
@@ -21,27 +19,25 @@ use std::alloc::Global;
 pub(crate) fn find_costs(
     alloc: Global,
     extent: Extent,
-    ground: &BothCells,
-    limit: u64,
-    parts: u32,
+    ground: &PathCells,
+    count: u64,
     k: u64,
 ) -> Result<CostBand, NoMemory>
-    requires limit { limit ≤ greatest_value }
-    requires first { length ground.now.first.items ≡ cells_in extent }
-    requires second { length ground.now.second.items ≡ cells_in extent }
-    requires few { parts ≤ extent.rows }
-    requires below { k < parts }
-    ensures { IfOk result (IsCostBand (ground_of extent ground.now.first.items ground.now.second.items limit) (part_start extent.rows parts k) (part_start extent.rows parts (suc k))) }
+    requires cells { FillPaths extent ground.now }
+    requires few { count ≤ extent.rows }
+    requires below { k < count }
+    ensures { IfOk result (IsCostBand (path_ground extent ground.now) (part_start extent.rows count k) (part_start extent.rows count (suc k))) }
 {
     let rows = extent.rows();
+    let parts = count as u32;
     let first = part_start(rows, parts, k);
     let end = part_start(rows, parts, k + 1);
-    let most = limit as Value;
+    let most = ground.limit as Value;
     costs_of_band(
         alloc,
         extent,
-        &ground.first,
-        &ground.second,
+        &ground.sources,
+        &ground.friction,
         most,
         first,
         end,
@@ -52,18 +48,22 @@ pub(crate) fn find_costs(
 pub(crate) fn spread_by(
     alloc: Global,
     extent: Extent,
-    ground: &BothCells,
-    limit: u64,
+    ground: &PathCells,
     parts: Vec<Part>,
 ) -> Result<CostList, NoMemory>
-    requires limit { limit ≤ greatest_value }
-    requires first { length ground.now.first.items ≡ cells_in extent }
-    requires second { length ground.now.second.items ≡ cells_in extent }
+    requires cells { FillPaths extent ground.now }
     requires some { 0 < length parts.items }
-    requires each { (k : ℕ) (p : Part) → slice_get parts.items k ≡ Some p → IsCosts (ground_of extent ground.now.first.items ground.now.second.items limit) (length parts.items) k p }
-    ensures { IfOk result (IsCostList (ground_of extent ground.now.first.items ground.now.second.items limit)) }
+    requires each { (k : ℕ) (p : Part) → slice_get parts.items k ≡ Some p → IsCosts (path_ground extent ground.now) (length parts.items) k p }
+    ensures { IfOk result (IsCostList (path_ground extent ground.now)) }
 {
-    let most = limit as Value;
+    let most = ground.limit as Value;
     let bands = all_of::<CostBand>(alloc, parts)?;
-    spread_of_bands(alloc, extent, &ground.first, &ground.second, most, &bands)
+    spread_of_bands(
+        alloc,
+        extent,
+        &ground.sources,
+        &ground.friction,
+        most,
+        &bands,
+    )
 }

@@ -1,178 +1,28 @@
-//! The jobs of each class of statements.
+//! The jobs of statements, class by class.
 
-ghost use Rattle.std.specs.Prelude.{◌≡◌, ◌*◌, length, None, IfOk, IfSome, IsTrue};
-ghost use Rattle.map_defs.specs.Damage.{has_work};
-ghost use Rattle.layer_tiles.specs.Tallies.{RisesBy};
-ghost use Rattle.statement_parser.specs.Views.{op_view};
-ghost use Rattle.map_waves.specs.Found.{AreFound};
-ghost use Rattle.map_waves.specs.Keeping.{kept_now, was_of};
-ghost use Rattle.map_waves.specs.Statements.{damage_by};
-ghost use Rattle.op_jobs.specs.Fresh.{IsGrounded, IsPart};
-ghost use Rattle.op_jobs.specs.Classes.{is_plain, is_sight, is_zonal};
-ghost use Rattle.op_jobs.specs.Operands.{IsEdited};
-ghost use Rattle.op_jobs.specs.Owning.{IsOwn, IsOwnAnswer, count_of};
-ghost use Rattle.op_jobs.specs.Sound.{is_whole};
+ghost use Rattle.std.specs.Prelude.{◌≡◌};
+ghost use Rattle.op_jobs.specs.Owning.{count_of};
 
 use crate::beside::Beside;
-use crate::damage::{all_tiles, reached_tiles};
-use crate::fresh::{find_band, is_banded, lay, make_fresh};
+use crate::flow_bands::find_flows;
+use crate::fresh::ground_by;
 use crate::ground::{Ground, Part};
-use crate::label_bands::{find_labels, lay_only};
-use crate::own::{Own, TileJobs};
+use crate::label_bands::find_labels;
+use crate::nearest_bands::find_nearest;
+use crate::own::Own;
+use crate::owning::own_of;
 use crate::parts::parts_of;
 use crate::pieces::Piece;
-use crate::sight_jobs::sight_jobs;
-use crate::tiles::{do_tile, gather_tiles, tile_jobs};
+use crate::spread_bands::find_costs;
+use crate::tiles::{do_tile, gather_tiles};
 use crate::weights::weight_of;
 use crate::whole_jobs::{do_whole, gather_whole};
-use crate::zonal_jobs::zonal_jobs;
 use crate::zonal_parts::count_part;
 use layer_tiles::{Extent, KernelRefusal, Operands, Tally};
 use map_nums::NoMemory;
 use map_waves::{Jobs, Kept, Made, Maker, NoJobs};
 use statement_parser::Op;
 use std::alloc::Global;
-
-/// What the jobs of an operation share whose tiles come from its operands alone.
-fn plain_own<M: Tally>(
-    alloc: Global,
-    op: &Op,
-    operands: &Operands<'_>,
-    kept: Option<&Kept<Beside>>,
-    extent: Extent,
-    tally: &mut M,
-) -> Result<Own, NoJobs>
-    requires edited { IsEdited extent (op_view op.now) operands.now (kept_now kept) }
-    requires plain { IsTrue (is_plain (op_view op.now)) }
-    ensures answer { IsOwnAnswer extent (op_view op.entry.now) operands.entry.now (was_of (kept_now kept.entry)) result }
-    ensures looks { RisesBy (26 * length (damage_by extent (op_view op.entry.now) (was_of (kept_now kept.entry)) operands.entry.now)) 0 (M.counts tally.old) (M.counts tally.new) }
-{
-    match tile_jobs(alloc, op, operands, kept, extent, tally) {
-        Ok(jobs) => Ok(Own::Tiles(jobs)),
-        Err(NoMemory) => Err(NoJobs::NoMemory),
-    }
-}
-
-/// What the jobs of a Zonal operation share.
-fn zonal_own<M: Tally>(
-    alloc: Global,
-    op: &Op,
-    operands: &Operands<'_>,
-    kept: Option<&Kept<Beside>>,
-    extent: Extent,
-    found: Option<(Ground, Vec<Part>)>,
-    tally: &mut M,
-) -> Result<Own, NoJobs>
-    requires edited { IsEdited extent (op_view op.now) operands.now (kept_now kept) }
-    requires zonal { IsTrue (is_zonal (op_view op.now)) }
-    requires found { IfSome found (λ q. AreFound IsGrounded IsPart extent (op_view op.now) operands.now q.0 q.1.items) }
-    ensures answer { IsOwnAnswer extent (op_view op.entry.now) operands.entry.now (was_of (kept_now kept.entry)) result }
-    ensures looks { RisesBy (26 * length (damage_by extent (op_view op.entry.now) (was_of (kept_now kept.entry)) operands.entry.now)) 0 (M.counts tally.old) (M.counts tally.new) }
-{
-    match zonal_jobs(alloc, op, operands, kept, extent, found, tally) {
-        Ok(jobs) => Ok(Own::Tiles(jobs)),
-        Err(NoMemory) => Err(NoJobs::NoMemory),
-    }
-}
-
-/// What the jobs of a sight operation share.
-fn sight_own<M: Tally>(
-    alloc: Global,
-    op: &Op,
-    operands: &Operands<'_>,
-    kept: Option<&Kept<Beside>>,
-    extent: Extent,
-    tally: &mut M,
-) -> Result<Own, NoJobs>
-    requires edited { IsEdited extent (op_view op.now) operands.now (kept_now kept) }
-    requires sight { IsTrue (is_sight (op_view op.now)) }
-    ensures answer { IsOwnAnswer extent (op_view op.entry.now) operands.entry.now (was_of (kept_now kept.entry)) result }
-    ensures looks { RisesBy (26 * length (damage_by extent (op_view op.entry.now) (was_of (kept_now kept.entry)) operands.entry.now)) 0 (M.counts tally.old) (M.counts tally.new) }
-{
-    match sight_jobs(alloc, op, operands, kept, extent, tally) {
-        Ok(jobs) => Ok(Own::Tiles(jobs)),
-        Err(halt) => Err(halt),
-    }
-}
-
-/// A job for each tile of a layer that was not there, from what was found of its bands.
-fn fresh_own(
-    alloc: Global,
-    op: &Op,
-    operands: &Operands<'_>,
-    extent: Extent,
-    ground: Ground,
-    parts: Vec<Part>,
-) -> Result<Own, NoMemory>
-    requires class { IsTrue (has_work (op_view op.now)) }
-    requires found { AreFound IsGrounded IsPart extent (op_view op.now) operands.now ground parts.items }
-    ensures { IfOk result (IsOwn extent (op_view op.now) operands.now None) }
-{
-    let fresh = make_fresh(alloc, op, operands, extent, ground, parts)?;
-    let tiles = all_tiles(alloc, extent)?;
-    Ok(Own::Tiles(TileJobs {
-        tiles,
-        local: None,
-        beside: fresh.beside,
-        list: Some(fresh.list),
-        worked: fresh.worked,
-    }))
-}
-
-/// What the jobs of an operation share that takes work: a job for each tile where there was no layer and its bands were found, else one.
-fn whole_own<M: Tally>(
-    alloc: Global,
-    op: &Op,
-    operands: &Operands<'_>,
-    kept: Option<&Kept<Beside>>,
-    extent: Extent,
-    found: Option<(Ground, Vec<Part>)>,
-    tally: &mut M,
-) -> Result<Own, NoJobs>
-    requires edited { IsEdited extent (op_view op.now) operands.now (kept_now kept) }
-    requires class { IsTrue (has_work (op_view op.now)) }
-    requires found { IfSome found (λ q. AreFound IsGrounded IsPart extent (op_view op.now) operands.now q.0 q.1.items) }
-    ensures answer { IsOwnAnswer extent (op_view op.entry.now) operands.entry.now (was_of (kept_now kept.entry)) result }
-    ensures looks { RisesBy (26 * length (damage_by extent (op_view op.entry.now) (was_of (kept_now kept.entry)) operands.entry.now)) 0 (M.counts tally.old) (M.counts tally.new) }
-{
-    if kept.is_none() {
-        if let Some((ground, parts)) = found {
-            return match fresh_own(alloc, op, operands, extent, ground, parts) {
-                Ok(own) => Ok(own),
-                Err(NoMemory) => Err(NoJobs::NoMemory),
-            };
-        }
-    }
-    match reached_tiles(alloc, 0, operands, kept, extent, tally) {
-        Ok(set) => Ok(Own::Whole(set)),
-        Err(NoMemory) => Err(NoJobs::NoMemory),
-    }
-}
-
-/// What the jobs of an operation share.
-fn own_of<M: Tally>(
-    alloc: Global,
-    op: &Op,
-    operands: &Operands<'_>,
-    kept: Option<&Kept<Beside>>,
-    extent: Extent,
-    found: Option<(Ground, Vec<Part>)>,
-    tally: &mut M,
-) -> Result<Own, NoJobs>
-    requires edited { IsEdited extent (op_view op.now) operands.now (kept_now kept) }
-    requires found { IfSome found (λ q. AreFound IsGrounded IsPart extent (op_view op.now) operands.now q.0 q.1.items) }
-    ensures answer { IsOwnAnswer extent (op_view op.entry.now) operands.entry.now (was_of (kept_now kept.entry)) result }
-    ensures looks { RisesBy (26 * length (damage_by extent (op_view op.entry.now) (was_of (kept_now kept.entry)) operands.entry.now)) 0 (M.counts tally.old) (M.counts tally.new) }
-{
-    match op {
-        Op::Flow { .. } | Op::Spread { .. } | Op::Neighbor { .. } | Op::Region { .. } => {
-            whole_own(alloc, op, operands, kept, extent, found, tally)
-        }
-        Op::Zonal { .. } => zonal_own(alloc, op, operands, kept, extent, found, tally),
-        Op::Sight { .. } => sight_own(alloc, op, operands, kept, extent, tally),
-        _ => plain_own(alloc, op, operands, kept, extent, tally),
-    }
-}
 
 /// How many jobs.
 fn count_of(own: &Own) -> u64
@@ -181,16 +31,6 @@ fn count_of(own: &Own) -> u64
     match own {
         Own::Tiles(jobs) => jobs.tiles.len() as u64,
         Own::Whole(_) => 1,
-    }
-}
-
-/// Whether one job repairs all.
-fn is_whole(own: &Own) -> bool
-    ensures { result ≡ is_whole own.now }
-{
-    match own {
-        Own::Whole(_) => true,
-        _ => false,
     }
 }
 
@@ -212,7 +52,7 @@ impl Maker for Statements {
     ghost use Rattle.map_waves.specs.Jobs.{was_in, AreOver};
     ghost use Rattle.statement_parser.specs.Views.{op_view};
     ghost use Rattle.op_jobs.specs.Beside.{suits as what_suits};
-    ghost use Rattle.op_jobs.specs.Fresh.{IsGrounded, IsPart, grounding, finding};
+    ghost use Rattle.op_jobs.specs.Grounds.{IsGrounded, IsPart, grounding, finding};
     ghost use Rattle.op_jobs.specs.Ranges.{HasRanges};
     ghost use Rattle.op_jobs.specs.Sound.{IsSound, IsPiece, ArePieces, first as first_looks, looks as job_looks, picks as job_picks};
 
@@ -265,18 +105,10 @@ impl Maker for Statements {
         if kept.is_some() || parts < 2 {
             return Ok(None);
         }
-        if let Op::Zonal { .. } = op {
-            return Ok(Some((Ground::Tiles, u64::from(parts))));
+        match ground_by(alloc, op, operands, extent, tally)? {
+            Some(ground) => Ok(Some((ground, u64::from(parts)))),
+            None => Ok(None),
         }
-        if let Op::Region { .. } = op {
-            let cells = lay_only(alloc, op, operands, extent, parts, tally)?;
-            return Ok(Some((Ground::Only(cells), u64::from(parts))));
-        }
-        if !is_banded(op) {
-            return Ok(None);
-        }
-        let cells = lay(alloc, op, operands, extent, parts, tally)?;
-        Ok(Some((Ground::Cells(cells), u64::from(parts))))
     }
 
     fn find_part<M: Tally>(
@@ -290,9 +122,15 @@ impl Maker for Statements {
         tally: &mut M,
     ) -> Result<Part, NoMemory> {
         match ground {
-            Ground::Cells(cells) => find_band(alloc, op, operands, extent, cells, count, k),
-            Ground::Only(cells) => find_labels(alloc, op, operands, extent, cells, count, k),
-            Ground::Tiles => count_part(alloc, operands, extent, count, k, tally),
+            Ground::Costs(cells) => Ok(Part::Costs(find_costs(alloc, extent, cells, count, k)?)),
+            Ground::Nearest(cells) => {
+                Ok(Part::Nearest(find_nearest(alloc, extent, cells, count, k)?))
+            }
+            Ground::Flow(cells) => Ok(Part::Flows(find_flows(alloc, extent, cells, count, k)?)),
+            Ground::Regions(cells) => Ok(Part::Labels(find_labels(
+                alloc, extent, cells, count, k,
+            )?)),
+            Ground::Zones => count_part(alloc, operands, extent, count, k, tally),
         }
     }
 
@@ -332,7 +170,7 @@ impl Maker for Statements {
     }
 
     fn weight(jobs: &Jobs<'_, '_, Op, Beside, Own>) -> u64 {
-        weight_of(jobs.op, &jobs.own, jobs.kept)
+        weight_of(&jobs.own, jobs.kept)
     }
 
     fn do_job<M: Tally>(
@@ -343,7 +181,7 @@ impl Maker for Statements {
     ) -> Result<Piece, KernelRefusal> {
         match &jobs.own {
             Own::Tiles(own) => do_tile(alloc, jobs, own, job, tally),
-            Own::Whole(touched) => do_whole(alloc, jobs, touched, tally),
+            Own::Whole(job) => do_whole(alloc, jobs, job, tally),
         }
     }
 
@@ -357,9 +195,10 @@ impl Maker for Statements {
         requires each { ArePieces jobs pieces_made.items }
         ensures { IfOk result (IsRepaired what_suits jobs.entry.size (op_view jobs.entry.op) jobs.entry.operands (was_in jobs.entry)) }
     {
-        if is_whole(&jobs.own) {
-            return Ok(gather_whole(&jobs, pieces_made));
+        let Jobs { extent, own, .. } = jobs;
+        match own {
+            Own::Tiles(own) => gather_tiles(alloc, extent, own, pieces_made),
+            Own::Whole(_) => Ok(gather_whole(alloc, extent, pieces_made)),
         }
-        gather_tiles(alloc, jobs, pieces_made)
     }
 }

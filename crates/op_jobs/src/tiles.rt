@@ -1,59 +1,26 @@
 //! Statements that are repaired tile by tile: a job for each tile of the damage.
-ghost use Rattle.std.specs.Prelude.{◌≡◌, ◌^◌, ◌<◌, ◌++◌, length, slice_index, IfOk, IfSome, IsTrue, OnOk};
-ghost use Rattle.layer_tiles.specs.Answers.{IsTileAnswer};
+ghost use Rattle.std.specs.Prelude.{◌≡◌, ◌^◌, ◌<◌, ◌++◌, length, slice_index, IfOk, IfSome, OnOk};
+ghost use Rattle.std.specs.List.{All};
+ghost use Rattle.std.specs.List.Sorted.{IsStrictlyIncreasing};
 ghost use Rattle.layer_tiles.specs.Patches.{IsAboveLast};
 ghost use Rattle.layer_tiles.specs.Tallies.{RisesBy};
 ghost use Rattle.layer_tiles.specs.Tiles.{tiles_in};
-ghost use Rattle.statement_parser.specs.Views.{op_view};
-ghost use Rattle.map_waves.specs.Gathered.{IsRepaired};
 ghost use Rattle.map_waves.specs.Jobs.{was_in};
-ghost use Rattle.map_waves.specs.Keeping.{kept_now, was_of};
-ghost use Rattle.op_jobs.specs.Beside.{suits};
-ghost use Rattle.op_jobs.specs.Classes.{is_plain};
-ghost use Rattle.op_jobs.specs.Operands.{IsEdited};
+ghost use Rattle.map_waves.specs.Keeping.{kept_now};
 ghost use Rattle.op_jobs.specs.Others.{IsOther};
-ghost use Rattle.op_jobs.specs.Owning.{AreTileJobs, reached_looks, count_of};
-ghost use Rattle.op_jobs.specs.Pieces.{IsTilePiece, IsTilePatch, FitsTile, tiles_at};
-ghost use Rattle.op_jobs.specs.Sound.{IsSound, now_in, ArePieces, are_tiles, IsMadeOf};
+ghost use Rattle.op_jobs.specs.Pieces.{IsTilePiece, FitsTile, FitTiles, tiles_at, tiles_of};
+ghost use Rattle.op_jobs.specs.Sound.{IsSound, IsMadeOf, now_in};
 ghost use Rattle.op_jobs.specs.declared.own.Own.TheVariants.{Tiles};
 
 use crate::beside::Beside;
-use crate::damage::{reached_tiles, tiles_of};
-use crate::kernels::{felt_within, local_of, make_tile};
-use crate::lists::list_tile;
+use crate::kernels::make_tile;
 use crate::own::{Own, TileJobs};
 use crate::pieces::Piece;
-use layer_tiles::{Extent, KernelRefusal, Operands, Patch, Tally, Tile};
+use layer_tiles::{Extent, KernelRefusal, Patch, Tally, Tile};
 use map_nums::NoMemory;
 use map_waves::{Jobs, Kept, Made};
 use statement_parser::Op;
 use std::alloc::Global;
-
-/// The jobs of an operation whose tiles come from its operands alone.
-pub(crate) fn tile_jobs<M: Tally>(
-    alloc: Global,
-    op: &Op,
-    operands: &Operands<'_>,
-    kept: Option<&Kept<Beside>>,
-    extent: Extent,
-    tally: &mut M,
-) -> Result<TileJobs, NoMemory>
-    requires edited { IsEdited extent (op_view op.now) operands.now (kept_now kept) }
-    requires plain { IsTrue (is_plain (op_view op.now)) }
-    ensures jobs { IfOk result (AreTileJobs extent (op_view op.entry.now) operands.entry.now (was_of (kept_now kept.entry))) }
-    ensures looks { RisesBy (reached_looks (was_of (kept_now kept.entry)) operands.entry.now) 0 (M.counts tally.old) (M.counts tally.new) }
-{
-    let local = local_of(alloc, op)?;
-    let set = reached_tiles(alloc, felt_within(op), operands, kept, extent, tally)?;
-    let tiles = tiles_of(alloc, &set)?;
-    Ok(TileJobs {
-        tiles,
-        local,
-        beside: Beside::Nothing,
-        list: None,
-        worked: 0,
-    })
-}
 
 /// The tile; none where the kept one has its cells, at which it looks.
 fn unless_same<M: Tally>(
@@ -75,26 +42,6 @@ fn unless_same<M: Tally>(
     Some(made)
 }
 
-/// The tile, of the list that there is of its layer, else of the operands.
-fn tile_by<M: Tally>(
-    alloc: Global,
-    jobs: &Jobs<'_, '_, Op, Beside, Own>,
-    own: &TileJobs,
-    tile: u32,
-    tally: &mut M,
-) -> Result<Tile, KernelRefusal>
-    requires sound { IsSound jobs.now }
-    requires own { jobs.now.own ≡ Tiles own.now }
-    requires within { tile < tiles_in jobs.now.size }
-    ensures answer { IsTileAnswer jobs.now.size (now_in jobs.now) tile result }
-    ensures tally { RisesBy 25 0 (M.counts tally.old) (M.counts tally.new) }
-{
-    if let Some(list) = &own.list {
-        return list_tile(alloc, jobs.extent, tile, list);
-    }
-    make_tile(alloc, jobs.op, own, jobs.operands, jobs.extent, tile, tally)
-}
-
 /// Makes the tile of a job, at most 25 looks, and looks at the kept one.
 pub(crate) fn do_tile<M: Tally>(
     alloc: Global,
@@ -110,7 +57,7 @@ pub(crate) fn do_tile<M: Tally>(
     ensures tally { RisesBy 26 0 (M.counts tally.old) (M.counts tally.new) }
 {
     let tile = own.tiles[job as usize];
-    let made = tile_by(alloc, jobs, own, tile, tally)?;
+    let made = make_tile(alloc, &own.kernel, jobs.operands, jobs.extent, tile, tally)?;
     Ok(Piece::Tile(unless_same(made, jobs.kept, tile, tally)))
 }
 
@@ -130,58 +77,47 @@ fn push_piece(patch: &mut Patch, tile: u32, piece: Piece) -> Result<(), NoMemory
 /// The tiles that changed, of the pieces in the order of their jobs.
 fn changed_patch(
     alloc: Global,
-    jobs: &Jobs<'_, '_, Op, Beside, Own>,
+    extent: Extent,
+    tiles: &[u32],
     pieces: Vec<Piece>,
 ) -> Result<Patch, NoMemory>
-    requires sound { IsSound jobs.now }
-    requires tiles { IsTrue (are_tiles jobs.now.own) }
-    requires count { length pieces.items ≡ jobs.now.count }
-    requires each { ArePieces jobs.now pieces.items }
-    ensures { IfOk result (IsTilePatch jobs.now.size (was_in jobs.now) (now_in jobs.now)) }
+    requires count { length pieces.items ≡ length tiles.now }
+    requires ascending { IsStrictlyIncreasing tiles.now }
+    requires within { All (λ t. t < tiles_in extent) tiles.now }
+    requires fit { FitTiles extent tiles.now pieces.items }
+    ensures size { IfOk result (λ patch. patch.size ≡ extent) }
+    ensures tiles { IfOk result (λ patch. patch.tiles ≡ tiles_of tiles.now pieces.items) }
 {
-    let Own::Tiles(own) = &jobs.own else {
-        unreachable!();
-    };
-    let mut patch = Patch::new(alloc, jobs.extent);
-    let mut rest = pieces.into_iter();
-    for k in 0..own.tiles.len() {
-        let Some(piece) = rest.next() else {
-            unreachable!();
-        };
-        push_piece(&mut patch, own.tiles[k], piece)?;
+    let mut patch = Patch::new(alloc, extent);
+    let mut k = 0;
+    for piece in pieces {
+        push_piece(&mut patch, tiles[k], piece)?;
+        k += 1;
     }
     Ok(patch)
 }
 
-/// What is made of the tiles that changed, beside what the jobs share.
-fn made_of(patch: Patch, own: Own) -> Made<Beside>
-    requires tiles { IsTrue (are_tiles own) }
-    requires few { count_of own < 2 ^ 32 }
-    ensures { IsMadeOf patch own result }
-{
-    match own {
-        Own::Tiles(jobs) => Made {
-            patch,
-            evaluated: jobs.tiles.len() as u32,
-            worked: jobs.worked,
-            beside: jobs.beside,
-        },
-        _ => unreachable!(),
-    }
-}
-
 /// The repaired layer, of the pieces in the order of their jobs.
-pub(crate) fn gather_tiles<'o, 'a>(
+pub(crate) fn gather_tiles(
     alloc: Global,
-    jobs: Jobs<'o, 'a, Op, Beside, Own>,
+    extent: Extent,
+    own: TileJobs,
     pieces: Vec<Piece>,
 ) -> Result<Made<Beside>, NoMemory>
-    requires sound { IsSound jobs }
-    requires tiles { IsTrue (are_tiles jobs.own) }
-    requires count { length pieces.items ≡ jobs.count }
-    requires each { ArePieces jobs pieces.items }
-    ensures { IfOk result (IsRepaired suits jobs.entry.size (op_view jobs.entry.op) jobs.entry.operands (was_in jobs.entry)) }
+    requires few { length own.tiles.items < 2 ^ 32 }
+    requires count { length pieces.items ≡ length own.tiles.items }
+    requires ascending { IsStrictlyIncreasing own.tiles.items }
+    requires within { All (λ t. t < tiles_in extent) own.tiles.items }
+    requires fit { FitTiles extent own.tiles.items pieces.items }
+    ensures { IfOk result (IsMadeOf extent own pieces.items) }
 {
-    let patch = changed_patch(alloc, &jobs, pieces)?;
-    Ok(made_of(patch, jobs.own))
+    let patch = changed_patch(alloc, extent, &own.tiles, pieces)?;
+    let evaluated = own.tiles.len() as u32;
+    let (beside, worked) = own.kernel.left();
+    Ok(Made {
+        patch,
+        beside,
+        evaluated,
+        worked,
+    })
 }

@@ -1,10 +1,11 @@
 //! About what the jobs of a statement take, in microseconds, as `bench/` tells it.
 
 use crate::beside::Beside;
+use crate::kernels::Kernel;
+use crate::lists::LayerList;
 use crate::own::Own;
 use map_nums::Stat;
 use map_waves::{Kept, WORTH_A_WORKER};
-use statement_parser::{Op, Reach};
 
 /// A layer that was not there is worth a second worker from so many tiles on.
 const SEVERAL: u64 = 4;
@@ -16,11 +17,14 @@ const PLAINEST: u64 = 4;
 const REPAIR: u64 = 128;
 
 /// What all jobs of a statement take that is repaired from what is kept, or made anew where nothing is.
-pub(crate) fn weight_of(op: &Op, own: &Own, kept: Option<&Kept<Beside>>) -> u64 {
+pub(crate) fn weight_of(own: &Own, kept: Option<&Kept<Beside>>) -> u64 {
     match own {
-        Own::Tiles(jobs) => tiles_weight(op, jobs.tiles.len() as u64, kept.is_none()),
-        Own::Whole(set) => {
-            let touched = u64::from(set.count());
+        Own::Tiles(jobs) => {
+            let tiles = jobs.tiles.len() as u64;
+            tiles_weight(&jobs.kernel, tiles, kept.is_none())
+        }
+        Own::Whole(job) => {
+            let touched = u64::from(job.touched.count());
             match kept {
                 None => REPAIR * touched,
                 Some(kept) => repair_weight(kept.repaired, touched),
@@ -29,9 +33,9 @@ pub(crate) fn weight_of(op: &Op, own: &Own, kept: Option<&Kept<Beside>>) -> u64 
     }
 }
 
-/// What so many tiles of an operation take. Four of the plainest are done before a thread has begun, so they are worth none.
-fn tiles_weight(op: &Op, tiles: u64, is_fresh: bool) -> u64 {
-    let each = tile_weight(op);
+/// What so many tiles take. Four of the plainest are done before a thread has begun, so they are worth none.
+fn tiles_weight(kernel: &Kernel, tiles: u64, is_fresh: bool) -> u64 {
+    let each = tile_weight(kernel);
     let weight = each.saturating_mul(tiles);
     if is_fresh && tiles >= SEVERAL && each > PLAINEST {
         return weight.max(WORTH_A_WORKER);
@@ -48,24 +52,32 @@ fn repair_weight(repaired: Option<u64>, touched: u64) -> u64 {
     }
 }
 
-/// What a tile of an operation takes.
-fn tile_weight(op: &Op) -> u64 {
-    match op {
-        Op::Focal { stat, reach, .. } => focal_weight(*stat, *reach),
-        Op::Incremental { .. } | Op::Direction { .. } => 20,
-        Op::Sight { .. } => 256,
-        Op::Spread { .. } | Op::Neighbor { .. } => 16,
-        Op::Flow { .. } => 24,
-        _ => PLAINEST,
+/// What a tile takes.
+fn tile_weight(kernel: &Kernel) -> u64 {
+    match kernel {
+        Kernel::Focal(stat, radius) => focal_weight(*stat, *radius),
+        Kernel::Shape(_) | Kernel::Direction => 20,
+        Kernel::Sight(..) => 256,
+        Kernel::Fresh(fresh) => list_weight(&fresh.list),
+        Kernel::Local(_) | Kernel::Zonal(..) => PLAINEST,
+    }
+}
+
+/// What a tile of a layer takes that is there place by place.
+fn list_weight(list: &LayerList) -> u64 {
+    match list {
+        LayerList::Costs(_) | LayerList::Nearest(_) => 16,
+        LayerList::Flow(_) => 24,
+        LayerList::Labels(_) => PLAINEST,
     }
 }
 
 /// What a tile of a Focal operation takes: it grows with the radius where runs of cells are taken together, with its square where
 /// each neighbour is looked at.
-fn focal_weight(stat: Stat, reach: Reach) -> u64 {
-    let radius = match reach {
-        Reach::Square => 1,
-        Reach::Disc(radius) => u64::from(radius),
+fn focal_weight(stat: Stat, radius: Option<u32>) -> u64 {
+    let radius = match radius {
+        None => 1,
+        Some(radius) => u64::from(radius),
     };
     match stat {
         Stat::Sum | Stat::Mean | Stat::Maximum | Stat::Minimum => 8 + 3 * radius,

@@ -37,7 +37,7 @@ pub(crate) fn nearest_of(kept: Option<&Kept<Beside>>) -> Option<Nearest<'_>>
             cost,
             value: &kept.layer,
         }),
-        _ => unreachable!(),
+        _ => None,
     }
 }
 

@@ -9,12 +9,12 @@ ghost use Rattle.layer_tiles.specs.Operands.{cells_after};
 ghost use Rattle.layer_tiles.specs.Tallies.{RisesBy};
 ghost use Rattle.zonal_totals.specs.Books.{IsBookOf};
 ghost use Rattle.map_waves.specs.Statements.{damage_by, made};
-ghost use Rattle.op_jobs.specs.Fresh.{AreAllCounts};
+ghost use Rattle.op_jobs.specs.Grounds.{AreAllCounts};
 ghost use Rattle.op_jobs.specs.Operands.{AreBoth};
 ghost use Rattle.op_jobs.specs.Zonal.{IsRightBook, zonal_tiles};
 
 use crate::damage::{all_tiles, tiles_of};
-use crate::ground::{Ground, Part};
+use crate::ground::Part;
 use crate::operands::both_of;
 use crate::zonal_kernel::zonal_tile;
 use crate::zonal_parts::counted_book;
@@ -33,11 +33,11 @@ pub(crate) fn zonal_begin<M: Tally>(
     operands: &Operands<'_>,
     kept: Option<&Book>,
     extent: Extent,
-    found: Option<(Ground, Vec<Part>)>,
+    found: Option<Vec<Part>>,
     tally: &mut M,
 ) -> Result<(Book, Vec<u32>), NoMemory>
     requires both { AreBoth extent operands.now }
-    requires found { IfSome found (λ q. AreAllCounts extent (operand (cells_after operands.now) 0) (operand (cells_after operands.now) 1) q.1.items) }
+    requires found { IfSome found (λ parts. AreAllCounts extent (operand (cells_after operands.now) 0) (operand (cells_after operands.now) 1) parts.items) }
     requires no_product { stat ≢ Stat.Product }
     requires right { IfSome kept (λ book. IsRightBook stat extent operands.now book.now) }
     ensures size { IfOk result (λ r. r.0.size ≡ extent) }
@@ -56,16 +56,16 @@ fn fresh_book<M: Tally>(
     alloc: Global,
     operands: &Operands<'_>,
     extent: Extent,
-    found: Option<(Ground, Vec<Part>)>,
+    found: Option<Vec<Part>>,
     tally: &mut M,
 ) -> Result<Book, NoMemory>
     requires both { AreBoth extent operands.now }
-    requires found { IfSome found (λ q. AreAllCounts extent (operand (cells_after operands.now) 0) (operand (cells_after operands.now) 1) q.1.items) }
+    requires found { IfSome found (λ parts. AreAllCounts extent (operand (cells_after operands.now) 0) (operand (cells_after operands.now) 1) parts.items) }
     ensures size { IfOk result (λ book. book.size ≡ extent) }
     ensures book { IfOk result (λ book. IsBookOf book (operand (cells_after operands.now) 0) (operand (cells_after operands.now) 1)) }
     ensures looks { RisesBy (2 * tiles_in extent) 0 (M.counts tally.old) (M.counts tally.new) }
 {
-    if let Some((_, parts)) = found {
+    if let Some(parts) = found {
         let book = counted_book(alloc, extent, parts)?;
         return Ok(book);
     }
@@ -79,11 +79,11 @@ fn first_book<M: Tally>(
     alloc: Global,
     operands: &Operands<'_>,
     extent: Extent,
-    found: Option<(Ground, Vec<Part>)>,
+    found: Option<Vec<Part>>,
     tally: &mut M,
 ) -> Result<(Book, Vec<u32>), NoMemory>
     requires both { AreBoth extent operands.now }
-    requires found { IfSome found (λ q. AreAllCounts extent (operand (cells_after operands.now) 0) (operand (cells_after operands.now) 1) q.1.items) }
+    requires found { IfSome found (λ parts. AreAllCounts extent (operand (cells_after operands.now) 0) (operand (cells_after operands.now) 1) parts.items) }
     ensures size { IfOk result (λ r. r.0.size ≡ extent) }
     ensures book { IfOk result (λ r. IsBookOf r.0 (operand (cells_after operands.now) 0) (operand (cells_after operands.now) 1)) }
     ensures damage { IfOk result (λ r. r.1.items ≡ tiles extent) }

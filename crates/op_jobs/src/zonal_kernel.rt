@@ -12,7 +12,7 @@ ghost use Rattle.zonal_totals.specs.Books.{IsBookOf};
 ghost use Rattle.op_jobs.specs.Zonal.{CountsCells, AreStats, told};
 
 use layer_tiles::{Cell, Change, Extent, KernelRefusal, Tally, Tile, TileView, Value};
-use map_nums::{NoMemory, Stat, StatRefusal, Wide};
+use map_nums::{NoMemory, Stat, Wide};
 use std::alloc::Global;
 use std::collections::BTreeMap;
 use tile_frame::{RowMaker, TileMaker, make_row, make_tile};
@@ -194,7 +194,6 @@ fn book_stat(stat: Stat, book: &Book, zone: Value) -> Result<Option<Value>, Wide
 {
     match book.stat(stat, zone) {
         Ok(value) => Ok(value),
-        Err(StatRefusal::Wide) => Err(Wide),
-        Err(StatRefusal::NoMemory) => unreachable!(),
+        Err(_) => Err(Wide),
     }
 }

@@ -6,7 +6,7 @@ ghost use Rattle.map_defs.specs.Operate.{operand};
 ghost use Rattle.layer_tiles.specs.Operands.{cells_after};
 ghost use Rattle.layer_tiles.specs.Tallies.{RisesBy};
 ghost use Rattle.zonal_totals.specs.Books.{IsBookOf};
-ghost use Rattle.op_jobs.specs.Fresh.{IsCounts, AreAllCounts};
+ghost use Rattle.op_jobs.specs.Grounds.{IsCounts, AreAllCounts};
 ghost use Rattle.op_jobs.specs.Operands.{AreBoth};
 ghost use Rattle.op_jobs.specs.Parts.{part_start};
 ghost use Rattle.op_jobs.specs.declared.ground.Part.{Part};

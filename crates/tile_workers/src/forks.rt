@@ -6,9 +6,9 @@ ghost use Rattle.tile_workers.specs.Forks.{AreAccepted, AreChanged};
 
 use std::thread::{Threads, join_mut};
 
-/// Calls f(i, &mut s[i]) at each place, each on a thread of its own where one can be started. The caller's thread starts them all and
-/// does nothing beside them: a new thread often begins on the processor of the one that starts it, and waits there for milliseconds
-/// where that one works on.
+/// Calls f(i, &mut s[i]) at each place, each on a thread of its own where one can be started. Of two calls the caller's thread does
+/// the second; else it starts them all and does nothing beside them: a new thread often begins on the processor of the one that starts
+/// it, and waits there for milliseconds where that one works on.
 pub(crate) fn fork_each<R: Threads + Sync, T: Send, F: Fn(usize, &mut T) + Sync>(
     rt: &R,
     s: &mut [T],
@@ -36,7 +36,7 @@ fn at_only<T, F: Fn(usize, &mut T)>(f: &F, i: usize, s: &mut [T])
     at_one(f, i, &mut s[0]);
 }
 
-// Of the places from `base` on.
+// Of the places from `base` on. The second of two is done here: one thread costs less than two, and beside one other it doesn't wait.
 #[cycle(forks)]
 fn fork_from<R: Threads + Sync, T: Send, F: Fn(usize, &mut T) + Sync>(
     rt: &R,
@@ -48,6 +48,10 @@ fn fork_from<R: Threads + Sync, T: Send, F: Fn(usize, &mut T) + Sync>(
     ensures { AreChanged (ChangesAt F.Fn f.now) base s.old s.new }
 {
     if s.is_empty() {
+        return;
+    }
+    if base == 1 && s.len() == 1 {
+        at_only(f, base, s);
         return;
     }
     let (a, b) = s.split_at_mut(1);

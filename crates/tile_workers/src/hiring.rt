@@ -33,7 +33,7 @@ where
     shift.is_short = outcome.is_err();
 }
 
-/// Does each shift on a thread of its own, or one after another where no thread can be started.
+/// Does each shift on a thread of its own, the second of two on the caller's, or one after another where no thread can be started.
 pub(crate) fn do_shifts<W: Work + Sync, G: Gate + Sync, M: Tally + Send, R: Threads + Sync>(
     rt: &R,
     phase: &Phase<'_, W, G>,

@@ -101,9 +101,10 @@ where
 
 /// Does the jobs of a work, and gives their answers in the order of the jobs.
 ///
-/// One worker alone works on the caller's thread and counts with the caller's tally. Several work on threads of their own, each
-/// with a part of the tally, and all parts are taken in again in the end; where a thread can't be started, the caller does that
-/// work itself. Beside the jobs, a phase by one worker takes less than a microsecond; by several, also the start of their threads.
+/// One worker alone works on the caller's thread and counts with the caller's tally. Several work on threads of their own, the
+/// second of two on the caller's, each with a part of the tally, and all parts are taken in again in the end; where a thread can't be
+/// started, the caller does that work itself. Beside the jobs, a phase by one worker takes less than a microsecond; by several, also the
+/// start of their threads.
 ///
 /// # Errors
 ///

@@ -30,17 +30,17 @@ pub returns-clause-list : goal.returns-clause-list
 returns-clause-list c =
     let P : List FlowBand → Type 0 = λ bs. AreEven bs × (length (all_flows bs) ≡ cells_in c.args.extent) in
     let both = subst P (sym (poured (goal.at.returns-clause-list c).After-pour)) (c.pour.ensures.even, c.pour.ensures.flows.count) in
-    (c.requires.first, both.0, both.1)
+    (c.requires.cells.surface, both.0, both.1)
 
 pub returns-clause-cells : goal.returns-clause-cells
 returns-clause-cells c =
     let s = c.args.extent in
-    let a = c.args.ground.first.items in
+    let a = c.args.ground.surface.items in
     let P : Cells → Cells → Type 0 = λ xs ys. flow_cells s xs c.pour.new.bands ≡ (flow_grid s xs ys).cells in
-    let flow : P a c.args.ground.second.items = subst (P a) c.deref-2.ensures.value (subst (λ (xs : Cells). P xs c.deref-2.result.now) c.deref.ensures.value c.pour.ensures.cells) in
+    let flow : P a c.args.ground.weights.items = subst (P a) c.deref-2.ensures.value (subst (λ (xs : Cells). P xs c.deref-2.result.now) c.deref.ensures.value c.pour.ensures.cells) in
     ap (flow_cells s a) (poured (goal.at.returns-clause-cells c).After-pour) ∙ flow
 
 pub returns-clause-work : goal.returns-clause-work
 returns-clause-work c =
-    let P : Cells → Type 0 = λ xs. c.first_flow_work-worked.result ≡ first_work c.args.extent (flow_grid c.args.extent xs c.args.ground.second.items).cells in
-    subst P c.deref-3.ensures.value (c.first_flow_work-worked.ensures c.args.ground.second.items)
+    let P : Cells → Type 0 = λ xs. c.first_flow_work-worked.result ≡ first_work c.args.extent (flow_grid c.args.extent xs c.args.ground.weights.items).cells in
+    subst P c.deref-3.ensures.value (c.first_flow_work-worked.ensures c.args.ground.weights.items)

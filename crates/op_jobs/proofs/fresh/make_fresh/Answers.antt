@@ -1,32 +1,46 @@
-use Rattle.std.proofs.Common.{length, ap, ◌∙◌}
-use Rattle.statement_parser.specs.Views.{op_view}
-use Rattle.op_jobs.proofs.FreshOps.{labels_part}
-use Rattle.op_jobs.proofs.LayerLists.{labels_listed}
-use Rattle.op_jobs.proofs.ZonalParts.{found_cells, found_only, tiles_worked}
+use Rattle.std.proofs.Common.{length, sym, ◌∙◌, subst}
+use Rattle.map_nums.specs.Grids.{Cells}
+use Rattle.op_jobs.specs.Grounds.{IsGround, IsGroundOf, IsGroundPart, IsLabels}
+use Rattle.op_jobs.specs.declared.ground.Ground.{Ground}
+use Rattle.op_jobs.proofs.LayerLists.{flow_listed, spread_listed, nearest_listed, labels_listed}
+use Rattle.op_jobs.proofs.Repairing.{flow_is, spread_is, nearest_is, region_is}
 use Rattle.op_jobs.proofs.fresh.make_fresh.Goals as goal
 
-pub make_of_both-requires : goal.make_of_both-requires
-make_of_both-requires c = record {
-  found = found_cells c.args.extent (op_view c.args.op.now) c.args.operands.now c.args.ground c.in-Cells.cells c.args.parts.items c.in-Cells.is c.requires.found;
-}
+pub spread_by-requires-clause-each : goal.spread_by-requires-clause-each
+spread_by-requires-clause-each c = λ k p e. subst (λ (q : Ground). IsGroundPart c.args.extent q (length c.args.parts.items) k p) c.in-Costs.is (c.requires.each k p e)
 
-pub labels_by-requires-clause-count : goal.labels_by-requires-clause-count
-labels_by-requires-clause-count c =
-    let only = found_only c.args.extent (op_view c.args.op.now) c.args.operands.now c.args.ground c.in-Only.cells c.args.parts.items c.in-Only.is c.requires.found in
-    ap length c.deref.ensures.value ∙ only.count
+pub nearest_by-requires-clause-each : goal.nearest_by-requires-clause-each
+nearest_by-requires-clause-each c = λ k p e. subst (λ (q : Ground). IsGroundPart c.args.extent q (length c.args.parts.items) k p) c.in-Nearest.is (c.requires.each k p e)
 
-pub labels_by-requires-clause-some : goal.labels_by-requires-clause-some
-labels_by-requires-clause-some c = (found_only c.args.extent (op_view c.args.op.now) c.args.operands.now c.args.ground c.in-Only.cells c.args.parts.items c.in-Only.is c.requires.found).some
+pub flow_by-requires-clause-each : goal.flow_by-requires-clause-each
+flow_by-requires-clause-each c = λ k p e. subst (λ (q : Ground). IsGroundPart c.args.extent q (length c.args.parts.items) k p) c.in-Flow.is (c.requires.each k p e)
 
 pub labels_by-requires-clause-each : goal.labels_by-requires-clause-each
 labels_by-requires-clause-each c = λ k p e.
-    let only = found_only c.args.extent (op_view c.args.op.now) c.args.operands.now c.args.ground c.in-Only.cells c.args.parts.items c.in-Only.is c.requires.found in
-    labels_part c.args.extent (op_view c.args.op.now) c.args.operands.now c.deref.result.now only.regions (c.deref.ensures.value ∙ only.cells_are) (length c.args.parts.items) k p (c.requires.found.each k p e)
+    let here = subst (λ (q : Ground). IsGroundPart c.args.extent q (length c.args.parts.items) k p) c.in-Regions.is (c.requires.each k p e) in
+    subst (λ (cells : Cells). IsLabels c.args.extent cells (length c.args.parts.items) k p) (sym c.deref.ensures.value) here
 
-pub returns-in_ok-labels-in-Only : goal.returns-in_ok-labels-in-Only
-returns-in_ok-labels-in-Only c =
-    let only = found_only c.args.extent (op_view c.args.op.now) c.args.operands.now c.args.ground c.in-Only.cells c.args.parts.items c.in-Only.is c.requires.found in
-    labels_listed c.args.extent c.tiles-tiles.ensures.size c.args.operands.now c.deref.result.now (c.deref.ensures.value ∙ only.cells_are) c.in_ok-labels-in-Only.labels c.in_ok-labels-in-Only.ensures (op_view c.args.op.now) _ only.regions c.alone.ensures
+pub returns-in_ok-costs-in-Costs : goal.returns-in_ok-costs-in-Costs
+returns-in_ok-costs-in-Costs c = λ op operands of ranges is.
+    let laid = subst (IsGround c.args.extent operands) c.in-Costs.is is in
+    let o = spread_is op c.in-Costs.cells.limit (subst (IsGroundOf op) c.in-Costs.is of) ranges in
+    spread_listed c.args.extent c.tiles-tiles.ensures.size operands _ _ laid.sources_are laid.friction_are o.0 o.1 op _ _ c.in_ok-costs-in-Costs.costs o.2 c.alone.ensures c.in_ok-costs-in-Costs.ensures
 
-pub unreachable-requires : goal.unreachable-requires
-unreachable-requires c = tiles_worked c.args.extent (op_view c.args.op.now) c.args.operands.now c.args.ground c.args.parts.items c.in-Tiles.is c.requires.class c.requires.found
+pub returns-in_ok-nearest_by-in-Nearest : goal.returns-in_ok-nearest_by-in-Nearest
+returns-in_ok-nearest_by-in-Nearest c = λ op operands of ranges is.
+    let laid = subst (IsGround c.args.extent operands) c.in-Nearest.is is in
+    let o = nearest_is op c.in-Nearest.cells.limit (subst (IsGroundOf op) c.in-Nearest.is of) ranges in
+    nearest_listed c.args.extent c.tiles-tiles.ensures.size operands _ _ laid.sources_are laid.friction_are o.0 o.1 op _ _ o.2 c.in_ok-nearest_by-in-Nearest.ensures
+
+pub returns-in_ok-list-in-Flow : goal.returns-in_ok-list-in-Flow
+returns-in_ok-list-in-Flow c = λ op operands of ranges is.
+    let laid = subst (IsGround c.args.extent operands) c.in-Flow.is is in
+    let o = flow_is op (subst (IsGroundOf op) c.in-Flow.is of) ranges in
+    let made = c.in_ok-list-in-Flow.ensures in
+    flow_listed c.args.extent c.tiles-tiles.ensures.size operands _ _ laid.surface_is laid.weights_are o.0 o.1 op _ _ _ o.2 c.alone-in-Flow.ensures made.list made.cells made.work
+
+pub returns-in_ok-labels-in-Regions : goal.returns-in_ok-labels-in-Regions
+returns-in_ok-labels-in-Regions c = λ op operands of ranges is.
+    let laid = subst (IsGround c.args.extent operands) c.in-Regions.is is in
+    let o = region_is op (subst (IsGroundOf op) c.in-Regions.is of) ranges in
+    labels_listed c.args.extent c.tiles-tiles.ensures.size operands c.deref.result.now (c.deref.ensures.value ∙ laid.cells_are) c.in_ok-labels-in-Regions.labels c.in_ok-labels-in-Regions.ensures op o.0 _ o.1 c.alone-in-Regions.ensures

@@ -1,16 +1,9 @@
-use Rattle.std.proofs.Common.{◌≡◌, List, [], ◌∷◌, ◌++◌, length, length-append, Some, slice_get, refl, sym, ◌∙◌, ap, append_assoc, subst, arith}
+use Rattle.std.proofs.Common.{◌≡◌, [], ◌∷◌, ◌++◌, length, length-append, Some, slice_get, sym, ◌∙◌, ap, append_assoc, arith}
 use Rattle.std.proofs.lemmas.List.{length_push}
 use Rattle.std.specs.Vec.Iter.{into_iter_items}
 use Rattle.map_waves.proofs.Phasing.{each_pushed}
+use Rattle.op_jobs.proofs.After.{first_after}
 use Rattle.op_jobs.proofs.kinds.all_of.Goals as goal
-
--- what stands after some others
-first_after : {X : Type 0} (xs : List X) (x : X) (ys all : List X) → xs ++ x ∷ ys ≡ all → slice_get all (length xs) ≡ Some x
-first_after {X} xs x ys all e = subst (λ (zs : List X). slice_get zs (length xs) ≡ Some x) e (at xs)
-  where
-    at : (xs : List X) → slice_get (xs ++ x ∷ ys) (length xs) ≡ Some x
-    at [] = refl
-    at (z ∷ zs) = at zs
 
 pub loop-part-init : goal.loop-part-init
 loop-part-init g c = record {

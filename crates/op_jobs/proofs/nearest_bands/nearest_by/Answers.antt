@@ -16,7 +16,7 @@ all_of-requires c = λ k p e. nearest_kind _ k _ p (c.requires.each k p e)
 
 pub nearest_of_bands-requires-clause-bands : goal.nearest_of_bands-requires-clause-bands
 nearest_of_bands-requires-clause-bands c =
-    let same = ground_same c.args.extent _ _ _ _ c.args.limit _ c.deref.ensures.value c.deref-2.ensures.value (limit_fits c.args.limit c.requires.limit) in
+    let same = ground_same c.args.extent _ _ _ _ c.args.ground.now.limit _ c.deref.ensures.value c.deref-2.ensures.value (limit_fits c.args.ground.now.limit c.requires.cells.low) in
     nearest_are _ _ c.in_ok-bands.bands.items _ c.args.parts.items same refl c.requires.some c.in_ok-bands.ensures.count c.in_ok-bands.ensures.each c.requires.each
 
 -- the layer of a patch of all costs
@@ -25,7 +25,7 @@ costs_beside s patch cells layer stamp is size are = (ap (λ (l : LayerState). l
 
 pub returns : goal.returns
 returns c =
-    let same = ground_same c.args.extent _ _ _ _ c.args.limit _ c.deref.ensures.value c.deref-2.ensures.value (limit_fits c.args.limit c.requires.limit) in
+    let same = ground_same c.args.extent _ _ _ _ c.args.ground.now.limit _ c.deref.ensures.value c.deref-2.ensures.value (limit_fits c.args.ground.now.limit c.requires.cells.low) in
     let costs = c.in_ok-costs.ensures in
     record {
       numbers = c.in_ok-list.list;

@@ -1,19 +1,32 @@
 use Rattle.std.proofs.Common.{◌<◌, sym, ◌∙◌, subst, Ok}
 use Rattle.std.proofs.lemmas.List.{get_or_default}
 use Rattle.std.specs.Prelude.{IfSome}
+use Rattle.std.specs.List.{All}
 use Rattle.layer_tiles.specs.Answers.{IsTileAnswer}
 use Rattle.layer_tiles.specs.Tiles.{tiles_in}
 use Rattle.statement_parser.specs.Views.{op_view}
 use Rattle.map_waves.specs.Jobs.{was_in}
+use Rattle.map_waves.specs.Operands.{IsOperand}
+use Rattle.op_jobs.specs.Kernels.{CanMake, kernel_cells}
 use Rattle.op_jobs.specs.Others.{IsOther}
 use Rattle.op_jobs.specs.Pieces.{IsTileMade}
 use Rattle.op_jobs.specs.Sound.{StatementJobs, now_in}
-use Rattle.op_jobs.proofs.Sharing.{kept_size, size_kept}
+use Rattle.op_jobs.proofs.Sharing.{kept_size, size_kept, tile_own}
 use Rattle.op_jobs.proofs.Telling.{job_tile, piece_told}
 use Rattle.op_jobs.proofs.tiles.do_tile.Goals as goal
 
-pub tile_by-requires-clause-within : goal.tile_by-requires-clause-within
-tile_by-requires-clause-within g c = job_tile c.args.jobs.now c.args.own.now c.args.job c.index-tile.result.now c.requires.sound c.requires.own c.requires.below c.index-tile.ensures
+pub make_tile-requires-clause-operands_are : goal.make_tile-requires-clause-operands_are
+make_tile-requires-clause-operands_are g c = subst (λ (x : StatementJobs). All (IsOperand x.size) x.operands) (sym c.jobs.view_is) c.requires.sound.edited.operands_are.each
+
+pub make_tile-requires-clause-can : goal.make_tile-requires-clause-can
+make_tile-requires-clause-can g c =
+    let j = c.args.jobs.now in
+    subst (λ (x : StatementJobs). CanMake x.size x.operands c.args.own.now.kernel) (sym c.jobs.view_is) (tile_own j c.args.own.now c.requires.sound c.requires.own).can
+
+pub make_tile-requires-clause-within : goal.make_tile-requires-clause-within
+make_tile-requires-clause-within g c =
+    let j = c.args.jobs.now in
+    subst (λ (x : StatementJobs). c.index-tile.result.now < tiles_in x.size) (sym c.jobs.view_is) (job_tile j c.args.own.now c.args.job c.index-tile.result.now c.requires.sound c.requires.own c.requires.below c.index-tile.ensures)
 
 pub unless_same-requires : goal.unless_same-requires
 unless_same-requires g c =
@@ -26,7 +39,9 @@ pub returns-clause-piece : goal.returns-clause-piece
 returns-clause-piece g c =
     let j = c.args.jobs.now in
     let t = c.index-tile.result.now in
-    let answer : IsTileAnswer j.size (now_in j) t (Ok c.in_ok-made.made) = c.in_ok-made.ensures.answer in
+    let own = tile_own j c.args.own.now c.requires.sound c.requires.own in
+    let made = subst (λ (x : StatementJobs). IsTileAnswer x.size (kernel_cells x.size x.operands c.args.own.now.kernel) t (Ok c.in_ok-made.made)) c.jobs.view_is c.in_ok-made.ensures.answer in
+    let answer : IsTileAnswer j.size (now_in j) t (Ok c.in_ok-made.made) = subst (λ cells. IsTileAnswer j.size cells t (Ok c.in_ok-made.made)) own.cells made in
     let other = subst (λ (x : StatementJobs). IsOther x.kept t c.in_ok-made.made c.unless_same.result) c.jobs.view_is c.unless_same.ensures.other in
     let at = c.index-tile.ensures ∙ get_or_default c.args.own.now.tiles.items c.args.job t 0 c.requires.below in
     subst (λ u. IsTileMade j.size (was_in j) (now_in j) u c.unless_same.result) at

@@ -1,7 +1,9 @@
-use Rattle.std.proofs.Common.{ℤ, Ok, subst, IsTrue}
+use Rattle.std.proofs.Common.{◌≡◌, ◌≢◌, ℤ, Option, Result, Ok, Err, refl, subst, IsTrue}
 use Rattle.std.proofs.lemmas.Int.{to_z-of_z}
 use Rattle.map_nums.specs.Widths.{value_width}
-use Rattle.map_nums.specs.Answers.{is_wide}
+use Rattle.map_nums.specs.declared.StatRefusal.{StatRefusal}
+use Rattle.map_nums.specs.declared.StatRefusal.TheVariants.{Wide, NoMemory}
+use Rattle.map_nums.specs.Answers.{is_wide, IsAnswer}
 use Rattle.map_nums.specs.Exact.{IsExact}
 use Rattle.op_jobs.specs.Zonal.{told}
 use Rattle.op_jobs.proofs.ZonalTold.{told_value, told_wide}
@@ -13,8 +15,14 @@ returns-in-Ok c =
     subst (λ (z : ℤ). IsExact (told c.args.stat c.args.book.now z) (Ok c.in-Ok.value)) (to_z-of_z value_width c.args.zone c.ranges.zone)
     (told_value c.args.stat c.args.book.now book.values book.zones _ c.in-Ok.value book.is (c.in-Ok.ensures.statistic book.values book.zones book.is))
 
-pub returns-in-Err-Wide : goal.returns-in-Err-Wide
-returns-in-Err-Wide c =
+-- a statistic wants no memory
+refused : (s : Option ℤ) (r : Result (Option ℤ) StatRefusal) (e : StatRefusal) → r ≡ Err e → IsAnswer s r → r ≢ Err NoMemory → IsTrue (is_wide s)
+refused s (Ok v) e is answer other = absurd cc
+refused s (Err Wide) e is answer other = answer
+refused s (Err NoMemory) e is answer other = absurd (other refl)
+
+pub returns-in-Err : goal.returns-in-Err
+returns-in-Err c =
     let book = c.requires.counts in
     subst (λ (z : ℤ). IsTrue (is_wide (told c.args.stat c.args.book.now z))) (to_z-of_z value_width c.args.zone c.ranges.zone)
-    (told_wide c.args.stat c.args.book.now book.values book.zones _ book.is (rw (c.in-Err-Wide.field-0-is) at (c.in-Err-Wide.ensures.statistic book.values book.zones book.is)))
+    (told_wide c.args.stat c.args.book.now book.values book.zones _ book.is (refused _ c.stat.result c.in-Err.field-0 c.in-Err.is (c.stat.ensures.statistic book.values book.zones book.is) c.stat.ensures.memory))

@@ -21,4 +21,4 @@ pub returns-in-Tiles-clause-piece : goal.returns-in-Tiles-clause-piece
 returns-in-Tiles-clause-piece g c = piece_of c.args.jobs.now c.in-Tiles.own c.args.job c.do_tile.result (ap (λ (j : StatementJobs). j.own) (sym c.jobs.view_is) ∙ c.in-Tiles.is) c.do_tile.ensures.piece
 
 pub returns-in-Whole-clause-piece : goal.returns-in-Whole-clause-piece
-returns-in-Whole-clause-piece g c = piece_whole c.args.jobs.now c.in-Whole.touched c.args.job c.do_whole.result (ap (λ (j : StatementJobs). j.own) (sym c.jobs.view_is) ∙ c.in-Whole.is) c.do_whole.ensures.piece
+returns-in-Whole-clause-piece g c = piece_whole c.args.jobs.now c.in-Whole.job c.args.job c.do_whole.result (ap (λ (j : StatementJobs). j.own) (sym c.jobs.view_is) ∙ c.in-Whole.is) c.do_whole.ensures.piece

@@ -1,30 +1,93 @@
-use Rattle.std.proofs.Common.{sym, subst}
+use Rattle.std.proofs.Common.{◌∙◌, ap, subst, length, refl}
 use Rattle.map_nums.specs.Grids.{Cells}
 use Rattle.statement_parser.specs.Views.{op_view}
-use Rattle.op_jobs.specs.Fresh.{AreOnlyCells}
-use Rattle.op_jobs.proofs.Once.{cells_of_ground, only_of_ground, counted_of}
+use Rattle.op_jobs.specs.Grounds.{IsGround, IsGroundOf, IsLabels}
+use Rattle.op_jobs.specs.declared.ground.Ground.TheVariants as a_ground
+use Rattle.op_jobs.specs.declared.ground.Part.TheVariants.{Costs, Nearest, Flows, Labels}
+use Rattle.op_jobs.proofs.FreshOps.{part_of_ground}
+use Rattle.op_jobs.proofs.Once.{grounded_of}
 use Rattle.op_jobs.proofs.ZonalParts.{part_counted, part_rises_by}
 use Rattle.op_jobs.proofs.statements.StatementsMaker.find_part.Goals as goal
 
-pub find_band-requires-clause-ground : goal.find_band-requires-clause-ground
-find_band-requires-clause-ground g c = cells_of_ground c.args.extent (op_view c.args.op.now) c.args.operands.now c.args.count c.args.ground.now _ c.in-Cells.is c.requires.ground
+pub find_costs-requires-clause-cells : goal.find_costs-requires-clause-cells
+find_costs-requires-clause-cells g c =
+    let op = op_view c.args.op.now in
+    let q = grounded_of c.args.extent op c.args.operands.now c.args.count c.args.ground.now c.requires.ground in
+    (subst (IsGround c.args.extent c.args.operands.now) c.in-Costs.is q.is).fill
 
-pub find_labels-requires-clause-ground : goal.find_labels-requires-clause-ground
-find_labels-requires-clause-ground g c =
-    let P : Cells → Type 0 = λ xs. AreOnlyCells c.args.extent (op_view c.args.op.now) c.args.operands.now c.args.count xs in
-    subst P (sym c.deref.ensures.value) (only_of_ground c.args.extent (op_view c.args.op.now) c.args.operands.now c.args.count c.args.ground.now _ c.in-Only.is c.requires.ground)
+pub find_costs-requires-clause-few : goal.find_costs-requires-clause-few
+find_costs-requires-clause-few g c = (grounded_of c.args.extent (op_view c.args.op.now) c.args.operands.now c.args.count c.args.ground.now c.requires.ground).few
+
+pub find_nearest-requires-clause-cells : goal.find_nearest-requires-clause-cells
+find_nearest-requires-clause-cells g c =
+    let op = op_view c.args.op.now in
+    let q = grounded_of c.args.extent op c.args.operands.now c.args.count c.args.ground.now c.requires.ground in
+    (subst (IsGround c.args.extent c.args.operands.now) c.in-Nearest.is q.is).fill
+
+pub find_nearest-requires-clause-few : goal.find_nearest-requires-clause-few
+find_nearest-requires-clause-few g c = (grounded_of c.args.extent (op_view c.args.op.now) c.args.operands.now c.args.count c.args.ground.now c.requires.ground).few
+
+pub find_flows-requires-clause-cells : goal.find_flows-requires-clause-cells
+find_flows-requires-clause-cells g c =
+    let op = op_view c.args.op.now in
+    let q = grounded_of c.args.extent op c.args.operands.now c.args.count c.args.ground.now c.requires.ground in
+    (subst (IsGround c.args.extent c.args.operands.now) c.in-Flow.is q.is).fill
+
+pub find_flows-requires-clause-few : goal.find_flows-requires-clause-few
+find_flows-requires-clause-few g c = (grounded_of c.args.extent (op_view c.args.op.now) c.args.operands.now c.args.count c.args.ground.now c.requires.ground).few
+
+pub find_labels-requires-clause-cells : goal.find_labels-requires-clause-cells
+find_labels-requires-clause-cells g c =
+    let op = op_view c.args.op.now in
+    let q = grounded_of c.args.extent op c.args.operands.now c.args.count c.args.ground.now c.requires.ground in
+    ap length c.deref.ensures.value ∙ (subst (IsGround c.args.extent c.args.operands.now) c.in-Regions.is q.is).count
+
+pub find_labels-requires-clause-few : goal.find_labels-requires-clause-few
+find_labels-requires-clause-few g c = (grounded_of c.args.extent (op_view c.args.op.now) c.args.operands.now c.args.count c.args.ground.now c.requires.ground).few
 
 pub count_part-requires-clause-both : goal.count_part-requires-clause-both
-count_part-requires-clause-both g c = (counted_of c.args.extent (op_view c.args.op.now) c.args.operands.now c.args.count c.args.ground.now c.in-Tiles.is c.requires.ground).both
+count_part-requires-clause-both g c =
+    let op = op_view c.args.op.now in
+    let q = grounded_of c.args.extent op c.args.operands.now c.args.count c.args.ground.now c.requires.ground in
+    subst (IsGround c.args.extent c.args.operands.now) c.in-Zones.is q.is
 
 pub count_part-requires-clause-few : goal.count_part-requires-clause-few
-count_part-requires-clause-few g c = (counted_of c.args.extent (op_view c.args.op.now) c.args.operands.now c.args.count c.args.ground.now c.in-Tiles.is c.requires.ground).few
+count_part-requires-clause-few g c = (grounded_of c.args.extent (op_view c.args.op.now) c.args.operands.now c.args.count c.args.ground.now c.requires.ground).few
 
-pub returns-in-Tiles-clause-part : goal.returns-in-Tiles-clause-part
-returns-in-Tiles-clause-part g c =
-    part_counted c.args.extent (op_view c.args.op.now) c.args.operands.now c.args.count c.args.k c.count_part.result (counted_of c.args.extent (op_view c.args.op.now) c.args.operands.now c.args.count c.args.ground.now c.in-Tiles.is c.requires.ground).zonal
-    c.count_part.ensures.counts
+pub returns-in_ok-find_costs-in-Costs-clause-part : goal.returns-in_ok-find_costs-in-Costs-clause-part
+returns-in_ok-find_costs-in-Costs-clause-part g c =
+    let op = op_view c.args.op.now in
+    let q = grounded_of c.args.extent op c.args.operands.now c.args.count c.args.ground.now c.requires.ground in
+    part_of_ground c.args.extent op c.args.operands.now (a_ground.Costs c.in-Costs.cells) (subst (IsGroundOf op) c.in-Costs.is q.of) (subst (IsGround c.args.extent c.args.operands.now) c.in-Costs.is q.is) c.args.count c.args.k (Costs c.in_ok-find_costs-in-Costs.field-0) refl c.in_ok-find_costs-in-Costs.ensures
 
-pub returns-in-Tiles-clause-looks : goal.returns-in-Tiles-clause-looks
-returns-in-Tiles-clause-looks g c =
-    part_rises_by c.args.extent (op_view c.args.op.now) c.args.operands.now c.args.count c.args.k _ _ (counted_of c.args.extent (op_view c.args.op.now) c.args.operands.now c.args.count c.args.ground.now c.in-Tiles.is c.requires.ground).zonal c.count_part.ensures.looks
+pub returns-in_ok-find_nearest-in-Nearest-clause-part : goal.returns-in_ok-find_nearest-in-Nearest-clause-part
+returns-in_ok-find_nearest-in-Nearest-clause-part g c =
+    let op = op_view c.args.op.now in
+    let q = grounded_of c.args.extent op c.args.operands.now c.args.count c.args.ground.now c.requires.ground in
+    part_of_ground c.args.extent op c.args.operands.now (a_ground.Nearest c.in-Nearest.cells) (subst (IsGroundOf op) c.in-Nearest.is q.of) (subst (IsGround c.args.extent c.args.operands.now) c.in-Nearest.is q.is) c.args.count c.args.k (Nearest c.in_ok-find_nearest-in-Nearest.field-0) refl c.in_ok-find_nearest-in-Nearest.ensures
+
+pub returns-in_ok-find_flows-in-Flow-clause-part : goal.returns-in_ok-find_flows-in-Flow-clause-part
+returns-in_ok-find_flows-in-Flow-clause-part g c =
+    let op = op_view c.args.op.now in
+    let q = grounded_of c.args.extent op c.args.operands.now c.args.count c.args.ground.now c.requires.ground in
+    part_of_ground c.args.extent op c.args.operands.now (a_ground.Flow c.in-Flow.cells) (subst (IsGroundOf op) c.in-Flow.is q.of) (subst (IsGround c.args.extent c.args.operands.now) c.in-Flow.is q.is) c.args.count c.args.k (Flows c.in_ok-find_flows-in-Flow.field-0) refl c.in_ok-find_flows-in-Flow.ensures
+
+pub returns-in_ok-find_labels-in-Regions-clause-part : goal.returns-in_ok-find_labels-in-Regions-clause-part
+returns-in_ok-find_labels-in-Regions-clause-part g c =
+    let op = op_view c.args.op.now in
+    let q = grounded_of c.args.extent op c.args.operands.now c.args.count c.args.ground.now c.requires.ground in
+    let labels = Labels c.in_ok-find_labels-in-Regions.field-0 in
+    let here = subst (λ (cells : Cells). IsLabels c.args.extent cells c.args.count c.args.k labels) c.deref.ensures.value c.in_ok-find_labels-in-Regions.ensures in
+    part_of_ground c.args.extent op c.args.operands.now (a_ground.Regions c.in-Regions.cells) (subst (IsGroundOf op) c.in-Regions.is q.of) (subst (IsGround c.args.extent c.args.operands.now) c.in-Regions.is q.is) c.args.count c.args.k labels refl here
+
+pub returns-in-Zones-clause-part : goal.returns-in-Zones-clause-part
+returns-in-Zones-clause-part g c =
+    let op = op_view c.args.op.now in
+    let q = grounded_of c.args.extent op c.args.operands.now c.args.count c.args.ground.now c.requires.ground in
+    part_counted c.args.extent op c.args.operands.now c.args.count c.args.k c.count_part.result (subst (IsGroundOf op) c.in-Zones.is q.of) c.count_part.ensures.counts
+
+pub returns-in-Zones-clause-looks : goal.returns-in-Zones-clause-looks
+returns-in-Zones-clause-looks g c =
+    let op = op_view c.args.op.now in
+    let q = grounded_of c.args.extent op c.args.operands.now c.args.count c.args.ground.now c.requires.ground in
+    part_rises_by c.args.extent op c.args.operands.now c.args.count c.args.k _ _ (subst (IsGroundOf op) c.in-Zones.is q.of) c.count_part.ensures.looks
