@@ -33,14 +33,10 @@ pub fn damaged<M: Tally>(
     ensures looks { RisesBy (2 * touched_in operands.now) 0 (M.counts tally.old) (M.counts tally.new) }
 {
     let reach = class.reach();
-    let Some(first) = operands.get(0) else {
-        unreachable!()
-    };
+    let first = operands.at(0);
     let mut set = TileSet::new(alloc, first.extent())?;
     for k in 0..operands.len() {
-        let Some(change) = operands.get(k) else {
-            unreachable!()
-        };
+        let change = operands.at(k);
         add_changed(change, reach, &mut set, tally);
     }
     Ok(set)

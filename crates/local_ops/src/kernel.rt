@@ -35,9 +35,7 @@ pub fn local_tile<M: Tally>(
     ensures answer { IsTileAnswer (size_of operands.now) (local_grid (size_of operands.now) (op_of op.now) (cells_after operands.now)).cells tile result }
     ensures tally { RisesBy (length operands.now) 0 (M.counts tally.old) (M.counts tally.new) }
 {
-    let Some(first) = operands.get(0) else {
-        unreachable!()
-    };
+    let first = operands.at(0);
     let extent = first.extent();
     match lend(alloc, operands, tile, tally) {
         Ok(views) => tile_of_views(alloc, op, &views, extent, tile),
@@ -59,9 +57,7 @@ fn lend<'a, M: Tally>(
 {
     let mut views = Vec::new(alloc);
     for k in 0..operands.len() {
-        let Some(change) = operands.get(k) else {
-            unreachable!()
-        };
+        let change = operands.at(k);
         views.push(change.view(tile, tally))?;
     }
     Ok(views)

@@ -68,6 +68,11 @@ IsGround s operands (a_ground.Flow g) = AreFlowCells s operands g
 IsGround s operands (a_ground.Regions cells) = AreOnlyCells s operands cells.items
 IsGround s operands a_ground.Zones = AreBoth s operands
 
+-- what a book is counted from
+abbrev pub AreZones : Ground → Type 0
+AreZones a_ground.Zones = Unit {0}
+AreZones ground = ⊥
+
 -- it is one of this operation
 abbrev pub IsGroundOf : Op → Ground → Type 0
 IsGroundOf op (a_ground.Costs g) = IsRepairOf op (Alone (Spread g.limit))

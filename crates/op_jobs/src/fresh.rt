@@ -1,12 +1,12 @@
 //! Layers that were not there, which workers make of parts.
-ghost use Rattle.std.specs.Prelude.{◌≡◌, ◌*◌, ◌<◌, ◌≤◌, ℕ, List, length, Some, slice_get, IfOk, IfSome};
+ghost use Rattle.std.specs.Prelude.{◌≡◌, ◌*◌, ◌<◌, ◌≤◌, ℕ, List, length, Some, slice_get, IfOk, IfSome, IfNone};
 ghost use Rattle.map_nums.specs.Numbers.{greatest_value};
 ghost use Rattle.map_nums.specs.Tiles.{tiles_in};
 ghost use Rattle.map_defs.specs.Ops.{Op as Operation};
 ghost use Rattle.layer_tiles.specs.Changes.{ChangeState};
 ghost use Rattle.layer_tiles.specs.Tallies.{RisesBy};
 ghost use Rattle.statement_parser.specs.Views.{op_view};
-ghost use Rattle.op_jobs.specs.Grounds.{laying, ArePathCells, AreFlowCells, IsGround, IsGroundOf, IsGroundPart};
+ghost use Rattle.op_jobs.specs.Grounds.{laying, AreZones, ArePathCells, AreFlowCells, IsGround, IsGroundOf, IsGroundPart};
 ghost use Rattle.op_jobs.specs.Lists.{IsFreshMade};
 ghost use Rattle.op_jobs.specs.Operands.{AreBoth, AreOperandsOf};
 ghost use Rattle.op_jobs.specs.Ranges.{HasRanges};
@@ -125,7 +125,8 @@ pub(crate) fn make_fresh(
     requires from { (operands : List ChangeState) × IsGround extent operands from }
     requires some { 0 < length parts.items }
     requires each { (k : ℕ) (p : Part) → slice_get parts.items k ≡ Some p → IsGroundPart extent from (length parts.items) k p }
-    ensures { (op : Operation) (operands : List ChangeState) → IsGroundOf op from → HasRanges op → IsGround extent operands from → IfOk result (λ made. IfSome made (IsFreshMade extent op operands)) }
+    ensures made { (op : Operation) (operands : List ChangeState) → IsGroundOf op from → HasRanges op → IsGround extent operands from → IfOk result (λ made. IfSome made (IsFreshMade extent op operands)) }
+    ensures none { IfOk result (λ made. IfNone made (AreZones from)) }
 {
     let _tiles = extent.tiles();
     match from {

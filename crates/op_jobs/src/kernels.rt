@@ -18,7 +18,6 @@ ghost use Rattle.op_jobs.specs.Kernels.{CanMake, kernel_cells, kernel_reach, bes
 
 use crate::beside::Beside;
 use crate::lists::{FreshLayer, list_tile};
-use crate::operands::first_of;
 use crate::sight::sight_piece;
 use crate::zonal::zonal_piece;
 use drainage_flow::direction_tile;
@@ -90,7 +89,7 @@ fn tile_of_focal<M: Tally>(
     ensures answer { IsTileAnswer extent (focal_grid stat (offsets_of radius) extent (operand (cells_after operands.now) 0)).cells tile result }
     ensures tally { RisesBy 25 0 (M.counts tally.old) (M.counts tally.new) }
 {
-    let first = first_of(operands);
+    let first = operands.at(0);
     focal_tile(alloc, stat, first, radius, tile, tally)
 }
 
@@ -109,7 +108,7 @@ fn tile_of_shape<M: Tally>(
     ensures answer { IsTileAnswer extent (form_grid (form_of shape) extent (operand (cells_after operands.now) 0)).cells tile result }
     ensures tally { RisesBy 25 0 (M.counts tally.old) (M.counts tally.new) }
 {
-    let first = first_of(operands);
+    let first = operands.at(0);
     shape_tile(alloc, shape, first, tile, tally)
 }
 
@@ -127,7 +126,7 @@ fn tile_of_directions<M: Tally>(
     ensures answer { IsTileAnswer extent (direction_grid extent (operand (cells_after operands.now) 0)).cells tile result }
     ensures tally { RisesBy 25 0 (M.counts tally.old) (M.counts tally.new) }
 {
-    let first = first_of(operands);
+    let first = operands.at(0);
     match direction_tile(alloc, first, tile, tally) {
         Ok(made) => Ok(made),
         Err(NoMemory) => Err(KernelRefusal::NoMemory),

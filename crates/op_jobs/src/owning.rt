@@ -1,5 +1,5 @@
 //! What the jobs of a statement share, by the class of its operation.
-ghost use Rattle.std.specs.Prelude.{◌≡◌, ◌*◌, List, length, None, option_map, IfOk, IfSome, IsTrue};
+ghost use Rattle.std.specs.Prelude.{◌≡◌, ◌*◌, List, length, None, option_map, IfOk, IfSome, IfNone, IsTrue};
 ghost use Rattle.std.specs.Option.{option_copied};
 ghost use Rattle.map_defs.specs.Ops.{Op as Operation, Term, zonal_op, sight_op};
 ghost use Rattle.map_defs.specs.Damage.{has_work};
@@ -13,7 +13,7 @@ ghost use Rattle.map_waves.specs.Found.{AreFound};
 ghost use Rattle.map_waves.specs.Keeping.{kept_now, was_of};
 ghost use Rattle.map_waves.specs.Statements.{damage_by};
 ghost use Rattle.op_jobs.specs.Beside.{book_in, kept_viewers};
-ghost use Rattle.op_jobs.specs.Grounds.{AreAllCounts, AreGrounded, IsGroundOf, IsGrounded, IsPart};
+ghost use Rattle.op_jobs.specs.Grounds.{AreAllCounts, AreGrounded, AreZones, IsGroundOf, IsGrounded, IsPart};
 ghost use Rattle.op_jobs.specs.Operands.{IsEdited};
 ghost use Rattle.op_jobs.specs.Owning.{IsOwn, IsOwnAnswer};
 ghost use Rattle.op_jobs.specs.Ranges.{HasRanges};
@@ -149,7 +149,8 @@ fn fresh_own(
     found: Option<(Ground, Vec<Part>)>,
 ) -> Result<Option<Own>, NoMemory>
     requires found { IfSome found (λ q. (operands : List ChangeState) × AreGrounded extent operands q.0 q.1.items) }
-    ensures { (op : Operation) (operands : List ChangeState) → IsTrue (has_work op) → HasRanges op → IfSome found (λ q. IsGroundOf op q.0 × AreGrounded extent operands q.0 q.1.items) → IfOk result (λ made. IfSome made (IsOwn extent op operands None)) }
+    ensures made { (op : Operation) (operands : List ChangeState) → IsTrue (has_work op) → HasRanges op → IfSome found (λ q. IsGroundOf op q.0 × AreGrounded extent operands q.0 q.1.items) → IfOk result (λ made. IfSome made (IsOwn extent op operands None)) }
+    ensures none { IfOk result (λ made. IfNone made (IfSome found (λ q. AreZones q.0))) }
 {
     let Some((ground, parts)) = found else {
         return Ok(None);

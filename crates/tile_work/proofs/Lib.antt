@@ -1,5 +1,5 @@
 pub mod Slots
-mod Boxes
+mod Seats
 pub mod Numbers
 pub mod Pushing
 pub mod Copies

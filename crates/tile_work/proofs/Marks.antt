@@ -139,7 +139,15 @@ marked_word old words row column w p q n same e = record {
   ];
 }
 
-abbrev word_zero : ℕ
+-- a mark in words with the same marks
+pub marked_from : (now old new : List ℕ) (row column : ℕ) → ((r : ℕ) → get_or now r 0 ≡ get_or old r 0) → IsMarked now row column new → IsMarked old row column new
+marked_from now old new row column same m = record {
+  words = m.words;
+  here = m.here;
+  other = λ r c l k d. m.other r c l k d ∙ ap (λ w. eqb (bit_at w c) 1) (same r);
+}
+
+abbrev pub word_zero : ℕ
 word_zero = 0
 
 -- words of which there were none are all 0

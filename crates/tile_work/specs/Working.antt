@@ -1,12 +1,12 @@
 -- What a working layer shows.
-use Rattle.std.specs.Prelude.{◌≡◌, ◌≢◌, ◌⊎◌, ◌↔◌, IsSome, ◌∷◌, ◌++◌, ℕ, ◌<◌, ◌≤◌, List, [], length, map, slice_index, slice_index_or, slice_set, ℤ, Bool, true, false, Option, Some, None, Box, is_some, option_map, unwrap_or, if◌then◌else◌}
-use Rattle.std.specs.declared.alloc.Global.{Global}
+use Rattle.std.specs.Prelude.{◌≡◌, ◌≢◌, ◌⊎◌, ◌↔◌, IsSome, ◌∷◌, ◌++◌, ℕ, ◌<◌, ◌≤◌, List, [], length, map, slice_index, slice_index_or, slice_set, ℤ, Bool, true, false, Option, Some, None, is_some, unwrap_or, if◌then◌else◌}
 use Rattle.std.specs.List.{sum_by, Contains, insert}
 use Rattle.std.specs.List.Sorted.{IsStrictlyIncreasing}
 use Rattle.map_nums.specs.Grids.{Size, IsSize, Cells, cell_at, places}
 use Rattle.layer_tiles.specs.Tiles.{Block, IsBlockOf, tiles_in, tile_of, place_in, tile_block, tile_cells}
 use Rattle.layer_tiles.specs.Patches.{cell_or, patch_get, patched, HoldsAll}
 use Rattle.layer_tiles.specs.Layers.{LayerState, IsLayer}
+use Rattle.tile_work.specs.Seats.{AreSeats, seated}
 
 -- the cells before, where there were any; the cells now; and which tiles were copied
 pub record WorkState : Type 0 where
@@ -23,12 +23,12 @@ abbrev pub before_of : Option LayerState → Option (List (Option ℤ))
 before_of None = None
 before_of (Some l) = Some l.cells
 
--- the tile in a slot's box
-abbrev pub tile_in_slot : Option (Box Block Global) → Option Block
-tile_in_slot slot = option_map (λ b. b.value) slot
+-- the copy of each tile, where it has one
+abbrev pub seated_tiles : List (Option Block) → List ℕ → List (Option Block)
+seated_tiles tiles seats = seated None tiles seats
 
-abbrev pub tiles_in_slots : List (Option (Box Block Global)) → List (Option Block)
-tiles_in_slots slots = map tile_in_slot slots
+abbrev pub AreTileSeats : List (Option Block) → List ℕ → Type 0
+AreTileSeats tiles seats = AreSeats None tiles seats
 
 abbrev pub slot_at : List (Option Block) → ℕ → Option Block
 slot_at slots t = slice_index_or slots t None

@@ -1,7 +1,7 @@
 //! Sets of places.
 ghost use Rattle.std.specs.Prelude.{◌≡◌, ◌<◌, ◌+◌, ◌*◌, IfOk, OnOk, OnErr, false, true, length, replicate, slice_index_or, slice_set};
 ghost use Rattle.map_nums.specs.Grids.{IsSize, cells_in};
-ghost use Rattle.tile_work.specs.PlaceSets.{AreWords, IsMarked};
+ghost use Rattle.tile_work.specs.PlaceSets.{AreWords, AreWordSeats, IsBegun, IsMarked, seated_words, words_at};
 
 use layer_tiles::{Extent, NoMemory};
 use std::alloc::Global;
@@ -12,19 +12,20 @@ use std::marker::Model;
 pub struct PlaceSet {
     alloc: Global,
     extent: Extent,
-    /// The marks of each tile, once it has one: a word for each row, a bit for each column.
-    slots: Vec<Vec<u32>>,
+    /// Where the marks of each tile stand: first among all, until it has one.
+    seats: Vec<usize>,
+    /// None, and then those of each tile that has one: a word for each row, a bit for each column.
+    words: Vec<Vec<u32>>,
 }
 
 impl Model for PlaceSet {
-    ghost use Rattle.std.specs.Prelude.{map};
-    ghost use Rattle.tile_work.specs.PlaceSets.{PlaceSetState, IsPlaceSet, marks_of};
+    ghost use Rattle.tile_work.specs.PlaceSets.{PlaceSetState, IsPlaceSet, AreWordSeats, marks_of, seated_words};
 
     ghost Value = { PlaceSetState };
 
-    ghost view = { λ p. record { size = p.extent; marks = marks_of p.extent (map (λ v. v.items) p.slots.items) } };
+    ghost view = { λ p. record { size = p.extent; marks = marks_of p.extent (seated_words p.words.items p.seats.items) } };
 
-    ghost invariant = { λ p. IsPlaceSet p.extent (map (λ v. v.items) p.slots.items) };
+    ghost invariant = { λ p. IsPlaceSet p.extent (seated_words p.words.items p.seats.items) × AreWordSeats p.words.items p.seats.items };
 }
 
 impl PlaceSet {
@@ -32,14 +33,14 @@ impl PlaceSet {
     pub fn new(alloc: Global, extent: Extent) -> Result<PlaceSet, NoMemory>
         ensures { IfOk result (λ p. p ≡ record { size = extent; marks = replicate (cells_in extent) false }) }
     {
-        let mut slots = Vec::with_capacity(alloc, extent.tiles() as usize)?;
-        for _tile in 0..extent.tiles() {
-            slots.push(Vec::new(alloc))?;
-        }
+        let seats = vec![in alloc; 0; extent.tiles() as usize]?;
+        let mut words = Vec::new(alloc);
+        words.push(Vec::new(alloc))?;
         Ok(PlaceSet {
             alloc,
             extent,
-            slots,
+            seats,
+            words,
         })
     }
 
@@ -69,7 +70,8 @@ impl PlaceSet {
         ensures { result ≡ slice_index_or self.now.marks (row * self.now.size.columns + column) false }
     {
         let tile = row / 32 * self.extent.tiles_across() + column / 32;
-        match self.slots[tile as usize].get((row % 32) as usize) {
+        let seat = self.seats[tile as usize];
+        match self.words[seat].get((row % 32) as usize) {
             Some(word) => *word >> (column % 32) & 1 == 1,
             None => false,
         }
@@ -94,29 +96,44 @@ impl PlaceSet {
         ensures err { OnErr result (self.new ≡ self.old) }
     {
         let tile = row / 32 * self.extent.tiles_across() + column / 32;
-        mark(
-            self.alloc,
-            &mut self.slots[tile as usize],
-            row % 32,
-            column % 32,
-        )?;
+        begin(self.alloc, &mut self.seats, &mut self.words, tile as usize)?;
+        let seat = self.seats[tile as usize];
+        mark(&mut self.words[seat], row % 32, column % 32);
         Ok(())
     }
 }
 
+/// Gives a tile a word for each row, where it has none.
+fn begin(
+    alloc: Global,
+    seats: &mut Vec<usize>,
+    words: &mut Vec<Vec<u32>>,
+    tile: usize,
+) -> Result<(), NoMemory>
+    requires within { tile < length seats.old.items }
+    requires seats { AreWordSeats words.old.items seats.old.items }
+    requires words { AreWords (words_at (seated_words words.old.items seats.old.items) tile) }
+    ensures ok { OnOk result (IsBegun words.old.items seats.old.items tile words.new.items seats.new.items) }
+    ensures err { OnErr result ((seats.new.items ≡ seats.old.items) × (words.new.items ≡ words.old.items)) }
+{
+    if !words[seats[tile]].is_empty() {
+        return Ok(());
+    }
+    let blank = no_marks(alloc)?;
+    let seat = words.len();
+    words.push(blank)?;
+    seats[tile] = seat;
+    Ok(())
+}
+
 /// Marks a row and a column of a tile.
-fn mark(alloc: Global, words: &mut Vec<u32>, row: u32, column: u32) -> Result<(), NoMemory>
+fn mark(words: &mut Vec<u32>, row: u32, column: u32)
     requires row { row < 32 }
     requires column { column < 32 }
-    requires words { AreWords words.old.items }
-    ensures ok { OnOk result (IsMarked words.old.items row column words.new.items) }
-    ensures err { OnErr result (words.new.items ≡ words.old.items) }
+    requires words { length words.old.items ≡ 32 }
+    ensures { IsMarked words.old.items row column words.new.items }
 {
-    if words.is_empty() {
-        *words = no_marks(alloc)?;
-    }
     words[row as usize] |= 1 << column;
-    Ok(())
 }
 
 /// A word for each row of a tile, without a mark.

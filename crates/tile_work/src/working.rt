@@ -4,7 +4,7 @@ ghost use Rattle.map_nums.specs.Grids.{IsSize, cells_in, cell_at};
 ghost use Rattle.layer_tiles.specs.Tiles.{tiles_in, tile_of, place_in, tile_block, IsBlockOf};
 ghost use Rattle.layer_tiles.specs.Tallies.{RisesBy};
 ghost use Rattle.layer_tiles.specs.Patches.{IsAboveLast};
-ghost use Rattle.tile_work.specs.Working.{IsOld, IsWork, AreCopied, IsInserted, before_of, base_of, begun_cells, work_cells, copies, written, IsSameWork, IsCopiedFor, IsPushed, IsPatchTo, one_slot, tile_in_slot, tiles_in_slots};
+ghost use Rattle.tile_work.specs.Working.{IsOld, IsWork, AreCopied, IsInserted, before_of, base_of, begun_cells, work_cells, copies, written, IsSameWork, IsCopiedFor, IsPushed, IsPatchTo, AreTileSeats, one_slot, seated_tiles};
 ghost use Rattle.std.specs.Option.{option_copied};
 ghost use Rattle.std.specs.List.Sorted.{IsStrictlyIncreasing};
 
@@ -18,8 +18,10 @@ pub struct Working<'a> {
     alloc: Global,
     extent: Extent,
     base: Option<&'a Layer>,
-    /// The copy of each tile, once it was written. Boxed, since most slots stay empty.
-    slots: Vec<Option<Box<Tile>>>,
+    /// Where the copy of each tile stands: first among all, until it is written.
+    seats: Vec<usize>,
+    /// None, and then the copies of the tiles that were written.
+    tiles: Vec<Option<Tile>>,
     /// The numbers of the copied tiles, in ascending order.
     numbers: Vec<u32>,
 }
@@ -27,13 +29,13 @@ pub struct Working<'a> {
 impl<'a> Model for Working<'a> {
     ghost use Rattle.std.specs.Prelude.{map, is_some};
     ghost use Rattle.std.specs.Option.{option_copied};
-    ghost use Rattle.tile_work.specs.Working.{WorkState, IsWork, AreCopied, before_of, base_of, work_cells, tiles_in_slots};
+    ghost use Rattle.tile_work.specs.Working.{WorkState, IsWork, AreCopied, AreTileSeats, before_of, base_of, work_cells, seated_tiles};
 
     ghost Value = { WorkState };
 
-    ghost view = { λ w. record { size = w.extent; before = before_of (option_copied w.base); cells = work_cells w.extent (base_of (before_of (option_copied w.base))) (tiles_in_slots w.slots.items); copied = map is_some (tiles_in_slots w.slots.items) } };
+    ghost view = { λ w. record { size = w.extent; before = before_of (option_copied w.base); cells = work_cells w.extent (base_of (before_of (option_copied w.base))) (seated_tiles w.tiles.items w.seats.items); copied = map is_some (seated_tiles w.tiles.items w.seats.items) } };
 
-    ghost invariant = { λ w. IsWork w.extent (option_copied w.base) (tiles_in_slots w.slots.items) × AreCopied (tiles_in_slots w.slots.items) w.numbers.items };
+    ghost invariant = { λ w. IsWork w.extent (option_copied w.base) (seated_tiles w.tiles.items w.seats.items) × AreCopied (seated_tiles w.tiles.items w.seats.items) w.numbers.items × AreTileSeats w.tiles.items w.seats.items };
 }
 
 impl<'a> Working<'a> {
@@ -53,7 +55,8 @@ impl<'a> Working<'a> {
         ensures count { length self.now.cells ≡ cells_in self.now.size }
         ensures pick { RisesBy 0 1 (M.counts tally.old) (M.counts tally.new) }
     {
-        match &self.slots[self.extent.tile_of(at) as usize] {
+        let seat = self.seats[self.extent.tile_of(at) as usize];
+        match &self.tiles[seat] {
             Some(tile) => cell_in(self.extent, tile, at),
             None => self.old_cell(at, tally),
         }
@@ -85,15 +88,15 @@ impl<'a> Working<'a> {
         ensures cells { IfOk result (λ w. w.cells ≡ begun_cells extent (before_of (option_copied base.entry))) }
         ensures copied { IfOk result (λ w. copies w.copied ≡ 0) }
     {
-        let mut slots = Vec::with_capacity(alloc, extent.tiles() as usize)?;
-        for _tile in 0..extent.tiles() {
-            slots.push(None)?;
-        }
+        let seats = vec![in alloc; 0; extent.tiles() as usize]?;
+        let mut tiles = Vec::new(alloc);
+        tiles.push(None)?;
         Ok(Working {
             alloc,
             extent,
             base,
-            slots,
+            seats,
+            tiles,
             numbers: Vec::new(alloc),
         })
     }
@@ -109,7 +112,8 @@ impl<'a> Working<'a> {
     {
         let tile = self.extent.tile_of(at);
         self.copy_tile(tile, tally)?;
-        match &mut self.slots[tile as usize] {
+        let seat = self.seats[tile as usize];
+        match &mut self.tiles[seat] {
             Some(cells) => set_in(self.extent, cells, at, cell),
             None => unreachable!(),
         }
@@ -144,12 +148,13 @@ impl<'a> Working<'a> {
             alloc,
             extent,
             base,
-            slots,
+            seats,
+            tiles,
             numbers,
         } = self;
         match base {
-            Some(layer) => changed_tiles(alloc, layer, slots, &numbers, tally),
-            None => all_tiles(alloc, extent, slots),
+            Some(layer) => changed_tiles(alloc, layer, &seats, tiles, &numbers, tally),
+            None => all_tiles(alloc, extent, &seats, tiles),
         }
     }
 
@@ -162,13 +167,14 @@ impl<'a> Working<'a> {
         ensures look { OnOk result (RisesBy (copies self.new.copied - copies self.old.copied) 0 (M.counts tally.old) (M.counts tally.new)) }
         ensures wanted { OnErr result (RisesBy 1 0 (M.counts tally.old) (M.counts tally.new)) }
     {
-        if self.slots[tile as usize].is_some() {
+        if self.tiles[self.seats[tile as usize]].is_some() {
             return Ok(());
         }
         let copy = self.old_tile(tile, tally)?;
-        let boxed = Box::new(self.alloc, copy)?;
+        let seat = self.tiles.len();
+        self.tiles.push(Some(copy))?;
         add_number(&mut self.numbers, tile)?;
-        self.slots[tile as usize] = Some(boxed);
+        self.seats[tile as usize] = seat;
         Ok(())
     }
 
@@ -225,19 +231,21 @@ fn set_in(extent: Extent, tile: &mut Tile, at: u32, cell: Cell)
 fn changed_tiles<M: Tally>(
     alloc: Global,
     layer: &Layer,
-    mut slots: Vec<Option<Box<Tile>>>,
+    seats: &[usize],
+    mut tiles: Vec<Option<Tile>>,
     numbers: &[u32],
     tally: &mut M,
 ) -> Result<Patch, NoMemory>
-    requires work { IsWork layer.now.size (Some layer.now) (tiles_in_slots slots.items) }
-    requires numbers { AreCopied (tiles_in_slots slots.items) numbers.now }
+    requires work { IsWork layer.now.size (Some layer.now) (seated_tiles tiles.items seats.now) }
+    requires numbers { AreCopied (seated_tiles tiles.items seats.now) numbers.now }
+    requires seats { AreTileSeats tiles.items seats.now }
     ensures size { IfOk result (λ patch. patch.size ≡ layer.now.size) }
-    ensures patch { IfOk result (λ patch. IsPatchTo layer.now.size (Some layer.now.cells) (work_cells layer.now.size layer.now.cells (tiles_in_slots slots.items)) patch.tiles) }
+    ensures patch { IfOk result (λ patch. IsPatchTo layer.now.size (Some layer.now.cells) (work_cells layer.now.size layer.now.cells (seated_tiles tiles.items seats.now)) patch.tiles) }
     ensures looks { RisesBy (length numbers.now) 0 (M.counts tally.old) (M.counts tally.new) }
 {
     let mut patch = Patch::new(alloc, layer.extent());
     for number in numbers {
-        let slot = take_tile(&mut slots[*number as usize]);
+        let slot = tiles[seats[*number as usize]].take();
         push_changed(layer, *number, slot, &mut patch, tally)?;
     }
     Ok(patch)
@@ -247,28 +255,20 @@ fn changed_tiles<M: Tally>(
 fn all_tiles(
     alloc: Global,
     extent: Extent,
-    mut slots: Vec<Option<Box<Tile>>>,
+    seats: &[usize],
+    mut tiles: Vec<Option<Tile>>,
 ) -> Result<Patch, NoMemory>
-    requires { IsWork extent None (tiles_in_slots slots.items) }
+    requires work { IsWork extent None (seated_tiles tiles.items seats.now) }
+    requires seats { AreTileSeats tiles.items seats.now }
     ensures size { IfOk result (λ patch. patch.size ≡ extent) }
-    ensures patch { IfOk result (λ patch. IsPatchTo extent None (work_cells extent [] (tiles_in_slots slots.items)) patch.tiles) }
+    ensures patch { IfOk result (λ patch. IsPatchTo extent None (work_cells extent [] (seated_tiles tiles.items seats.now)) patch.tiles) }
 {
     let mut patch = Patch::new(alloc, extent);
     for tile in 0..extent.tiles() {
-        let slot = take_tile(&mut slots[tile as usize]);
+        let slot = tiles[seats[tile as usize]].take();
         push_any(alloc, extent, tile, slot, &mut patch)?;
     }
     Ok(patch)
-}
-
-/// Takes the tile out of a slot.
-fn take_tile(slot: &mut Option<Box<Tile>>) -> Option<Tile>
-    ensures { result ≡ tile_in_slot slot.old }
-{
-    match slot.take() {
-        Some(tile) => Some(Box::into_inner(tile)),
-        None => None,
-    }
 }
 
 /// Adds a tile where it is not that of the layer.

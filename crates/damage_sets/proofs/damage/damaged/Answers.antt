@@ -13,8 +13,8 @@ loop-k-preserved g c =
     let operands = c.args.operands.now in
     let s = size_of operands in
     let i = c.loop-k.invariant in
-    let x = c.in-Some-get.change.now in
-    let here : slice_get operands c.loop-k.k ≡ Some x = sym c.in-Some-get.ensures in
+    let x = c.at-change.result.now in
+    let here : slice_get operands c.loop-k.k ≡ Some x = c.at-change.ensures in
     let size = size_at operands s c.loop-k.k x c.requires.one_size here in
     record {
       size = c.add_changed.ensures.size ∙ i.size;

@@ -10,9 +10,9 @@ use Rattle.local_ops.proofs.kernel.lend.Goals as goal
 pub loop-k-preserved : goal.loop-k-preserved
 loop-k-preserved g c =
     let operands = c.args.operands.now in
-    let x = c.in-Some.change.now in
+    let x = c.at-change.result.now in
     let s = size_of operands in
-    let here : slice_get operands c.loop-k.k ≡ Some x = sym c.in-Some.ensures in
+    let here : slice_get operands c.loop-k.k ≡ Some x = c.at-change.ensures in
     let size = size_at operands c.loop-k.k x c.requires.one_size here in
     record {
       views = blocks_push s c.args.tile operands c.loop-k.k x c.loop-k.views.items c.push.new.self.items c.view.result here c.loop-k.invariant.views c.in_ok-push.ensures.items (lent c.view.result c.args.tile x s c.view.ensures.tile size);

@@ -13,7 +13,7 @@ use Rattle.local_ops.proofs.kernel.local_tile.Goals.{After-deref}
 
 -- the extent is the operands' size, and the lent tiles are theirs
 extent_is : (g : _) (c : After-deref g) → c.extent-extent.result ≡ size_of c.args.operands.now
-extent_is g c = c.extent-extent.ensures.extent ∙ size_first c.args.operands.now c.in-Some.first.now (sym c.in-Some.ensures)
+extent_is g c = c.extent-extent.ensures.extent ∙ size_first c.args.operands.now c.at-first.result.now c.at-first.ensures
 
 views_are : (g : _) (c : After-deref g) → c.deref.result.now ≡ blocks_of (size_of c.args.operands.now) c.args.tile c.args.operands.now
 views_are g c = c.deref.ensures.value ∙ c.in-Ok.ensures.views
@@ -33,7 +33,7 @@ returns-in-Ok-clause-answer g c =
     let t = c.args.tile in
     let d = (goal.at.returns-in-Ok-clause-answer g c).After-deref in
     local_answer op operands s t c.tile_of_views.result
-    (subst IsSize (size_first operands c.in-Some.first.now (sym c.in-Some.ensures)) c.extent-extent.ensures.size)
+    (subst IsSize (size_first operands c.at-first.result.now c.at-first.ensures) c.extent-extent.ensures.size)
     c.requires.within
     (subst (λ (z : Size). IsPlacesAnswer (by_row (tile_width z t) (cell_by op (blocks_of s t operands))) z t c.tile_of_views.result) (extent_is g d)
     (subst (λ (blocks : List Block). IsPlacesAnswer (by_row (tile_width c.extent-extent.result t) (cell_by op blocks)) c.extent-extent.result t c.tile_of_views.result) (views_are g d) c.tile_of_views.ensures))

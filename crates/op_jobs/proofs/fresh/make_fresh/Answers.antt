@@ -20,27 +20,27 @@ labels_by-requires-clause-each c = λ k p e.
     let here = subst (λ (q : Ground). IsGroundPart c.args.extent q (length c.args.parts.items) k p) c.in-Regions.is (c.requires.each k p e) in
     subst (λ (cells : Cells). IsLabels c.args.extent cells (length c.args.parts.items) k p) (sym c.deref.ensures.value) here
 
-pub returns-in_ok-costs-in-Costs : goal.returns-in_ok-costs-in-Costs
-returns-in_ok-costs-in-Costs c = λ op operands of ranges is.
+pub returns-in_ok-costs-in-Costs-clause-made : goal.returns-in_ok-costs-in-Costs-clause-made
+returns-in_ok-costs-in-Costs-clause-made c = λ op operands of ranges is.
     let laid = subst (IsGround c.args.extent operands) c.in-Costs.is is in
     let o = spread_is op c.in-Costs.cells.limit (subst (IsGroundOf op) c.in-Costs.is of) ranges in
     spread_listed c.args.extent c.tiles-tiles.ensures.size operands _ _ laid.sources_are laid.friction_are o.0 o.1 op _ _ c.in_ok-costs-in-Costs.costs o.2 c.alone.ensures c.in_ok-costs-in-Costs.ensures
 
-pub returns-in_ok-nearest_by-in-Nearest : goal.returns-in_ok-nearest_by-in-Nearest
-returns-in_ok-nearest_by-in-Nearest c = λ op operands of ranges is.
+pub returns-in_ok-nearest_by-in-Nearest-clause-made : goal.returns-in_ok-nearest_by-in-Nearest-clause-made
+returns-in_ok-nearest_by-in-Nearest-clause-made c = λ op operands of ranges is.
     let laid = subst (IsGround c.args.extent operands) c.in-Nearest.is is in
     let o = nearest_is op c.in-Nearest.cells.limit (subst (IsGroundOf op) c.in-Nearest.is of) ranges in
     nearest_listed c.args.extent c.tiles-tiles.ensures.size operands _ _ laid.sources_are laid.friction_are o.0 o.1 op _ _ o.2 c.in_ok-nearest_by-in-Nearest.ensures
 
-pub returns-in_ok-list-in-Flow : goal.returns-in_ok-list-in-Flow
-returns-in_ok-list-in-Flow c = λ op operands of ranges is.
+pub returns-in_ok-list-in-Flow-clause-made : goal.returns-in_ok-list-in-Flow-clause-made
+returns-in_ok-list-in-Flow-clause-made c = λ op operands of ranges is.
     let laid = subst (IsGround c.args.extent operands) c.in-Flow.is is in
     let o = flow_is op (subst (IsGroundOf op) c.in-Flow.is of) ranges in
     let made = c.in_ok-list-in-Flow.ensures in
     flow_listed c.args.extent c.tiles-tiles.ensures.size operands _ _ laid.surface_is laid.weights_are o.0 o.1 op _ _ _ o.2 c.alone-in-Flow.ensures made.list made.cells made.work
 
-pub returns-in_ok-labels-in-Regions : goal.returns-in_ok-labels-in-Regions
-returns-in_ok-labels-in-Regions c = λ op operands of ranges is.
+pub returns-in_ok-labels-in-Regions-clause-made : goal.returns-in_ok-labels-in-Regions-clause-made
+returns-in_ok-labels-in-Regions-clause-made c = λ op operands of ranges is.
     let laid = subst (IsGround c.args.extent operands) c.in-Regions.is is in
     let o = region_is op (subst (IsGroundOf op) c.in-Regions.is of) ranges in
     labels_listed c.args.extent c.tiles-tiles.ensures.size operands c.deref.result.now (c.deref.ensures.value ∙ laid.cells_are) c.in_ok-labels-in-Regions.labels c.in_ok-labels-in-Regions.ensures op o.0 _ o.1 c.alone-in-Regions.ensures

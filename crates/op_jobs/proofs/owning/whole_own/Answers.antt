@@ -15,7 +15,7 @@ returns-in-Ok-Some-clause-answer g c = λ op of edited laid.
     let s = c.args.extent in
     let xs = c.args.operands.now in
     let found = both_some (λ q. IsGroundOf op q.0) (λ q. AreGrounded s xs q.0 q.1.items) c.args.found laid c.requires.found in
-    let own = at_some (IsOwn s op xs None) c.in-Ok-Some.field-0 c.in-Ok-Some.own c.in-Ok-Some.field-0-is (c.in-Ok-Some.ensures op xs (works c.args.repair op.head of) edited.operands_are.formed found) in
+    let own = at_some (IsOwn s op xs None) c.in-Ok-Some.field-0 c.in-Ok-Some.own c.in-Ok-Some.field-0-is (c.in-Ok-Some.ensures.made op xs (works c.args.repair op.head of) edited.operands_are.formed found) in
     subst (λ (was : Option Cells). IsOwn s op xs was c.in-Ok-Some.own) (sym (none_was c.args.kept (sym c.if-is_none.ensures))) own
 
 pub returns-in-Ok-clause-looks : goal.returns-in-Ok-clause-looks
