@@ -1,4 +1,4 @@
-//! Tests of what the public calls of the engine do, with values from another program, and of displays and the marks in them, whose
+//! Tests of what the public calls of the engine and of branches do, with values from another program, and of displays and the marks in them, whose
 //! texts are worked by hand.
 #![tactic(auto)]
 

@@ -14,10 +14,11 @@ use Rattle.map_defs.specs.Nearest.{IsNoGreater, BeginsAt, StepsTo}
 use Rattle.map_defs.proofs.NearestNet.{number_of, no_greater, le_then}
 use Rattle.map_defs.specs.Spread.{friction_at}
 use Rattle.friction_spread.specs.Costs.{net_of, step_of}
-use Rattle.friction_neighbor.specs.declared.fields.Spot.{Spot}
+use Rattle.friction_spread.specs.declared.ground.Spot.{Spot}
 use Rattle.friction_neighbor.specs.Fields.{FieldState, IsField, cost_at, own_at, AreLeastValues}
 use Rattle.friction_neighbor.specs.declared.fields.Front.{Front}
-use Rattle.friction_neighbor.specs.Spots.{IsSpot, AreNear, IsFront, weighed}
+use Rattle.friction_spread.specs.Spots.{IsSpot, AreNear, weighed}
+use Rattle.friction_neighbor.specs.Spots.{IsFront}
 use Rattle.friction_neighbor.specs.Floods.{IsTold, IsFlooding, MayGrow, RowTold, RowToldTo, RoundToldTo, one_if_null, nulls, left_to_do}
 use Rattle.friction_neighbor.proofs.Places.{only_spot, step_is}
 

@@ -9,10 +9,11 @@ use Rattle.map_defs.specs.Nearest.{IsNoGreater, BeginsAt, StepsTo}
 use Rattle.map_defs.proofs.NearestNet.{no_greater}
 use Rattle.friction_spread.specs.Costs.{net_of, step_of}
 use Rattle.friction_spread.proofs.Grounds.{net_costs}
-use Rattle.friction_neighbor.specs.declared.fields.Spot.{Spot}
+use Rattle.friction_spread.specs.declared.ground.Spot.{Spot}
 use Rattle.friction_neighbor.specs.declared.fields.Front.{Front}
 use Rattle.friction_neighbor.specs.Fields.{FieldState, IsField, cost_at, own_at}
-use Rattle.friction_neighbor.specs.Spots.{IsSpot, AreNear, IsFront, weighed}
+use Rattle.friction_spread.specs.Spots.{IsSpot, AreNear, weighed}
+use Rattle.friction_neighbor.specs.Spots.{IsFront}
 use Rattle.friction_neighbor.specs.Gathers.{IsLeastHere, IsLesser, IsGathered, IsBrought, RowBrought, RowBroughtTo, RoundBroughtTo}
 use Rattle.friction_neighbor.proofs.Places.{only_spot, step_is, steps_near, free_begins, begins_free}
 use Rattle.friction_neighbor.proofs.Righting.{step_lower}

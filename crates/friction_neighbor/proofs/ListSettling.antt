@@ -12,12 +12,12 @@ use Rattle.tile_work.specs.PlaceSets.{PlaceSetState}
 use Rattle.changed_cells.proofs.Joining.{differs_is}
 use Rattle.friction_spread.specs.Costs.{net_of}
 use Rattle.friction_spread.proofs.Grounds.{net_costs}
-use Rattle.friction_neighbor.specs.declared.fields.Spot.{Spot}
+use Rattle.friction_spread.specs.declared.ground.Spot.{Spot}
 use Rattle.friction_neighbor.specs.Fields.{FieldState, IsField, cost_at, own_at}
 use Rattle.friction_neighbor.specs.Joins.{IsListRepair, IsListDealt}
 use Rattle.friction_neighbor.specs.Puts.{is_marked, ArePut, IsMarkedFrom}
 use Rattle.friction_neighbor.specs.Repairs.{wanted_at, IsValueRepair}
-use Rattle.friction_neighbor.specs.Spots.{IsSpot}
+use Rattle.friction_spread.specs.Spots.{IsSpot}
 use Rattle.friction_neighbor.specs.Views.{ViewState}
 use Rattle.friction_neighbor.proofs.Agreeing.{wanted_agree}
 use Rattle.friction_neighbor.proofs.Places.{only_spot, steps_near}

@@ -14,9 +14,9 @@ use Rattle.friction_spread.specs.declared.ground.Spot.{Spot as SpreadSpot}
 use Rattle.friction_spread.proofs.Grounds.{IsJoined, leads, base_barrier, net_costs}
 use Rattle.friction_spread.proofs.Least.{step_weighed, step_to_barrier}
 use Rattle.friction_spread.proofs.Shown.{least_all}
-use Rattle.friction_neighbor.specs.declared.fields.Spot.{Spot}
+use Rattle.friction_spread.specs.declared.ground.Spot.{Spot}
 use Rattle.friction_neighbor.specs.Fields.{FieldState, IsField, cost_at, own_at}
-use Rattle.friction_neighbor.specs.Spots.{IsSpot, AreNear, weighed}
+use Rattle.friction_spread.specs.Spots.{IsSpot, AreNear, weighed}
 
 -- ---- places by row and column
 

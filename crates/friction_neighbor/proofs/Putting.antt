@@ -11,11 +11,11 @@ use Rattle.tile_work.specs.PlaceSets.{PlaceSetState}
 use Rattle.tile_work.specs.Working.{copies}
 use Rattle.tile_work.proofs.Slots.{copies_set}
 use Rattle.least_costs.proofs.Queues.{contains_front, pushed_kept, pushed_there}
-use Rattle.friction_neighbor.specs.declared.fields.Spot.{Spot}
+use Rattle.friction_spread.specs.declared.ground.Spot.{Spot}
 use Rattle.friction_neighbor.specs.Fields.{FieldState, cost_at}
 use Rattle.friction_neighbor.specs.Mending.{Waits}
 use Rattle.friction_neighbor.specs.Puts.{is_marked, ArePut, IsMarkedFrom, RowMarked, RowMarkedTo, RoundMarkedTo}
-use Rattle.friction_neighbor.specs.Spots.{IsSpot}
+use Rattle.friction_spread.specs.Spots.{IsSpot}
 use Rattle.friction_neighbor.proofs.Places.{only_spot}
 
 module _ (f : FieldState) where

@@ -5,9 +5,9 @@ ghost use Rattle.map_nums.specs.Numbers.{greatest_value};
 ghost use Rattle.friction_spread.specs.Bands.{ground_of};
 ghost use Rattle.friction_neighbor.specs.Bands.{IsNearestBand};
 
-use crate::fields::{CostField, limit_of};
+use crate::fields::CostField;
 use crate::floods::values_of;
-use friction_spread::{CostBand, costs_of_band};
+use friction_spread::{CostBand, costs_of_band, limit_of};
 use layer_tiles::{Cell, Extent, NoMemory, Value};
 use std::alloc::Global;
 

@@ -1,15 +1,15 @@
 //! What values are passed on over: sources, frictions and least costs, in lists, by place.
-ghost use Rattle.std.specs.Prelude.{◌≡◌, ◌<◌, ◌≤◌, ◌≤ℤ◌, ◌+◌, ◌^◌, pos, nat_abs, length};
+ghost use Rattle.std.specs.Prelude.{◌≡◌, ◌<◌, ◌≤◌, ◌^◌, length};
 ghost use Rattle.map_nums.specs.Grids.{cells_in};
 ghost use Rattle.map_nums.specs.Numbers.{greatest_value};
-ghost use Rattle.map_defs.specs.Spread.{IsSpread, friction_at, friction_of};
+ghost use Rattle.map_defs.specs.Spread.{IsSpread, friction_at};
 ghost use Rattle.friction_spread.specs.Bands.{ground_of};
-ghost use Rattle.friction_spread.specs.Costs.{cost_of};
 ghost use Rattle.friction_spread.specs.Shown.{shown_cells};
 ghost use Rattle.friction_neighbor.specs.Fields.{IsField, cost_at, own_at, list_field};
-ghost use Rattle.friction_neighbor.specs.Spots.{IsSpot, weighed};
+ghost use Rattle.friction_spread.specs.Spots.{IsSpot};
 
-use layer_tiles::{Cell, Extent, Value};
+use friction_spread::{Spot, friction_of, spot_at_in, spot_in};
+use layer_tiles::{Cell, Extent};
 use std::marker::Model;
 
 /// The sources, frictions and least costs of a map, and the greatest cost that counts.
@@ -20,14 +20,6 @@ pub struct CostField<'a> {
     friction: &'a [Cell],
     costs: &'a [u64],
     limit: u64,
-}
-
-/// A place with its row and column.
-#[derive(Clone, Copy)]
-pub struct Spot {
-    pub at: u32,
-    pub row: u32,
-    pub column: u32,
 }
 
 /// A place with its cost and its friction.
@@ -136,79 +128,4 @@ impl<'a> CostField<'a> {
     {
         self.costs[at as usize].min(self.limit + 1)
     }
-}
-
-/// What a step between neighbours of two frictions costs.
-pub fn weigh(from: Spot, to: Spot, friction: u64, own: u64) -> u64
-    requires { (friction < 2 ^ 50) × (own < 2 ^ 50) }
-    ensures value { result ≡ weighed from to friction own }
-    ensures low { result < 2 ^ 54 }
-{
-    let both = friction + own;
-    if from.row == to.row || from.column == to.column {
-        5 * both
-    } else {
-        7 * both
-    }
-}
-
-/// A place of an extent with its row and column.
-pub fn spot_in(extent: Extent, at: u32) -> Spot
-    requires { at < cells_in extent }
-    ensures spot { IsSpot extent result }
-    ensures at { result.at ≡ at }
-{
-    Spot {
-        at,
-        row: extent.row_of(at),
-        column: extent.column_of(at),
-    }
-}
-
-/// The place of a row and a column of an extent.
-pub fn spot_at_in(extent: Extent, row: u32, column: u32) -> Spot
-    requires row { row < extent.rows }
-    requires column { column < extent.columns }
-    ensures spot { IsSpot extent result }
-    ensures row { result.row ≡ row }
-    ensures column { result.column ≡ column }
-{
-    Spot {
-        at: row * extent.columns() + column,
-        row,
-        column,
-    }
-}
-
-/// The friction of a cell, 0 for a barrier.
-pub fn friction_of(cell: Cell) -> u64
-    ensures value { result ≡ friction_of cell }
-    ensures low { result < 2 ^ 50 }
-{
-    match cell.get() {
-        Some(value) if value > 0 => value as u64,
-        _ => 0,
-    }
-}
-
-/// The number of a cell; `top` where it is null.
-pub fn cost_of(cell: Cell, top: u64) -> u64
-    requires { top ≤ 2 ^ 50 }
-    ensures value { result ≡ cost_of top cell }
-    ensures low { result ≤ 2 ^ 50 }
-{
-    match cell.get() {
-        Some(value) if value >= 0 => value as u64,
-        Some(_) => 0,
-        None => top,
-    }
-}
-
-/// A limit as a number of costs.
-pub fn limit_of(limit: Value) -> u64
-    requires { (pos 0 ≤ℤ limit) × (limit ≤ℤ pos greatest_value) }
-    ensures value { result ≡ nat_abs limit }
-    ensures low { result ≤ greatest_value }
-{
-    limit as u64
 }

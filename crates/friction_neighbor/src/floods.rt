@@ -3,12 +3,14 @@ ghost use Rattle.std.specs.Prelude.{◌≡◌, ◌<◌, ◌≤◌, ◌∷◌, �
 ghost use Rattle.map_nums.specs.Grids.{cells_in, cell_at, gap};
 ghost use Rattle.map_defs.specs.Nearest.{IsNoGreater};
 ghost use Rattle.friction_neighbor.specs.Fields.{AreLeastValues};
-ghost use Rattle.friction_neighbor.specs.Spots.{IsSpot, AreNear, IsFront};
+ghost use Rattle.friction_spread.specs.Spots.{IsSpot, AreNear};
+ghost use Rattle.friction_neighbor.specs.Spots.{IsFront};
 ghost use Rattle.friction_neighbor.specs.Seeds.{IsSeed, AreSeeds};
 ghost use Rattle.friction_neighbor.specs.Floods.{IsFlooding, MayGrow, IsTold, RowTold, left_to_do};
 
-use crate::fields::{CostField, Front, Spot, weigh};
+use crate::fields::{CostField, Front};
 use crate::seeds::{Seed, seeds_of};
+use friction_spread::{Spot, weigh};
 use layer_tiles::{Cell, NoMemory};
 use std::alloc::Global;
 

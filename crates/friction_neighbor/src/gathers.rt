@@ -2,11 +2,13 @@
 ghost use Rattle.std.specs.Prelude.{◌≡◌, ◌<◌, ◌≤◌, ◌*◌};
 ghost use Rattle.map_nums.specs.Grids.{gap};
 ghost use Rattle.layer_tiles.specs.Tallies.{RisesBy};
-ghost use Rattle.friction_neighbor.specs.Spots.{IsSpot, AreNear, IsFront};
+ghost use Rattle.friction_spread.specs.Spots.{IsSpot, AreNear};
+ghost use Rattle.friction_neighbor.specs.Spots.{IsFront};
 ghost use Rattle.friction_neighbor.specs.Gathers.{IsLeastHere, IsLesser, IsGathered, IsBrought, RowBrought};
 
-use crate::fields::{Front, Spot, weigh};
+use crate::fields::Front;
 use crate::views::FieldView;
+use friction_spread::{Spot, weigh};
 use layer_tiles::{Cell, Tally};
 use tile_work::Working;
 

@@ -13,11 +13,11 @@ ghost use Rattle.friction_neighbor.specs.Puts.{ArePut};
 ghost use Rattle.friction_neighbor.specs.Repairs.{AreWanted};
 
 use crate::bands::NearestBand;
-use crate::fields::{CostField, limit_of};
+use crate::fields::CostField;
 use crate::list_puts::{put_line, put_round};
 use crate::list_settle::settle;
 use crate::lists::NearestList;
-use friction_spread::{CostBand, spread_of_bands};
+use friction_spread::{CostBand, limit_of, spread_of_bands};
 use layer_tiles::{Cell, Extent, NoMemory, Value};
 use least_costs::Queue;
 use std::alloc::Global;

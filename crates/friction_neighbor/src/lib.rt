@@ -6,6 +6,9 @@
 //!
 //! Where there were values, the places near changed operands and near new costs stand in a queue (`least_costs`), and are given their
 //! least values in the order of the costs, from those of lesser cost that are right by then.
+//!
+//! First values may also be made in parts: `nearest_of_band` finds the costs and numbers within a band of rows, and `nearest_of_bands` those of
+//! the map from the bands', in a list whose tiles can be made one by one.
 #![tactic(auto)]
 
 mod bands;
@@ -14,6 +17,7 @@ mod first;
 mod floods;
 mod gathers;
 mod joins;
+mod laws;
 mod list_gathers;
 mod list_puts;
 mod list_settle;
@@ -29,5 +33,6 @@ mod views;
 
 pub use bands::{NearestBand, nearest_of_band};
 pub use joins::nearest_of_bands;
+pub use laws::nearest_law;
 pub use lists::NearestList;
 pub use repair::{Nearest, NearestRepair, neighbor_repair};

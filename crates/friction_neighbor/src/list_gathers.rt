@@ -1,11 +1,13 @@
 //! The least value that steps of least costs bring to a place, where costs and values are in lists.
 ghost use Rattle.std.specs.Prelude.{◌≡◌, ◌<◌, ◌≤◌, length};
 ghost use Rattle.map_nums.specs.Grids.{cells_in, gap};
-ghost use Rattle.friction_neighbor.specs.Spots.{IsSpot, AreNear, IsFront};
+ghost use Rattle.friction_spread.specs.Spots.{IsSpot, AreNear};
+ghost use Rattle.friction_neighbor.specs.Spots.{IsFront};
 ghost use Rattle.friction_neighbor.specs.Gathers.{IsLeastHere, IsGathered, IsBrought, RowBrought};
 
-use crate::fields::{CostField, Front, Spot, weigh};
+use crate::fields::{CostField, Front};
 use crate::gathers::lesser;
+use friction_spread::{Spot, weigh};
 use layer_tiles::Cell;
 
 /// The lesser of `best` and the value of a place near, if a step leads from there.

@@ -1,10 +1,11 @@
 //! Places come into the queue under their costs, each once, where costs are in a list.
 ghost use Rattle.std.specs.Prelude.{◌≡◌, ◌<◌, ℕ, true, OnOk};
 ghost use Rattle.map_nums.specs.Grids.{cells_in, row_of};
-ghost use Rattle.friction_neighbor.specs.Spots.{IsSpot};
+ghost use Rattle.friction_spread.specs.Spots.{IsSpot};
 ghost use Rattle.friction_neighbor.specs.Puts.{is_marked, ArePut, IsMarkedFrom, RowMarked, RoundMarked};
 
-use crate::fields::{CostField, Spot};
+use crate::fields::CostField;
+use friction_spread::Spot;
 use layer_tiles::NoMemory;
 use least_costs::Queue;
 use tile_work::PlaceSet;

@@ -3,11 +3,11 @@ ghost use Rattle.std.specs.Prelude.{◌≡◌, ◌<◌, ◌≤◌, ◌+◌, ◌*
 ghost use Rattle.std.specs.List.{All};
 ghost use Rattle.map_nums.specs.Grids.{cells_in};
 ghost use Rattle.layer_tiles.specs.Tallies.{RisesBy};
-ghost use Rattle.friction_neighbor.specs.Spots.{IsSpot};
+ghost use Rattle.friction_spread.specs.Spots.{IsSpot};
 ghost use Rattle.friction_neighbor.specs.Puts.{ArePut, IsMarkedFrom, RowMarked, RoundMarked};
 
-use crate::fields::Spot;
 use crate::views::FieldView;
+use friction_spread::Spot;
 use layer_tiles::{NoMemory, Tally};
 use least_costs::Queue;
 use tile_work::PlaceSet;

@@ -10,10 +10,9 @@ ghost use Rattle.tile_work.specs.Working.{before_of, base_of};
 ghost use Rattle.friction_spread.specs.Repairs.{HoldsExactly, IsPatchFor};
 ghost use Rattle.friction_neighbor.specs.Results.{costs_of, values_of, AreRightBefore, AreOldFor, befores, afters, NearestReadsWithin};
 
-use crate::fields::limit_of;
 use crate::first::first_nearest;
 use crate::values::repair_values;
-use friction_spread::spread_repair;
+use friction_spread::{limit_of, spread_repair};
 use layer_tiles::{Change, Layer, NoMemory, Patch, Tally, Value};
 use std::alloc::Global;
 

@@ -6,10 +6,12 @@ ghost use Rattle.map_defs.specs.Differences.{differs};
 ghost use Rattle.map_defs.specs.Spread.{IsSpread, friction_at};
 ghost use Rattle.layer_tiles.specs.Tallies.{RisesBy};
 ghost use Rattle.friction_neighbor.specs.Fields.{IsField, cost_at, own_at};
-ghost use Rattle.friction_neighbor.specs.Spots.{IsSpot, IsFront};
+ghost use Rattle.friction_spread.specs.Spots.{IsSpot};
+ghost use Rattle.friction_neighbor.specs.Spots.{IsFront};
 ghost use Rattle.friction_neighbor.specs.Views.{ViewState, view_of};
 
-use crate::fields::{Front, Spot, cost_of, friction_of, spot_at_in, spot_in};
+use crate::fields::Front;
+use friction_spread::{Spot, cost_of, friction_of, spot_at_in, spot_in};
 use layer_tiles::{Cell, Change, Extent, Tally};
 use std::marker::Model;
 

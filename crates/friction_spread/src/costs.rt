@@ -13,7 +13,7 @@ use layer_tiles::{Cell, NoMemory, Tally, Value};
 use tile_work::Working;
 
 /// The number of a cell; `top` where it is null.
-fn cost_of(cell: Cell, top: u64) -> u64
+pub fn cost_of(cell: Cell, top: u64) -> u64
     requires { top ≤ 2 ^ 50 }
     ensures value { result ≡ cost_of top cell }
     ensures low { result ≤ 2 ^ 50 }

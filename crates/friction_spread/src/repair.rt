@@ -118,7 +118,12 @@ fn repair_layer<M: Tally>(
 }
 
 /// The least costs of spreading: all of them where there were none, else those that were right before put right. The limit is the
-/// greatest cost that counts, and no more than a cell holds.
+/// greatest cost that counts, and no more than a cell holds. Where the operands' patches hold no unchanged tile, at most 7 looks for
+/// each damaged tile and 628 picks for each unit of work.
+///
+/// # Errors
+///
+/// `NoMemory` alone.
 pub fn spread_repair<M: Tally>(
     alloc: Global,
     base: Option<&Layer>,

@@ -21,6 +21,10 @@ use std::alloc::Global;
 
 impl KeptMap {
     /// A map of the same state, which is edited on its own.
+    ///
+    /// # Errors
+    ///
+    /// `NoMemory` alone.
     pub fn copy(&self, alloc: Global) -> Result<KeptMap, NoMemory>
         requires { IsKept self.now }
         ensures seen { IfOk result (λ m. seen m ≡ seen self.now) }

@@ -83,8 +83,8 @@ pub fn prepare_kept<M: Tally + Send, G: Gate + Sync, R: Threads + Sync>(
     repaired(crew, map, shift, &map.planned, tally)
 }
 
-/// Plans the statements of a map after an edit, repairs them, and takes room for what is made. `written` are the flat statements that the edit wrote, `added` is
-/// the name of a source that it adds.
+/// Plans the statements of a map after an edit, repairs them, and takes room for what is made. `written` are the flat statements that the
+/// edit wrote, `added` is the name of a source that it adds.
 ///
 /// # Errors
 ///

@@ -17,6 +17,10 @@ pub struct Room {
 
 impl Room {
     /// Room for so many statements before, and after.
+    ///
+    /// # Errors
+    ///
+    /// `NoMemory` alone.
     pub fn of(alloc: Global, old: usize, new: usize) -> Result<Room, NoMemory>
         ensures { IfOk result (HasRoom old new) }
     {

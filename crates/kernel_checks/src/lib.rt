@@ -1,6 +1,7 @@
 //! Tests of the public calls of layers and kernels, with values from other programs.
 //!
-//! Each module has one subject. The crates that read and answer lines are tested in `map_checks`.
+//! Each module has one subject. Tests of lines stand in `line_checks`, of the engine in `engine_checks`, of sessions and whole runs in
+//! `map_checks`.
 #![tactic(auto)]
 
 #[cfg(test)]

@@ -135,6 +135,10 @@ impl Engine {
     }
 
     /// An engine of the same state, which is edited on its own. Nothing is lent, and nothing is counted as read.
+    ///
+    /// # Errors
+    ///
+    /// `NoMemory` alone.
     pub fn copy(&self, alloc: Global) -> Result<Engine, NoMemory>
         ensures { IfOk result (λ engine. engine ≡ self.now) }
     {
@@ -142,7 +146,11 @@ impl Engine {
         Ok(Engine { map })
     }
 
-    /// Makes an edit by so many workers, 1 to 64, and answers its number and its counts; or refuses it and changes nothing.
+    /// Makes an edit by so many workers, 1 to 64, and answers its number and its counts.
+    ///
+    /// # Errors
+    ///
+    /// The first cause against the edit, or `NoMemory`. Then all is as before.
     pub fn edit<M: Tally + Send, G: Gate + Sync, R: Threads + Sync>(
         &mut self,
         rt: &R,
@@ -163,7 +171,7 @@ impl Engine {
         self.edit_by(&crew, cmd, tally)
     }
 
-    /// Makes an edit by the workers at hand, as [`Engine::edit`] does.
+    /// Makes an edit by the workers at hand, as [`Engine::edit`] does, with its errors.
     pub fn edit_by<M: Tally + Send, G: Gate + Sync, R: Threads + Sync>(
         &mut self,
         crew: &Crew<'_, R, G>,
@@ -181,7 +189,7 @@ impl Engine {
         }
     }
 
-    /// Makes an edit as [`Engine::edit_by`] does, and answers what takes it back as well.
+    /// Makes an edit as [`Engine::edit_by`] does, with its errors, and answers what takes it back as well.
     pub fn edit_kept<M: Tally + Send, G: Gate + Sync, R: Threads + Sync>(
         &mut self,
         crew: &Crew<'_, R, G>,
@@ -221,6 +229,7 @@ impl Engine {
         self.map.number
     }
 
+    /// The rows and columns of the map.
     pub fn extent(&self) -> Extent
         ensures { result ≡ self.now.names.size }
     {
@@ -253,12 +262,14 @@ impl Engine {
         self.map.procedures.get(place)
     }
 
+    /// The labels of all layers.
     pub fn labels(&self) -> &Marks
         ensures { result.now ≡ self.now.labels }
     {
         &self.map.labels
     }
 
+    /// The symbols of all layers; the text of each is one byte.
     pub fn symbols(&self) -> &Marks
         ensures { result.now ≡ self.now.symbols }
     {

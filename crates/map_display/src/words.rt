@@ -9,8 +9,12 @@ use map_nums::NoMemory;
 use map_words::Name;
 use std::alloc::Global;
 
-/// A display's word and a name.
-pub(crate) fn named(alloc: Global, word: &[u8], name: &Name) -> Result<Vec<u8>, NoMemory>
+/// A word and a name, with nothing between them.
+///
+/// # Errors
+///
+/// `NoMemory` alone.
+pub fn named(alloc: Global, word: &[u8], name: &Name) -> Result<Vec<u8>, NoMemory>
     ensures { IfOk result (λ text. text.items ≡ word.now ++ name.now) }
 {
     let mut text = Vec::from_slice(alloc, word)?;
@@ -18,7 +22,12 @@ pub(crate) fn named(alloc: Global, word: &[u8], name: &Name) -> Result<Vec<u8>, 
     Ok(text)
 }
 
-pub(crate) fn put_number(text: &mut Vec<u8>, number: u64) -> Result<(), NoMemory>
+/// Writes a number behind a text, which may be left in part where memory is wanted.
+///
+/// # Errors
+///
+/// `NoMemory` alone.
+pub fn put_number(text: &mut Vec<u8>, number: u64) -> Result<(), NoMemory>
     ensures { OnOk result (text.new.items ≡ text.old.items ++ decimal number) }
 {
     text.extend_from_slice(Buffer::new().format(number).as_bytes())?;

@@ -1,7 +1,7 @@
 //! The map machine: what the program means, as definitions.
 //!
-//! The machine keeps sources, statements, procedures, labels, symbols and stamps, and evaluates every statement on whole
-//! grids at each reply. `specs/` has it, from the lines of a session's bytes (`Lines`) to the text of a whole run (`Play`)
+//! The machine keeps sources, statements, procedures, labels, symbols, stamps, the number of edits, the language of the next line,
+//! and the parts of up to 64 earlier states, and evaluates every statement on whole grids at each reply. `specs/` has it, from the lines of a session's bytes (`Lines`) to the text of a whole run (`Play`)
 //! and what a run may read (`RunReads`). The engine and the top call are proved against it; nothing here runs.
 #![tactic(auto)]
 

@@ -1,23 +1,16 @@
 //! The texts of what refuses a line, an edit or a load.
-ghost use Rattle.std.specs.Prelude.{◌≡◌, ◌++◌, decimal, Some, IfOk, OnOk};
+ghost use Rattle.std.specs.Prelude.{◌≡◌, Some, IfOk};
 ghost use Rattle.map_machine.specs.Causes.{counted, counted_twice, which_text};
 ghost use Rattle.live_engine.specs.Accepts.{which_of};
 ghost use Rattle.map_session.specs.Causes.{line_told, edit_told, grid_told};
 
 use grid_text::GridRefusal;
-use itoa::Buffer;
 use live_engine::{Refusal, Which};
+use map_display::{named, put_number};
 use map_nums::NoMemory;
 use map_words::Name;
 use statement_parser::LineRefusal;
 use std::alloc::Global;
-
-pub(crate) fn put_number(text: &mut Vec<u8>, number: u64) -> Result<(), NoMemory>
-    ensures { OnOk result (text.new.items ≡ text.old.items ++ decimal number) }
-{
-    text.extend_from_slice(Buffer::new().format(number).as_bytes())?;
-    Ok(())
-}
 
 /// A word and a number.
 pub(crate) fn counted(alloc: Global, word: &[u8], number: u64) -> Result<Vec<u8>, NoMemory>
@@ -36,15 +29,6 @@ fn counted_twice(alloc: Global, word: &[u8], first: u64, second: u64) -> Result<
     let mut text = counted(alloc, word, first)?;
     text.push(b' ')?;
     put_number(&mut text, second)?;
-    Ok(text)
-}
-
-/// A word, which ends in its blank, and a name.
-fn named(alloc: Global, word: &[u8], name: &Name) -> Result<Vec<u8>, NoMemory>
-    ensures { IfOk result (λ text. text.items ≡ word.now ++ name.now) }
-{
-    let mut text = Vec::from_slice(alloc, word)?;
-    text.extend_from_slice(name.bytes())?;
     Ok(text)
 }
 

@@ -24,6 +24,10 @@ use undo_shelf::History;
 
 impl Session {
     /// Loads the first grid, whose extent and header texts the session keeps. Its name is plain.
+    ///
+    /// # Errors
+    ///
+    /// `NoMemory` alone.
     pub fn begin<M: Tally + Send, G: Gate + Sync, R: Threads + Sync>(
         rt: &R,
         alloc: Global,
@@ -78,6 +82,10 @@ impl Session {
     }
 
     /// Loads a further grid. Its name is plain.
+    ///
+    /// # Errors
+    ///
+    /// `NoMemory` alone, and then the session is as before.
     pub fn load<M: Tally + Send, G: Gate + Sync, R: Threads + Sync>(
         &mut self,
         rt: &R,
@@ -106,6 +114,10 @@ impl Session {
     }
 
     /// Loads a layer that was made in memory. Its name is plain.
+    ///
+    /// # Errors
+    ///
+    /// `NoMemory` alone, and then the session is as before.
     pub fn load_layer<M: Tally + Send, G: Gate + Sync, R: Threads + Sync>(
         &mut self,
         crew: &Crew<'_, R, G>,

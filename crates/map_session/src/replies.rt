@@ -2,7 +2,7 @@
 ghost use Rattle.std.specs.Prelude.{[], IfOk};
 ghost use Rattle.map_machine.specs.Replies.{refused_reply, load_refused_reply, undefined_reply, value_reply};
 
-use crate::causes::put_number;
+use map_display::put_number;
 use map_machine::Kind;
 use map_nums::NoMemory;
 use map_words::Name;

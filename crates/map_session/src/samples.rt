@@ -13,6 +13,10 @@ use undo_shelf::History;
 
 impl Session {
     /// A session over a map without names, for the sample of so many rows and columns.
+    ///
+    /// # Errors
+    ///
+    /// `NoMemory` alone.
     pub fn sample(alloc: Global, side: u32) -> Result<Session, NoMemory>
         requires some { 1 ≤ side }
         requires most { side ≤ 1224 }

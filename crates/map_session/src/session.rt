@@ -80,6 +80,10 @@ impl Session {
     }
 
     /// Answers a line without its line end, of any length.
+    ///
+    /// # Errors
+    ///
+    /// `NoMemory` alone, and then the session is as before.
     pub fn step<M: Tally + Send, G: Gate + Sync, R: Threads + Sync>(
         &mut self,
         rt: &R,

@@ -161,7 +161,12 @@ fn repaired_labels<M: Tally>(
     Ok(Repair { patch, worked })
 }
 
-/// The labels of a map's regions: all of them where there were none, else those that were right before put right.
+/// The labels of a map's regions: all of them where there were none, else those that were right before put right. At most 11 picks for
+/// each unit of work and, where the operand's patch holds no unchanged tile, 5 looks for each damaged tile.
+///
+/// # Errors
+///
+/// `NoMemory` alone.
 pub fn label_repair<M: Tally>(
     alloc: Global,
     base: Option<&Layer>,

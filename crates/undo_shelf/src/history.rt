@@ -47,6 +47,10 @@ pub enum UndoRefusal {
 
 impl History {
     /// No edits, and room for 64.
+    ///
+    /// # Errors
+    ///
+    /// `NoMemory` alone.
     pub fn new(alloc: Global) -> Result<History, NoMemory>
         ensures { IfOk result (λ history. history ≡ []) }
     {
@@ -76,8 +80,11 @@ impl History {
         self.inverses.push_front(inverse);
     }
 
-    /// Makes an edit by the workers at hand, and keeps what takes it back. Where 64 are kept the oldest is let go. A refused edit changes
-    /// nothing.
+    /// Makes an edit by the workers at hand, and keeps what takes it back. Where 64 are kept the oldest is let go.
+    ///
+    /// # Errors
+    ///
+    /// The first cause against the edit, or `NoMemory`. Then all is as before.
     pub fn apply<M: Tally + Send, G: Gate + Sync, R: Threads + Sync>(
         &mut self,
         engine: &mut Engine,
