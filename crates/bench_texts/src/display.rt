@@ -151,15 +151,20 @@ fn sum(text: &[u8]) -> u64 {
 }
 
 // How many bytes the rounds print, and the sum of those of the last one.
+fn counts(alloc: Global, scene: &Scene, task: Task) -> Result<(u64, u64), NoMemory> {
+    let (mut bytes, mut last): (u64, u64) = (0, 0);
+    for _ in 0..task.count {
+        let text = printed(alloc, scene, task.work)?;
+        bytes = bytes.wrapping_add(text.len() as u64);
+        last = sum(&text);
+    }
+    Ok((bytes, last))
+}
+
+// What is told of the rounds.
 fn rounds(alloc: Global, task: Task) -> Result<String, NoMemory> {
     let scene = make_scene(alloc, task.values)?;
-    let mut bytes: u64 = 0;
-    let mut last = Vec::new(alloc);
-    for _ in 0..task.count {
-        last = printed(alloc, &scene, task.work)?;
-        bytes = bytes.wrapping_add(last.len() as u64);
-    }
-    let sum = sum(&last);
+    let (bytes, sum) = counts(alloc, &scene, task)?;
     Ok(format!(in alloc; "{bytes} {sum}")?)
 }
 

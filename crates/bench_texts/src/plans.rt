@@ -4,7 +4,7 @@
 //! it reads the eight names before it. What is printed is the sum of the depths of all steps over all rounds.
 //! `bench/plan` tells the time of a round from two such runs.
 
-ghost use Rattle.std.specs.Prelude.{◌≡◌, ◌≤◌, length, IfSome};
+ghost use Rattle.std.specs.Prelude.{◌≡◌, ◌+◌, ◌<◌, ◌≤◌, length, IfSome};
 ghost use Rattle.statement_graph.specs.Groups.{nodes_in};
 ghost use Rattle.bench_texts.specs.Scenes.{IsFine};
 
@@ -41,19 +41,30 @@ fn reads_of(alloc: Global, shape: Shape, number: u32) -> Option<Vec<Name>>
     Some(names)
 }
 
-// The source and all statements.
-fn drawn(alloc: Global, shape: Shape) -> Option<Scene>
-    ensures fine { IfSome result (λ s. IsFine s.graph s.sources.keys s.ops.entries) }
-    ensures few { IfSome result (λ s. length (nodes_in s.graph) ≤ 65) }
+// The statement of a number.
+fn add(scene: &mut Scene, alloc: Global, shape: Shape, number: u32) -> Option<()>
+    requires fine { IsFine scene.old.graph scene.old.sources.keys scene.old.ops.entries }
+    requires room { length (nodes_in scene.old.graph) < 1000 }
+    ensures fine { IfSome result (λ _. IsFine scene.new.graph scene.new.sources.keys scene.new.ops.entries) }
+    ensures one { IfSome result (λ _. length (nodes_in scene.new.graph) ≡ length (nodes_in scene.old.graph) + 1) }
 {
-    let mut scene = Scene::new(alloc);
+    let name = name_of(alloc, number)?;
+    let reads = reads_of(alloc, shape, number)?;
+    scene.define(alloc, &name, reads)
+}
+
+// The source and all statements.
+fn draw(scene: &mut Scene, alloc: Global, shape: Shape) -> Option<()>
+    requires fine { IsFine scene.old.graph scene.old.sources.keys scene.old.ops.entries }
+    requires none { length (nodes_in scene.old.graph) ≡ 0 }
+    ensures fine { IfSome result (λ _. IsFine scene.new.graph scene.new.sources.keys scene.new.ops.entries) }
+    ensures few { IfSome result (λ _. length (nodes_in scene.new.graph) ≤ 65) }
+{
     scene.load(alloc, &name_of(alloc, 0)?)?;
     for number in 1..STATEMENTS + 1 {
-        let name = name_of(alloc, number)?;
-        let reads = reads_of(alloc, shape, number)?;
-        scene.define(alloc, &name, reads)?;
+        add(scene, alloc, shape, number)?;
     }
-    Some(scene)
+    Some(())
 }
 
 // The sum of the depths of all steps.
@@ -66,12 +77,14 @@ fn depths(planned: &Planned) -> u64 {
 }
 
 // So many rounds, and the sum of what they give.
-fn rounds(alloc: Global, shape: Shape, count: u32) -> Option<u64> {
-    let scene = drawn(alloc, shape)?;
+fn rounds(scene: &mut Scene, alloc: Global, shape: Shape, count: u32) -> Option<u64>
+    requires fine { IsFine scene.old.graph scene.old.sources.keys scene.old.ops.entries }
+    requires none { length (nodes_in scene.old.graph) ≡ 0 }
+{
+    draw(scene, alloc, shape)?;
     let mut total: u64 = 0;
     for _round in 0..count {
-        let planned = scene.plan(alloc)?;
-        total = total.wrapping_add(depths(&planned));
+        total = total.wrapping_add(depths(&scene.plan(alloc)?));
     }
     Some(total)
 }
@@ -82,5 +95,5 @@ pub fn measure(alloc: Global, words: &[&str]) -> Option<u64> {
         "row" => Shape::Row,
         _ => Shape::Chain,
     };
-    rounds(alloc, shape, number_at(words, 0))
+    rounds(&mut Scene::new(alloc), alloc, shape, number_at(words, 0))
 }

@@ -5,7 +5,7 @@ ghost use Rattle.map_defs.specs.Ops.{layer_term};
 ghost use Rattle.statement_graph.specs.Groups.{nodes_in};
 ghost use Rattle.statement_graph.specs.Puts.{flat_nodes};
 ghost use Rattle.statement_parser.specs.Views.{op_view};
-ghost use Rattle.bench_texts.specs.Scenes.{IsFine};
+ghost use Rattle.bench_texts.specs.Scenes.{IsFine, HasSum};
 
 use edit_plans::{Flat, FlatStatements, Planned, SourceNames, make_plan};
 use indexmap::{IndexMap, IndexSet};
@@ -56,6 +56,16 @@ fn sum_of(alloc: Global, names: &[Name]) -> Option<Op>
         terms,
         ignoring: false,
     })
+}
+
+// Writes the sum of some layers under a name.
+fn put_sum(ops: &mut IndexMap<Name, Op>, alloc: Global, name: &Name, reads: &[Name]) -> Option<()>
+    ensures { IfSome result (λ _. HasSum ops.old.entries ops.new.entries name.now reads.now) }
+{
+    let own = copy_of(alloc, name)?;
+    let op = sum_of(alloc, reads)?;
+    ops.insert(own, op).ok()?;
+    Some(())
 }
 
 // The flat statement that reads these.
@@ -112,13 +122,9 @@ impl Scene {
         if self.graph.depth(name).is_some() {
             return None;
         }
-        let op = sum_of(alloc, reads.as_slice())?;
+        put_sum(&mut self.ops, alloc, name, reads.as_slice())?;
         let nodes = nodes_of(alloc, name, reads)?;
         let Ok(()) = self.graph.put(alloc, name, nodes) else {
-            return None;
-        };
-        let own = copy_of(alloc, name)?;
-        let Ok(_) = self.ops.insert(own, op) else {
             return None;
         };
         self.kept.insert(copy_of(alloc, name)?).ok()?;

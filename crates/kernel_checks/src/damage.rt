@@ -7,6 +7,7 @@ use damage_sets::{Class, TileSet, damaged};
 use layer_tiles::{Change, Extent, Layer, NoMemory, Operands, Patch};
 use map_outside::Counts;
 use std::alloc::Global;
+use std::process::Abort;
 use std::test::Fail;
 
 /// Of each tile, whether a set has it.
@@ -18,29 +19,30 @@ fn marks_of(alloc: Global, set: &TileSet) -> Result<Vec<bool>, NoMemory> {
     Ok(marks)
 }
 
+/// A set has these of four tiles.
+fn has(rt: &(impl AllocGlobal + Abort), set: &TileSet, want: [bool; 4]) -> Result<(), Fail> {
+    let marks = marks_of(rt.alloc(), set)?;
+    assert_eq!(rt; marks.as_slice(), want.as_slice());
+    Ok(())
+}
+
 #[test]
 fn sets_of_tiles(rt: HostRuntime) -> Result<(), Fail> {
     let extent = Extent::new(33, 33).ok_or("limits")?;
     assert!(rt; 3 < extent.tiles());
     let mut set = TileSet::new(rt.alloc(), extent)?;
-    assert_eq!(rt;
-        marks_of(rt.alloc(), &set)?.as_slice(),
-        [false; 4].as_slice()
-    );
+    has(&rt, &set, [false; 4])?;
     set.add(2);
     set.add(2);
     assert_eq!(rt; set.count(), 1);
-    assert_eq!(rt;
-        marks_of(rt.alloc(), &set)?.as_slice(),
-        [false, false, true, false].as_slice()
-    );
-    let all = TileSet::all(rt.alloc(), extent)?;
+    has(&rt, &set, [false, false, true, false])
+}
+
+#[test]
+fn the_set_of_all_tiles(rt: HostRuntime) -> Result<(), Fail> {
+    let all = TileSet::all(rt.alloc(), Extent::new(33, 33).ok_or("limits")?)?;
     assert_eq!(rt; all.count(), 4);
-    assert_eq!(rt;
-        marks_of(rt.alloc(), &all)?.as_slice(),
-        [true; 4].as_slice()
-    );
-    Ok(())
+    has(&rt, &all, [true; 4])
 }
 
 /// The tiles that the changed cells of one operand reach.

@@ -4,6 +4,7 @@ use incremental_ops::{Shape, shape_tile};
 use layer_tiles::{Change, Extent, KernelRefusal, Layer, Value};
 use map_outside::Counts;
 use std::alloc::Global;
+use std::process::Abort;
 use std::test::Fail;
 
 /// The values of the first tile of a form, or the cell whose value is out of range. There is no tile where memory is out.
@@ -46,22 +47,30 @@ fn one_cell(rt: HostRuntime) -> Result<(), Fail> {
     Ok(())
 }
 
+/// The middle one of nine cells has these forms.
+fn has_forms(
+    rt: &(impl AllocGlobal + Abort),
+    cells: &[Value],
+    wants: &[(Shape, Value)],
+) -> Result<(), Fail> {
+    let layer = layer_of(rt.alloc(), Extent::new(3, 3).ok_or("limits")?, cells)?;
+    for (shape, want) in wants {
+        assert_eq!(rt; value_at(rt.alloc(), *shape, &layer, 4), Some(*want));
+    }
+    Ok(())
+}
+
 #[test]
 fn the_middle_cell(rt: HostRuntime) -> Result<(), Fail> {
-    let extent = Extent::new(3, 3).ok_or("limits")?;
-    let slope = layer_of(rt.alloc(), extent, &[1, 2, 3, 4, 5, 6, 7, 8, 9])?;
-    assert_eq!(&rt; value_at(rt.alloc(), Shape::Gradient, &slope, 4), Some(25));
-    assert_eq!(&rt; value_at(rt.alloc(), Shape::Aspect, &slope, 4), Some(1));
-    let cover = layer_of(rt.alloc(), extent, &[1, 1, 2, 2, 1, 2, 2, 2, 1])?;
-    for (shape, want) in [
+    let slopes = [(Shape::Gradient, 25), (Shape::Aspect, 1)];
+    has_forms(&rt, &[1, 2, 3, 4, 5, 6, 7, 8, 9], &slopes)?;
+    let sides = [
         (Shape::Linkage, 137),
         (Shape::Length, 19),
         (Shape::Partition, 14),
         (Shape::Frontage, 30),
-    ] {
-        assert_eq!(&rt; value_at(rt.alloc(), shape, &cover, 4), Some(want));
-    }
-    Ok(())
+    ];
+    has_forms(&rt, &[1, 1, 2, 2, 1, 2, 2, 2, 1], &sides)
 }
 
 /// A map of four rows and five columns, with one null.

@@ -101,14 +101,14 @@ fn patch_of(
     Ok(patch)
 }
 
-#[test]
-fn a_change_shows_both_states(rt: HostRuntime) -> Result<(), Fail> {
-    let extent = Extent::new(33, 33).ok_or("limits")?;
+/// A change of tiles 1 and 3 shows what was and what is.
+fn shows_both(rt: &impl Abort, layer: &Layer, patch: &Patch)
+    requires { patch.now.size ≡ layer.now.size }
+{
+    let extent = layer.extent();
     assert!(rt; 3 < extent.tiles());
     assert!(rt; 1088 < extent.cells());
-    let layer = Layer::constant(rt.alloc(), extent, cell(5), 1)?;
-    let patch = patch_of(rt.alloc(), extent, 1, 5, 3, 7)?;
-    let change = Change::patched(&layer, &patch);
+    let change = Change::patched(layer, patch);
     let here = [
         patch.has(0),
         patch.has(1),
@@ -127,6 +127,15 @@ fn a_change_shows_both_states(rt: HostRuntime) -> Result<(), Fail> {
     ];
     assert_eq!(rt; seen, [Some(7), Some(5), Some(7), Some(5), Some(7)]);
     assert_eq!(rt; (tally.looks(), tally.picks()), (6, 2));
+}
+
+#[test]
+fn a_change_shows_both_states(rt: HostRuntime) -> Result<(), Fail> {
+    let extent = Extent::new(33, 33).ok_or("limits")?;
+    assert!(rt; 3 < extent.tiles());
+    let layer = Layer::constant(rt.alloc(), extent, cell(5), 1)?;
+    let patch = patch_of(rt.alloc(), extent, 1, 5, 3, 7)?;
+    shows_both(&rt, &layer, &patch);
     Ok(())
 }
 
@@ -134,6 +143,17 @@ fn a_change_shows_both_states(rt: HostRuntime) -> Result<(), Fail> {
 fn has_stamps(rt: &(impl AllocGlobal + Abort), layer: &Layer, want: &[u64]) -> Result<(), Fail> {
     let stamps = stamps_of(rt.alloc(), layer)?;
     assert_eq!(rt; stamps.as_slice(), want);
+    Ok(())
+}
+
+/// The cells of a layer are these.
+fn has_values(
+    rt: &(impl AllocGlobal + Abort),
+    layer: &Layer,
+    want: &[Option<Value>],
+) -> Result<(), Fail> {
+    let values = values_of(rt.alloc(), layer)?;
+    assert_eq!(rt; values.as_slice(), want);
     Ok(())
 }
 
@@ -166,18 +186,13 @@ fn fresh_layers(rt: HostRuntime) -> Result<(), Fail> {
     tile.set(0, 1, cell(4));
     let mut patch = Patch::new(rt.alloc(), extent);
     patch.push(0, tile)?;
-    let mut tally = Counts::new();
     assert_eq!(rt;
-        first_of(&Change::fresh(&patch).view(0, &mut tally)),
+        first_of(&Change::fresh(&patch).view(0, &mut Counts::new())),
         Some(3)
     );
     let layer = Layer::fresh(patch, 6);
-    assert_eq!(rt;
-        values_of(rt.alloc(), &layer)?.as_slice(),
-        [Some(3), Some(4)].as_slice()
-    );
-    assert_eq!(rt; stamps_of(rt.alloc(), &layer)?.as_slice(), [6].as_slice());
-    Ok(())
+    has_values(&rt, &layer, &[Some(3), Some(4)])?;
+    has_stamps(&rt, &layer, &[6])
 }
 
 #[test]
@@ -198,21 +213,23 @@ fn operands_are_kept_in_order(rt: HostRuntime) -> Result<(), Fail> {
     Ok(())
 }
 
+/// A layer that took over a list of 33 cells, of which the last differs.
+fn taken_over(alloc: Global, extent: Extent) -> Result<Layer, Fail> {
+    if extent.cells() != 33 {
+        return Err(Fail::from("limits"));
+    }
+    let mut cells = vec![in alloc; cell(7); 33]?;
+    cells[32] = cell(8);
+    Ok(Layer::of_cells(alloc, extent, cells, 4)?)
+}
+
 #[test]
 fn a_list_of_cells_taken_over(rt: HostRuntime) -> Result<(), Fail> {
-    let extent = Extent::new(1, 33).ok_or("limits")?;
-    assert_eq!(rt; extent.cells(), 33);
-    let mut cells = vec![in rt.alloc(); cell(7); 33]?;
-    cells[32] = cell(8);
-    let layer = Layer::of_cells(rt.alloc(), extent, cells, 4)?;
+    let layer = taken_over(rt.alloc(), Extent::new(1, 33).ok_or("limits")?)?;
     for (at, want) in [(31, Some(7)), (32, Some(8))] {
         assert_eq!(rt; value_at(&layer, at, &mut Counts::new()), want);
     }
-    assert_eq!(rt;
-        stamps_of(rt.alloc(), &layer)?.as_slice(),
-        [4, 4].as_slice()
-    );
-    Ok(())
+    has_stamps(&rt, &layer, &[4, 4])
 }
 
 #[test]
@@ -233,17 +250,24 @@ fn tiles_are_copied_and_compared(rt: HostRuntime) -> Result<(), Fail> {
     Ok(())
 }
 
+/// A change of tiles 1 and 3 is gone through in their order.
+fn goes_through(rt: &(impl AllocGlobal + Abort), layer: &Layer, patch: &Patch)
+    requires { patch.now.size ≡ layer.now.size }
+{
+    assert_eq!(rt; patch.len(), 2);
+    let change = Change::patched(layer, patch);
+    for (from, next) in [(0, Some(1)), (1, Some(1)), (2, Some(3)), (4, None)] {
+        assert_eq!(rt; change.next_touched(from), next, "{from}");
+    }
+    assert_eq!(rt; Change::same(layer).next_touched(0), None);
+}
+
 #[test]
 fn touched_tiles_come_in_order(rt: HostRuntime) -> Result<(), Fail> {
     let extent = Extent::new(33, 33).ok_or("limits")?;
     assert!(rt; 3 < extent.tiles());
     let layer = Layer::constant(rt.alloc(), extent, cell(5), 1)?;
     let patch = patch_of(rt.alloc(), extent, 1, 5, 3, 7)?;
-    assert_eq!(rt; patch.len(), 2);
-    let change = Change::patched(&layer, &patch);
-    for (from, next) in [(0, Some(1)), (1, Some(1)), (2, Some(3)), (4, None)] {
-        assert_eq!(rt; change.next_touched(from), next, "{from}");
-    }
-    assert_eq!(rt; Change::same(&layer).next_touched(0), None);
+    goes_through(&rt, &layer, &patch);
     Ok(())
 }

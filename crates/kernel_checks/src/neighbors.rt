@@ -171,6 +171,51 @@ fn scattered(seed: u32) -> u32 {
     (mixed ^ (mixed >> 15)).wrapping_mul(2_246_822_519)
 }
 
+/// The cells of both layers, one after another.
+fn values_of_both(
+    alloc: Global,
+    costs: &Layer,
+    numbers: &Layer,
+) -> Result<Vec<Option<Value>>, NoMemory> {
+    let mut values = values_of(alloc, costs)?;
+    values.extend_from_slice(&values_of(alloc, numbers)?)?;
+    Ok(values)
+}
+
+/// The costs and numbers of a map that are made anew, and their work.
+fn made(
+    alloc: Global,
+    sources: &Small,
+    friction: &Small,
+    limit: Value,
+) -> Result<(Vec<Option<Value>>, u64), Fail>
+    requires { (pos 0 ≤ℤ limit) × (limit ≤ℤ pos greatest_value) }
+{
+    let extent = Extent::new(4, 6).ok_or("limits")?;
+    let begun = layer_of(alloc, extent, sources)?;
+    let ground = layer_of(alloc, extent, friction)?;
+    let (costs, numbers, worked) = first(alloc, &begun, &ground, limit)?;
+    Ok((values_of_both(alloc, &costs, &numbers)?, worked))
+}
+
+/// The costs and numbers of a map after one operand became other values.
+fn mended(
+    alloc: Global,
+    sources: &Small,
+    friction: &Small,
+    limit: Value,
+    operand: Operand,
+    other: &Small,
+) -> Result<Vec<Option<Value>>, Fail>
+    requires { (pos 0 ≤ℤ limit) × (limit ≤ℤ pos greatest_value) }
+{
+    let extent = Extent::new(4, 6).ok_or("limits")?;
+    let begun = layer_of(alloc, extent, sources)?;
+    let ground = layer_of(alloc, extent, friction)?;
+    let (costs, numbers, _) = repaired(alloc, &begun, &ground, limit, operand, other)?;
+    Ok(values_of_both(alloc, &costs, &numbers)?)
+}
+
 /// Whether a repair after one operand became other values makes what is made anew.
 fn agrees(
     alloc: Global,
@@ -182,17 +227,12 @@ fn agrees(
 ) -> Result<bool, Fail>
     requires { (pos 0 ≤ℤ limit) × (limit ≤ℤ pos greatest_value) }
 {
-    let extent = Extent::new(4, 6).ok_or("limits")?;
-    let begun = layer_of(alloc, extent, sources)?;
-    let ground = layer_of(alloc, extent, friction)?;
-    let after = layer_of(alloc, extent, other)?;
-    let (costs, numbers, _) = repaired(alloc, &begun, &ground, limit, operand, other)?;
-    let (dear, anew, _) = match operand {
-        Operand::Sources => first(alloc, &after, &ground, limit)?,
-        Operand::Friction => first(alloc, &begun, &after, limit)?,
+    let (starts, steps) = match operand {
+        Operand::Sources => (other, friction),
+        Operand::Friction => (sources, other),
     };
-    let same_costs = values_of(alloc, &costs)? == values_of(alloc, &dear)?;
-    Ok(same_costs && values_of(alloc, &numbers)? == values_of(alloc, &anew)?)
+    let (anew, _) = made(alloc, starts, steps, limit)?;
+    Ok(mended(alloc, sources, friction, limit, operand, other)? == anew)
 }
 
 /// Sources of two numbers in few places.
@@ -304,14 +344,11 @@ fn meet(
     }
     let (begun, ground) = (cells_of(sources), cells_of(friction));
     let list = joined(alloc, extent, &begun, &ground, limit, cut)?;
-    let costs = Layer::fresh(list.costs(alloc, extent)?, 1);
+    let (anew, worked) = made(alloc, sources, friction, limit)?;
+    let mut values = values_of(alloc, &Layer::fresh(list.costs(alloc, extent)?, 1))?;
     let numbers = list.tile(alloc, extent, 0)?;
-    let starts = layer_of(alloc, extent, sources)?;
-    let frictions = layer_of(alloc, extent, friction)?;
-    let (dear, anew, worked) = first(alloc, &starts, &frictions, limit)?;
-    let same_costs = values_of(alloc, &costs)? == values_of(alloc, &dear)?;
-    let same = tile_values(alloc, &numbers)? == values_of(alloc, &anew)?;
-    Ok(same_costs && same && list.worked() == worked)
+    values.extend_from_slice(&tile_values(alloc, &numbers)?)?;
+    Ok(values == anew && list.worked() == worked)
 }
 
 #[test]

@@ -1,5 +1,4 @@
-use Rattle.std.proofs.Common.{◌≡◌, Some, bytes_eq, map, ap, sym, subst, ◌∙◌}
-use Rattle.std.specs.Map.{lookup}
+use Rattle.std.proofs.Common.{Some, map, ap, sym, ◌∙◌}
 use Rattle.map_defs.specs.Depths.{is_looped}
 use Rattle.map_defs.specs.Ops.{layer_term}
 use Rattle.map_defs.specs.Nodes.{Node}
@@ -22,11 +21,10 @@ returns-clause-fine c =
     let x : Node = record { name = n; needs = Some c.args.reads.items } in
     let new = none_there (nodes_in groups) n c.depth.result c.depth.ensures (sym c.is_some.ensures ∙ c.if-is_some.false) in
     let is = put_is groups sources ops c.requires.fine n (flat_nodes c.in_ok-nodes.nodes.items) x c.put.new.self new c.in_ok-nodes.ensures c.in-Ok.ensures.0 in
+    let sum = c.in_ok-put_sum.ensures in
     sum_fine groups sources ops c.requires.fine n c.args.reads.items c.requires.few new c.put.new.self is
-    (ap (λ gs. is_looped (nodes_in gs) n) c.in-Ok.ensures.0 ∙ c.in-Ok.ensures.1) c.in_ok-op.op
-    (c.in_ok-op.ensures ∙ ap (map (λ m. layer_term m)) c.as_slice.ensures.value) c.insert.new.self.entries
-    (subst (λ m. lookup (bytes_eq m) c.insert.new.self.entries ≡ Some c.in_ok-op.op) c.in_ok-own.ensures c.in-Ok-insert.ensures.updates.1)
-    (λ q differs. c.in-Ok-insert.ensures.updates.2 q (ap (λ m. bytes_eq m q) c.in_ok-own.ensures ∙ differs))
+    (ap (λ gs. is_looped (nodes_in gs) n) c.in-Ok.ensures.0 ∙ c.in-Ok.ensures.1) sum.op
+    (sum.terms ∙ ap (map (λ m. layer_term m)) c.as_slice.ensures.value) c.put_sum.new.ops.entries sum.is sum.others
 
 pub returns-clause-one : goal.returns-clause-one
 returns-clause-one c =
