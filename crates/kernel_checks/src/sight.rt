@@ -92,6 +92,18 @@ fn viewers_after(
     Viewers::of(alloc, Some(&old), &Change::patched(layer, patch), tally)
 }
 
+/// A patch of the last of two tiles in a row, all of 3.
+fn last_tile(alloc: Global, extent: Extent) -> Result<Patch, Fail>
+    ensures { IfOk result (λ patch. patch.size ≡ extent) }
+{
+    if extent.tiles() < 2 {
+        return Err(Fail::from("tiles"));
+    }
+    let mut patch = Patch::new(alloc, extent);
+    patch.push(1, Tile::new(alloc, extent, 1, cell(3))?)?;
+    Ok(patch)
+}
+
 /// A row of two tiles with viewers of 5 and 9 in its first and last column, and of 3 there after a patch of the last tile.
 fn repainted(alloc: Global, tally: &mut Counts) -> Result<Viewers, Fail> {
     let extent = Extent::new(1, 33).ok_or("limits")?;
@@ -99,11 +111,7 @@ fn repainted(alloc: Global, tally: &mut Counts) -> Result<Viewers, Fail> {
     values[0] = 5;
     values[32] = 9;
     let layer = layer_of(alloc, extent, &values)?;
-    let mut patch = Patch::new(alloc, extent);
-    if extent.tiles() < 2 {
-        return Err(Fail::from("tiles"));
-    }
-    patch.push(1, Tile::new(alloc, extent, 1, cell(3))?)?;
+    let patch = last_tile(alloc, extent)?;
     match viewers_after(alloc, &layer, &patch, tally) {
         Ok(viewers) => Ok(viewers.copy(alloc)?),
         Err(_) => Err(Fail::from("no viewers")),
