@@ -52,8 +52,9 @@ fn product(alloc: Global) -> Result<Written, Fail>
 fn body(alloc: Global) -> Result<Vec<(Name, Written)>, Fail>
     ensures { IfOk result (λ b. body_view b.items ≡ meant_twice.body) }
 {
-    let (x, last) = (Name::plain(alloc, b"x")?, Name::result(alloc)?);
+    let x = Name::plain(alloc, b"x")?;
     let first = sum(alloc)?;
+    let last = Name::result(alloc)?;
     let second = product(alloc)?;
     Ok(vec![in alloc; (x, first), (last, second)]?)
 }
@@ -93,26 +94,18 @@ fn call_of_twice(alloc: Global) -> Result<Written, Fail>
     Ok(Written::Call { procedure, given })
 }
 
-/// What `B = ..` stands for.
-fn flats_of(alloc: Global, procs: &Procs, written: &Written) -> Result<Vec<Flat>, Fail> {
-    let name = Name::plain(alloc, b"B")?;
-    Ok(expand(alloc, procs, &name, written)?)
-}
-
 /// What `B = Twice(A, 3)` stands for.
 fn flats(alloc: Global, procs: &Procs) -> Result<Vec<Flat>, Fail> {
-    flats_of(alloc, procs, &call_of_twice(alloc)?)
-}
-
-/// The canonical text of a statement.
-fn text_of(alloc: Global, name: &Name, written: &Written) -> Result<Vec<u8>, Fail> {
-    Ok(print_written(alloc, name, written)?)
+    let name = Name::plain(alloc, b"B")?;
+    let written = call_of_twice(alloc)?;
+    Ok(expand(alloc, procs, &name, &written)?)
 }
 
 /// The canonical text of a flat statement.
 fn flat_text(alloc: Global, flat: Option<&Flat>) -> Result<Vec<u8>, Fail> {
     let flat = flat.ok_or("no statement")?;
-    text_of(alloc, &flat.name, &Written::Plain(flat.op.copy(alloc)?))
+    let written = Written::Plain(flat.op.copy(alloc)?);
+    Ok(print_written(alloc, &flat.name, &written)?)
 }
 
 #[test]
