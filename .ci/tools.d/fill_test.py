@@ -119,7 +119,7 @@ class Fill(Case):
     def test_refused(self):
         self.refused('fill', 'in.asc', 'out.asc', saying='in.asc: No such file')
         self.write('in.asc', grid_text([[1, 2], [3, 4]]).replace('3', '3.5'))
-        self.refused('fill', 'in.asc', 'out.asc', saying="cell 3 is '3.5', which is no whole number")
+        self.refused('fill', 'in.asc', 'out.asc', saying="cell 3 is '3.5', which is no whole number (tools/to-grid makes whole numbers; docs/INTEROP.md ")
         top = 10 ** 15
         self.grid('in.asc', [[top] * 3, [top, 1, top], [top] * 3])
         self.refused('fill', 'in.asc', 'out.asc', saying='a filled cell would be above 1000000000000000')

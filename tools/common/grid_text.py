@@ -101,7 +101,7 @@ def refuse_cell(tokens, null, name):
     for index, token in enumerate(tokens, 1):
         number = whole(token)
         if number is None:
-            raise Refused(f"{name}: cell {index} is '{readable(token)}', which is no whole number (tools/to-grid makes whole numbers)")
+            raise Refused(f"{name}: cell {index} is '{readable(token)}', which is no whole number (tools/to-grid makes whole numbers; docs/INTEROP.md has a way without GDAL)")
         if number != null and abs(number) > GREATEST:
             raise Refused(f'{name}: cell {index} is {readable(token)}, which is beyond {GREATEST}')
 
