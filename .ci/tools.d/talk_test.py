@@ -173,6 +173,8 @@ class Refusals(Talk):
                 ('undo = LocalSum of Heights and 1', 6, 'syntax', "= can't stand here: undo"),
                 ('Wet = LocalSun of Heights and 1', 7, 'operation', 'LocalSun is no operation; did you mean LocalSum?'),
                 ('Wet = localsum of Heights and 1', 7, 'operation', 'localsum is no operation; did you mean LocalSum?'),
+                ('Wet = FocalDrainage of Heights', 7, 'operation', 'FocalDrainage is no operation; did you mean IncrementalDrainage?'),
+                ('Wet = LocalSlope of Heights', 7, 'operation', 'LocalSlope is no operation'),
                 ('Wet = FocalMean of Heights at 33', 31, 'number', 'a radius is 1 to 32'),
                 ('paint Heights 1 1 4097 1 5', 19, 'number', 'rows and columns are 1 to 4096'),
                 ('paint Heights 1 1 1 1 1000000000000001', 23, 'number', 'a cell is a number from -1000000000000000 to 1000000000000000, or null'),
@@ -180,6 +182,7 @@ class Refusals(Talk):
                 ('of = LocalSum of Heights and 1', 1, 'syntax', "of is a word of the language, and can't be a name"),
                 ('new list 1', 5, 'syntax', "list is a word of the language, and can't be a name"),
                 ('value Heights 1 x', 17, 'syntax', "x can't stand here: value NAME ROW COL"),
+                ('paint Heights 1 1 1 1 1.5', 23, 'syntax', "1.5 can't stand here, as numbers are whole: paint NAME ROW COL ROW COL CELL"),
                 ('branch value Heights 1 x end', 24, 'syntax', "x can't stand here: value NAME ROW COL"),
                 ('branch Wet = LocalSum of Heights and 1; paint Heights 1 4097 1 1 1 end', 57, 'number', 'rows and columns are 1 to 4096'),
                 ('branch Wet = LocalSum of Heights end', 34, 'syntax', "end can't stand here: LocalSum of TERM and TERM {and TERM} [ignoring nulls]"),
@@ -484,6 +487,9 @@ class Language(Case):
     def test_nearest(self):
         self.assertEqual(nearest('elevaton', ['Cover', 'Elevation']), 'Elevation')
         self.assertIsNone(nearest('Zzz', ['Cover', 'Elevation']))
+        for word, meant in (('FocalDrainage', 'IncrementalDrainage'), ('gradient', 'IncrementalGradient'), ('FocalRating', 'LocalRating'),
+                            ('LocalMin', 'LocalMinimum'), ('FocalNeighbour', 'FocalNeighbor'), ('Local', None), ('LocalSlope', None), ('x', None)):
+            self.assertEqual(nearest(word, OPERATIONS, 0.8), meant)
 
 
 def filled(form):

@@ -36,6 +36,8 @@ ITEMS = ('paint', 'new', 'drop', 'value')  # first words of what a branch may do
 MOST_BRANCHES = 16
 WORD = re.compile(r'[=(),;:]|[^ \t=(),;:]+')
 NAME = re.compile('[A-Za-z][A-Za-z0-9_]{0,31}')
+KIND = re.compile('^(local|focal|zonal|incremental)')
+DECIMAL = re.compile(r'[+-]?([0-9]+\.[0-9]*|\.[0-9]+)')
 
 CELLS = 'a cell is a number from -1000000000000000 to 1000000000000000, or null'
 LANGUAGES = 'the language is 1 or 2'
@@ -72,16 +74,19 @@ def is_name(text):
     return bool(NAME.fullmatch(text)) and text not in RESERVED
 
 
-def nearest(word, among):
-    """The name that is most like a word, whatever its letter case; None where none is like it."""
-    among = list(among)
+def nearest(word, among, least=0.6):
+    """The name that is most like a word, whatever its letter case, and by `least` at the least; None where none is. Before all others come those
+    that are the same but for Local, Focal, Zonal or Incremental, and then those that begin with the word."""
+    among, word = list(among), word.lower()
     lower = [name.lower() for name in among]
-    found = difflib.get_close_matches(word.lower(), lower, 1, 0.6)
+    rest = KIND.sub('', word)
+    alike = [name for name in lower if KIND.sub('', name) == rest] or [name for name in lower if len(rest) > 2 and name.startswith(word)]
+    found = difflib.get_close_matches(word, alike, 1, 0) or difflib.get_close_matches(word, lower, 1, least)
     return among[lower.index(found[0])] if found else None
 
 
-def or_nearest(text, word, among):
-    close = nearest(word, among)
+def or_nearest(text, word, among, least=0.6):
+    close = nearest(word, among, least)
     return f'{text}; did you mean {close}?' if close else text
 
 
@@ -155,7 +160,7 @@ def explain_place(kind, at, line, names):
     is_branch = before[:1] == ['branch']
     forms = '   or   '.join(forms_at(before + [here] if here else before[:1] if is_branch else before, names))
     if kind == 'operation':
-        return or_nearest(f'{here} is no operation', here, [*OPERATIONS, *names.procedures])
+        return or_nearest(f'{here} is no operation', here, [*OPERATIONS, *names.procedures], 0.8)
     if kind == 'number':
         return explain_number(item_of(before))
     if at <= len(line) and not 0x20 <= line[at - 1] <= 0x7E:
@@ -170,7 +175,8 @@ def explain_place(kind, at, line, names):
         return OF_LANGUAGE_2
     if here in RESERVED and (not before or before[-1] in ('new', 'procedure', '=', 'of', 'and', 'in', 'on', 'within', 'carrying', ',', '(')):
         return f"{here} is a word of the language, and can't be a name"
-    return f"{here or 'this'} can't stand here: {forms}"
+    why = ', as numbers are whole' if DECIMAL.fullmatch(here) else ''
+    return f"{here or 'this'} can't stand here{why}: {forms}"
 
 
 def explain_number(before):
