@@ -75,10 +75,6 @@ pub tile_between : (s : Size) (t j : ℕ) → t * 1024 ≤ order_of s j → orde
 unfolding order_of
 tile_between s t j l m = let r = row_32 s j in let c = column_32 s j in omega (arith, l, m, r, c)
 
-pub row_between : (s : Size) (t r j : ℕ) → r < 32 → t * 1024 + r * 32 ≤ order_of s j → tile_of s j ≡ t → r ≤ j / s.columns % 32
-unfolding order_of
-row_between s t r j p l e = let c = column_32 s j in omega (arith, l, e, c, p)
-
 -- an order number within a row
 pub order_rest : (s : Size) (t r c i : ℕ) → r < 32 → t * 1024 + (r * 32 + c) ≤ order_of s i → order_of s i < t * 1024 + (r * 32 + 32) → (q : ℕ) × (c ≤ q) × (q < 32) × (order_of s i ≡ t * 1024 + (r * 32 + q))
 order_rest s t r c i p l m = (order_of s i - (t * 1024 + r * 32), omega (arith, l), omega (arith, l, m), omega (arith, l))

@@ -3,3 +3,4 @@ pub mod Bands
 pub mod Rows
 pub mod Turns
 pub mod Whole
+pub mod Counting

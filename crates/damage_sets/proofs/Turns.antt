@@ -13,7 +13,7 @@ use Rattle.layer_tiles.proofs.ChangeLaws.{Contains-or, untouched_place}
 use Rattle.layer_tiles.proofs.Rising.{rises_looked, rises_within}
 use Rattle.damage_sets.specs.Seen.{IsChangedCell, IsChangedOf, IsChangedBelow, touched_below}
 use Rattle.damage_sets.specs.Widened.{IsWidened}
-use Rattle.damage_sets.proofs.Widening.{widened_none, widened_then, widened_as}
+use Rattle.damage_sets.proofs.Widening.{widened_then, widened_as}
 
 -- a changed cell lies in a touched tile
 touched_there : (c : ChangeState) → IsChange c → (i : ℕ) → i < cells_in c.size → IsChangedCell c i → Contains c.touched (tile_of c.size i)
@@ -22,9 +22,6 @@ touched_there c h i l d = which (Contains-or c.touched (tile_of c.size i))
     which : Contains c.touched (tile_of c.size i) ⊎ (Contains c.touched (tile_of c.size i) → ⊥) → Contains c.touched (tile_of c.size i)
     which (inl there) = there
     which (inr n) = absurd (d (untouched_place c h i l n))
-
-pub turns_none : (c : ChangeState) (reach : ℕ) (old : List Bool) → IsWidened c.size reach (IsChangedBelow c 0) old old
-turns_none c reach old = widened_none c.size reach (IsChangedBelow c 0) old (λ i l d. omega (arith, d.0))
 
 -- the next touched tile had its turn
 pub turns_more : (c : ChangeState) (from tile reach : ℕ) (old mid new : List Bool) → IsChange c → IsNext c.touched from tile → IsWidened c.size reach (IsChangedBelow c from) old mid → IsWidened c.size reach (IsChangedOf c tile) mid new → IsWidened c.size reach (IsChangedBelow c (tile + 1)) old new

@@ -22,7 +22,7 @@ use Rattle.damage_sets.specs.Damage.{touched_in}
 use Rattle.damage_sets.specs.Sets.{TileSetState}
 use Rattle.damage_sets.specs.Seen.{IsChangedCell, IsChangedOne}
 use Rattle.damage_sets.specs.Widened.{IsWidened, HasOne}
-use Rattle.damage_sets.proofs.Widening.{widened_none, widened_then}
+use Rattle.damage_sets.proofs.Widening.{widened_then}
 
 -- ---- tests of cells
 
@@ -100,9 +100,6 @@ any_one p q n e =
     (a.1, omega (arith, is, l), b.0, b.1)
 
 -- ---- the operands one after another
-
-pub ones_none : (s : Size) (r : ℕ) (operands : List ChangeState) (old : List Bool) → IsWidened s r (IsChangedOne operands 0) old old
-ones_none s r operands old = widened_none s r (IsChangedOne operands 0) old (λ i l d. omega (arith, d.2))
 
 pub ones_more : (s : Size) (r k : ℕ) (operands : List ChangeState) (c : ChangeState) (old mid new : List Bool) → slice_get operands k ≡ Some c → IsWidened s r (IsChangedOne operands k) old mid → IsWidened s r (IsChangedCell c) mid new → IsWidened s r (IsChangedOne operands (k + 1)) old new
 ones_more s r k operands c old mid new e p q =

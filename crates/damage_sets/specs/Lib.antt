@@ -4,3 +4,4 @@ pub mod Damage
 pub mod Widened
 pub mod Added
 pub mod Seen
+pub mod Counted

@@ -2,8 +2,8 @@
 ghost use Rattle.std.specs.Prelude.{◌≡◌, ◌<◌, pos, ◌+ℤ◌, ◌≤ℤ◌, length, slice_set, None};
 ghost use Rattle.drainage_flow.specs.Pouring.{down_in, flow_in, wait_in, most_load, TakesIn, Starts};
 
-/// The flow within some rows of a map, as far as it comes from these rows: where each place drains to, how many places it waits for,
-/// and what it has. A place that drains to another row waits for none once all has come to it.
+/// Some rows of a map while its flow is found: where each place drains to, how many places it waits for, and what it has. Some may have
+/// passed on what they have; which, is free.
 #[derive(Drop)]
 pub struct FlowBand {
     pub(crate) downs: Vec<Option<u32>>,

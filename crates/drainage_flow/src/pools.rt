@@ -21,7 +21,8 @@ use layer_tiles::{Cell, Extent};
 use map_nums::NoMemory;
 use std::alloc::Global;
 
-/// The flow within the rows `first` to before `end` of a map, whose surface and weights are given whole.
+/// The rows `first` to before `end` of a map, whose surface and weights are given whole, as a band for [`pour`]. Within it places have
+/// passed on what they have; how far, is free.
 ///
 /// # Errors
 ///

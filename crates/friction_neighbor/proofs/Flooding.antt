@@ -5,9 +5,8 @@ use Rattle.std.specs.Prelude.{◌⊎◌, is_some, IsTrue, replicate, slice_set}
 use Rattle.std.specs.List.{Contains}
 use Rattle.std.proofs.lemmas.Bool.{cases_lt, cases_eq}
 use Rattle.std.proofs.lemmas.Int.{ints}
-use Rattle.std.proofs.lemmas.List.{get_or_past, get_or-replicate, length-replicate, get_or-set_same, get_or-set_other, length-set, length_push}
+use Rattle.std.proofs.lemmas.List.{get_or_past, get_or-replicate, length-replicate, get_or-set_same, get_or-set_other, length-set}
 use Rattle.std.proofs.lemmas.List.Elements.{Contains-append_left, Contains-push, Contains-push_cases}
-use Rattle.std.proofs.lemmas.List.Sums.{sum_by-set}
 use Rattle.map_nums.specs.Grids.{Cells, cell_at, cells_in, row_of, column_of}
 use Rattle.map_nums.specs.Numbers.{is_value}
 use Rattle.map_defs.specs.Nearest.{IsNoGreater, BeginsAt, StepsTo}
@@ -19,7 +18,7 @@ use Rattle.friction_neighbor.specs.Fields.{FieldState, IsField, cost_at, own_at,
 use Rattle.friction_neighbor.specs.declared.fields.Front.{Front}
 use Rattle.friction_spread.specs.Spots.{IsSpot, AreNear, weighed}
 use Rattle.friction_neighbor.specs.Spots.{IsFront}
-use Rattle.friction_neighbor.specs.Floods.{IsTold, IsFlooding, MayGrow, RowTold, RowToldTo, RoundToldTo, one_if_null, nulls, left_to_do}
+use Rattle.friction_neighbor.specs.Floods.{IsTold, IsFlooding, MayGrow, RowTold, RowToldTo, RoundToldTo}
 use Rattle.friction_neighbor.proofs.Places.{only_spot, step_is}
 
 -- ---- lists of places
@@ -70,24 +69,11 @@ pub some_in : (c : Option ℤ) → is_some c ≡ true → (z : ℤ) × (c ≡ So
 some_in None e = absurd (cc)
 some_in (Some z) e = (z, refl)
 
-no_greater_none : (c : Option ℤ) (z : ℤ) → c ≡ None → IsNoGreater c z → ⊥
-no_greater_none None z e h = h
-no_greater_none (Some w) z e h = absurd (cc)
-
 pub le_self : (z : ℤ) → z ≤ℤ z
 le_self z = omega (arith, ints)
 
 pub value_within : (values : Cells) (i : ℕ) (z : ℤ) → cell_at values i ≡ Some z → i < length values
 value_within values i z e = elim (cases_lt i (length values)) as (λ _. i < length values) [ inl l ↦ l | inr l ↦ (let n : cell_at values i ≡ None = get_or_past values i None l in absurd (cc)) ]
-
-pub none_less : (values : Cells) (i : ℕ) (z : ℤ) → i < length values → cell_at values i ≡ None → nulls (slice_set values i (Some z)) + 1 ≡ nulls values
-none_less values i z l e =
-    let s = sum_by-set one_if_null values i (Some z) None l in
-    let w : one_if_null (cell_at values i) ≡ one_if_null None = ap one_if_null e in
-    omega (arith, s, w)
-
-pub less_with : (values : Cells) (found : List ℕ) (i : ℕ) (z : ℤ) → i < length values → cell_at values i ≡ None → left_to_do (slice_set values i (Some z)) (found ++ i ∷ []) ≤ left_to_do values found
-less_with values found i z l e = omega (arith, none_less values i z l e, length_push found i)
 
 pub grows_then : (a b c : Cells) → MayGrow a b → MayGrow b c → MayGrow a c
 grows_then a b c p q i w e = q i w (p i w e)

@@ -1,5 +1,5 @@
 -- The least of the values that steps bring to a place, one place after another.
-use Rattle.std.proofs.Common.{◌≡◌, ◌≢◌, ℕ, ◌+◌, ◌<◌, ◌≤◌, ℤ, Option, Some, None, sym, ◌∙◌, ap, subst, arith, inl, inr}
+use Rattle.std.proofs.Common.{◌≡◌, ◌≢◌, ℕ, suc, ◌+◌, ◌*◌, ◌<◌, ◌≤◌, ℤ, Option, Some, None, sym, ◌∙◌, ap, subst, arith, inl, inr}
 use Rattle.std.specs.Prelude.{◌⊎◌}
 use Rattle.std.proofs.lemmas.Bool.{cases_lt}
 use Rattle.std.proofs.lemmas.Int.{ints}
@@ -9,6 +9,7 @@ use Rattle.map_defs.specs.Nearest.{IsNoGreater, BeginsAt, StepsTo}
 use Rattle.map_defs.proofs.NearestNet.{no_greater}
 use Rattle.friction_spread.specs.Costs.{net_of, step_of}
 use Rattle.friction_spread.proofs.Grounds.{net_costs}
+use Rattle.friction_spread.proofs.Least.{too_far}
 use Rattle.friction_spread.specs.declared.ground.Spot.{Spot}
 use Rattle.friction_neighbor.specs.declared.fields.Front.{Front}
 use Rattle.friction_neighbor.specs.Fields.{FieldState, IsField, cost_at, own_at}
@@ -59,6 +60,12 @@ module _ (f : FieldState) (field : IsField f) (values : Cells) (to : Front) (fro
   -- no step leads from a place that is no cheaper
   pub dear_brings : (best : Option ℤ) (j there : ℕ) → there ≡ cost_at f j → to.cost ≤ there → IsBrought f values at best j
   dear_brings best j there e l z s q = let m = step_lower (net_of f.ground) (net_costs f.ground) (cost_at f) (own_at f) j at s in absurd (omega (arith, e, l, m, front.cost))
+
+  -- nor from one that the least step leaves no cheaper
+  pub far_brings : (best : Option ℤ) (j there : ℕ) → there ≡ cost_at f j → to.cost ≤ f.ground.limit → to.cost < there + 5 * (to.friction + 1) → IsBrought f values at best j
+  far_brings best j there e costed l z s q =
+      let far : suc to.cost ≤ there + step_of f.ground j at = too_far f.ground j at to.friction there (suc to.cost) front.friction (omega (arith, costed)) (omega (arith, l)) in
+      absurd (omega (arith, far, e, s.1, front.cost))
 
   -- a step from a cheaper place costs what the frictions weigh
   module _ (from : Spot) (there own cost : ℕ) (spot : IsSpot f.ground.size from) (near : AreNear to.spot from) (is : there ≡ cost_at f from.at) (less : there < to.cost) (costed : to.cost ≤ f.ground.limit) (friction : own ≡ friction_at f.ground.friction from.at) (sum : cost ≡ there + weighed from to.spot own to.friction) where

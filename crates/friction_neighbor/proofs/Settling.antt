@@ -5,14 +5,14 @@ use Rattle.std.specs.Int.{from_bool}
 use Rattle.std.specs.List.{All, Contains}
 use Rattle.std.specs.List.Sorted.{IsPermutation}
 use Rattle.std.proofs.lemmas.Bool.{cases_Bool}
-use Rattle.std.proofs.lemmas.List.{get_or-set_same, get_or-set_other, length-set}
+use Rattle.std.proofs.lemmas.List.{get_or-set_same, get_or-set_other}
 use Rattle.std.proofs.lemmas.List.Sorted.{Contains-permutation, IsPermutation-sym}
 use Rattle.map_nums.specs.Grids.{Size, Cells, cell_at, cells_in}
 use Rattle.map_defs.specs.Differences.{differs}
 use Rattle.map_defs.specs.Nearest.{StepsTo}
 use Rattle.layer_tiles.specs.Tiles.{tile_of}
 use Rattle.tile_work.specs.PlaceSets.{PlaceSetState}
-use Rattle.tile_work.specs.Working.{WorkState, is_copied, written, IsSameWork}
+use Rattle.tile_work.specs.Working.{WorkState, is_copied, written}
 use Rattle.tile_work.proofs.Slots.{copied_for}
 use Rattle.changed_cells.proofs.Joining.{differs_so, differs_is}
 use Rattle.least_costs.proofs.Queues.{contains_front, key_least}
@@ -91,13 +91,6 @@ module _ (v : ViewState) (at : ℕ) (old new : Cells) (entries entries' : List (
 pub copied_at : (old new : WorkState) (at : ℕ) (cell : Option ℤ) (cause : Type 0) → new ≡ written old at cell → cause → IsCopiedWhere old at cause new
 copied_at old new at cell cause e h t q =
     elim (copied_for old.copied (tile_of old.size at) t (ap (λ (w : WorkState). is_copied w t) (sym e) ∙ q)) as (λ _. (is_copied old t ≡ true) ⊎ ((t ≡ tile_of old.size at) × cause)) [ inl o ↦ inl o | inr o ↦ inr (o, h) ]
-
-pub written_same : (old new : WorkState) (at : ℕ) (cell : Option ℤ) → new ≡ written old at cell → IsSameWork old new
-written_same old new at cell e = record {
-  size = ap (λ (w : WorkState). w.size) e;
-  before = ap (λ (w : WorkState). w.before) e;
-  count = ap (λ (w : WorkState). length w.cells) e ∙ length-set old.cells at cell;
-}
 
 pub least_at : (f : FieldState) (values : Cells) (i j : ℕ) (c : Option ℤ) → i ≡ j → IsLeastHere f values i c → IsLeastHere f values j c
 least_at f values i j c e h = let P : ℕ → Type 0 = λ k. IsLeastHere f values k c in subst P e h

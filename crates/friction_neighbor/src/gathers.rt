@@ -8,7 +8,7 @@ ghost use Rattle.friction_neighbor.specs.Gathers.{IsLeastHere, IsLesser, IsGathe
 
 use crate::fields::Front;
 use crate::views::FieldView;
-use friction_spread::{Spot, weigh};
+use friction_spread::{Spot, least_step, weigh};
 use layer_tiles::{Cell, Tally};
 use tile_work::Working;
 
@@ -45,7 +45,7 @@ fn by_place<M: Tally>(
 {
     let _extent = field.extent();
     let there = field.cost(from.at, tally);
-    if there >= to.cost {
+    if there + least_step(to.friction) > to.cost {
         return best;
     }
     let friction = field.friction(from.at, tally);

@@ -148,8 +148,8 @@ fn put_rows<M: Tally>(text: &mut Vec<u8>, layer: &Layer, tally: &mut M) -> Resul
     Ok(())
 }
 
-/// The canonical text of a layer under a header: the header's lines, and a line for each row. It reads back as the same header
-/// and cells. At most 64 looks for each tile.
+/// The canonical text of a layer under a header: the header's lines, and a line for each row. Where the header's texts are those of
+/// decimals, it reads back as the same header and cells. At most 64 looks for each tile.
 pub fn print_grid<M: Tally>(
     alloc: Global,
     header: &Header,

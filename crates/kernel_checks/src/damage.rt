@@ -2,8 +2,9 @@
 ghost use Rattle.std.specs.Prelude.{◌≡◌, ◌≤◌, IfOk};
 ghost use Rattle.damage_sets.specs.Classes.{reach_of};
 
+use crate::layers::patch_of;
 use crate::makers::{layer_of, numbers, patch_with};
-use damage_sets::{Class, TileSet, damaged};
+use damage_sets::{Class, TileSet, count_any, damaged};
 use layer_tiles::{Change, Extent, Layer, NoMemory, Operands, Patch};
 use map_outside::Counts;
 use std::alloc::Global;
@@ -43,6 +44,19 @@ fn the_set_of_all_tiles(rt: HostRuntime) -> Result<(), Fail> {
     let all = TileSet::all(rt.alloc(), Extent::new(33, 33).ok_or("limits")?)?;
     assert_eq!(rt; all.count(), 4);
     has(&rt, &all, [true; 4])
+}
+
+#[test]
+fn tiles_of_a_set_and_patches(rt: HostRuntime) -> Result<(), Fail> {
+    let extent = Extent::new(33, 33).ok_or("limits")?;
+    assert!(rt; 3 < extent.tiles());
+    let patch = patch_of(rt.alloc(), extent, 0, 1, 2, 1)?;
+    let mut set = TileSet::new(rt.alloc(), extent)?;
+    set.add(2);
+    set.add(3);
+    assert_eq!(rt; count_any(&set, &patch, None), 3);
+    assert_eq!(rt; count_any(&set, &patch, Some(&patch)), 3);
+    Ok(())
 }
 
 /// The tiles that the changed cells of one operand reach.

@@ -83,7 +83,7 @@ fn loans(rt: HostRuntime) -> Result<(), Fail> {
 }
 
 /// A patch of two tiles that are each of one value.
-fn patch_of(
+pub(crate) fn patch_of(
     alloc: Global,
     extent: Extent,
     low: u32,

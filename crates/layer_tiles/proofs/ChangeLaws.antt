@@ -7,7 +7,7 @@ use Rattle.std.specs.Prelude.{is_some}
 use Rattle.map_nums.specs.Grids.{Size, IsSize, Cells, cells_in, cell_at}
 use Rattle.layer_tiles.specs.Tiles.{Block, tiles_in, tile_of, tile_cells, tile_start, tile_height, tile_width}
 use Rattle.layer_tiles.specs.Patches.{PatchState, IsPatch, HoldsAll, patch_get, numbers_of}
-use Rattle.layer_tiles.specs.Layers.{LayerState, IsLayer, IsChangedTile}
+use Rattle.layer_tiles.specs.Layers.{LayerState, IsLayer}
 use Rattle.layer_tiles.specs.Changes.{ChangeState, cells_before, same_change, patched_change, fresh_change, constant_change}
 use Rattle.layer_tiles.specs.ChangeFacts.{IsChange}
 use Rattle.layer_tiles.specs.ChangeBodies.{change_of, IsChangeBody, IsRowOfOne}
@@ -18,7 +18,6 @@ use Rattle.layer_tiles.proofs.Patching.{length-patched, tile_kept}
 use Rattle.layer_tiles.proofs.Ranged.{AreCells-none, AreCells-patched, AreCells-constant}
 use Rattle.layer_tiles.proofs.Rounds.{back}
 use Rattle.layer_tiles.proofs.Strides.{get_or-strided}
-use Rattle.layer_tiles.proofs.Whole.{same_grid}
 
 no_numbers : (t : ℕ) → Contains [] t → ⊥
 no_numbers t c = absurd (omega (arith, c.1))
@@ -109,10 +108,6 @@ untouched_place c h i l n =
     read : (cells : Cells) (t r k at : ℕ) → r < tile_height c.size t → k < tile_width c.size t → r * tile_width c.size t + k ≡ at → tile_start c.size t + r * c.size.columns + k ≡ i → get_or (tile_cells c.size cells t) at None ≡ cell_at cells i
     read cells t r k at p q e f = get_or-strided cells (tile_start c.size t) c.size.columns (tile_height c.size t) (tile_width c.size t) r k at None p q e ∙ ap (λ j. get_or cells j None) f
 
--- where nothing is touched, all stays
-pub untouched_cells : (c : ChangeState) → IsChange c → IsSome c.before → c.touched ≡ [] → cells_before c ≡ c.cells
-untouched_cells c h there e = same_grid c.size (cells_before c) c.cells h.size (h.before there) h.cells (λ t l. h.kept t l (λ n. no_numbers t (subst (λ (xs : List ℕ). Contains xs t) e n)))
-
 later : (x : ℕ) (xs : List ℕ) (t : ℕ) → (x ≡ t → ⊥) → (Contains xs t → ⊥) → (k : ℕ) → k < length (x ∷ xs) → get_or (x ∷ xs) k t ≡ t → ⊥
 later x xs t n m zero l e = n e
 later x xs t n m (suc k) l e = m (k, omega (arith, l), e)
@@ -126,11 +121,3 @@ Contains-or (x ∷ xs) t = join (cases_eq x t) (Contains-or xs t)
     join (inl e) d = inl (0, omega arith, e)
     join (inr n) (inl c) = inl (suc c.0, omega (arith, c.1), c.2)
     join (inr n) (inr m) = inr (λ c. later x xs t n m c.0 c.1 c.2)
-
--- a changed tile is touched
-pub changed_touched : (c : ChangeState) → IsChange c → (t : ℕ) → t < tiles_in c.size → IsChangedTile c.size (cells_before c) c.cells t → Contains c.touched t
-changed_touched c h t l d = either (Contains-or c.touched t)
-  where
-    either : Contains c.touched t ⊎ (Contains c.touched t → ⊥) → Contains c.touched t
-    either (inl there) = there
-    either (inr n) = absurd (d (h.kept t l n))

@@ -98,7 +98,8 @@ fn patched_run<'b>(layer: &'b Layer, patch: &'b Patch, at: u32, count: usize) ->
     requires count { count ≡ run_length layer.now.size at }
     ensures { IsRun layer.now.size (patched_change layer.now patch.now).cells at result.now }
 {
-    let extent = patch.extent();
+    let extent = layer.extent();
+    let _same = patch.extent();
     match patch.find(extent.tile_of(at)) {
         Some(tile) => tile.run(extent.place_in(at), count),
         None => layer.run(at, count),
@@ -121,7 +122,8 @@ fn patched_cell(layer: &Layer, patch: &Patch, at: u32) -> Cell
     requires same { patch.now.size ≡ layer.now.size }
     ensures { result ≡ cell_at (patched_change layer.now patch.now).cells at }
 {
-    let extent = patch.extent();
+    let extent = layer.extent();
+    let _same = patch.extent();
     match patch.find(extent.tile_of(at)) {
         Some(tile) => tile.cell(extent.place_in(at)),
         None => layer.peek(at),

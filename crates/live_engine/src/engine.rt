@@ -269,7 +269,7 @@ impl Engine {
         &self.map.labels
     }
 
-    /// The symbols of all layers; the text of each is one byte.
+    /// The symbols of all layers. A `symbol` line gives a text of one byte, which no clause here says.
     pub fn symbols(&self) -> &Marks
         ensures { result.now ≡ self.now.symbols }
     {

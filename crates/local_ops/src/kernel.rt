@@ -2,20 +2,17 @@
 ghost use Rattle.std.specs.Prelude.{◌≡◌, ◌<◌, length, IfOk};
 ghost use Rattle.std.specs.List.{All};
 ghost use Rattle.map_defs.specs.Local.{local_grid};
-ghost use Rattle.layer_tiles.specs.Tiles.{tiles_in, tile_height, tile_width};
+ghost use Rattle.layer_tiles.specs.Tiles.{tiles_in};
 ghost use Rattle.layer_tiles.specs.Tallies.{RisesBy};
 ghost use Rattle.layer_tiles.specs.Answers.{IsTileAnswer};
-ghost use Rattle.layer_tiles.specs.PlaceByPlace.{IsPlacesAnswer};
 ghost use Rattle.layer_tiles.specs.Operands.{size_of, cells_after};
-ghost use Rattle.tile_frame.specs.Frames.{by_row};
 ghost use Rattle.local_ops.specs.Operations.{op_of, Takes};
-ghost use Rattle.local_ops.specs.Operands.{blocks_of, cell_by, HaveSize};
+ghost use Rattle.local_ops.specs.Operands.{blocks_of};
 
 use crate::ops::LocalOp;
-use crate::rows::LocalTile;
-use layer_tiles::{Extent, KernelRefusal, NoMemory, Operands, Tally, Tile, TileView};
+use crate::tiles::tile_of_views;
+use layer_tiles::{KernelRefusal, NoMemory, Operands, Tally, Tile, TileView};
 use std::alloc::Global;
-use tile_frame::make_tile;
 
 /// Tile `tile` of the operation over the operands after the edit.
 ///
@@ -61,21 +58,4 @@ fn lend<'a, M: Tally>(
         views.push(change.view(tile, tally))?;
     }
     Ok(views)
-}
-
-/// The tile that the operation makes of lent ones.
-fn tile_of_views(
-    alloc: Global,
-    op: &LocalOp,
-    views: &[TileView<'_>],
-    extent: Extent,
-    tile: u32,
-) -> Result<Tile, KernelRefusal>
-    requires takes { Takes (op_of op.now) (length views.now) }
-    requires within { tile < tiles_in extent }
-    requires sizes { HaveSize (tile_height extent tile) (tile_width extent tile) views.now }
-    ensures { IsPlacesAnswer (by_row (tile_width extent tile) (cell_by (op_of op.now) views.now)) extent tile result }
-{
-    let maker = LocalTile { op, views };
-    make_tile(alloc, &maker, extent, tile)
 }

@@ -8,6 +8,7 @@ mod kernel;
 mod ops;
 mod pairs;
 mod rows;
+mod tiles;
 mod values;
 
 pub use kernel::local_tile;

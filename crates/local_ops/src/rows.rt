@@ -4,46 +4,18 @@ ghost use Rattle.std.specs.List.{All};
 ghost use Rattle.map_nums.specs.Exact.{IsExact};
 ghost use Rattle.map_nums.specs.Grids.{cell_at, numbers_in};
 ghost use Rattle.map_nums.specs.Stats.{statistic_of};
-ghost use Rattle.map_defs.specs.Local.{all_numbers, of_numbers, of_stat};
+ghost use Rattle.map_defs.specs.Local.{all_numbers, of_numbers};
 ghost use Rattle.layer_tiles.specs.Tiles.{block_row, tiles_in, tile_height, tile_width, IsBlockOf};
 ghost use Rattle.tile_frame.specs.Frames.{IsRowAnswer};
 ghost use Rattle.local_ops.specs.Operations.{op_of, Takes};
 ghost use Rattle.local_ops.specs.Operands.{cell_by, HaveSize};
 
 use crate::ops::LocalOp;
-use crate::pairs::{
-    AnyPresent, AnyStat, BothPresent, Differences, Maxima, Minima, Pairing, Products, Ratios,
-    StatOfTwo, Sums,
-};
+use crate::pairs::Pairing;
 use crate::values::value_of;
 use layer_tiles::{Cell, Extent, KernelRefusal, Tile, TileView, Value};
 use map_nums::{Stat, Wide, statistic_in};
-use tile_frame::{RowMaker, TileMaker, make_row};
-
-/// An operation, and the tiles of its operands.
-#[derive(Drop)]
-pub(crate) struct LocalTile<'a, 'b> {
-    pub(crate) op: &'a LocalOp,
-    pub(crate) views: &'a [TileView<'b>],
-}
-
-impl<'a, 'b> TileMaker for LocalTile<'a, 'b> {
-    ghost use Rattle.std.specs.Prelude.{length};
-    ghost use Rattle.layer_tiles.specs.Tiles.{tile_height, tile_width};
-    ghost use Rattle.local_ops.specs.Operations.{op_of, Takes};
-    ghost use Rattle.local_ops.specs.Operands.{cell_by, HaveSize};
-
-    ghost value = { λ m r c. cell_by (op_of m.op.now) m.views.now r c };
-
-    ghost makes = { λ m s t. Takes (op_of m.op.now) (length m.views.now) × HaveSize (tile_height s t) (tile_width s t) m.views.now };
-
-    fn row(&self, extent: Extent, tile: u32, r: u32, made: &mut Tile) -> Result<(), KernelRefusal> {
-        if self.views.len() == 2 {
-            return row_of_pair(self.op, self.views, extent, tile, r, made);
-        }
-        row_of_any(self.op, self.views, extent, tile, r, made)
-    }
-}
+use tile_frame::{RowMaker, make_row};
 
 /// An operation on two values, and a row of each of two operands.
 #[derive(Drop)]
@@ -114,7 +86,7 @@ impl<'a, 'b> RowMaker for RowOfPresent<'a, 'b> {
 }
 
 /// A row of a tile of two operands.
-fn row_of_two<P: Pairing>(
+pub fn row_of_two<P: Pairing>(
     pairing: &P,
     views: &[TileView<'_>],
     extent: Extent,
@@ -139,82 +111,8 @@ fn row_of_two<P: Pairing>(
     make_row(&maker, extent, tile, r, made)
 }
 
-/// The same for any operation of two operands: each of the simple ones has a loop of its own.
-fn row_of_pair(
-    op: &LocalOp,
-    views: &[TileView<'_>],
-    extent: Extent,
-    tile: u32,
-    r: u32,
-    made: &mut Tile,
-) -> Result<(), KernelRefusal>
-    requires two { length views.now ≡ 2 }
-    requires takes { Takes (op_of op.now) 2 }
-    requires within { tile < tiles_in extent }
-    requires sizes { HaveSize (tile_height extent tile) (tile_width extent tile) views.now }
-    requires row { r < tile_height extent tile }
-    requires size { IsBlockOf extent tile made.old }
-    ensures { IsRowAnswer (cell_by (op_of op.now) views.now r) extent tile r made.old made.new result }
-{
-    match op {
-        LocalOp::Stat(stat) => row_of_stat::<false>(*stat, views, extent, tile, r, made),
-        LocalOp::Ignoring(stat) => row_of_stat::<true>(*stat, views, extent, tile, r, made),
-        LocalOp::Difference => row_of_two(&Differences, views, extent, tile, r, made),
-        LocalOp::Ratio => row_of_two(&Ratios, views, extent, tile, r, made),
-        LocalOp::Rating(_) => unreachable!(),
-    }
-}
-
-/// The same for a statistic that ignores nulls or doesn't: so either has loops of its own.
-fn row_of_stat<const IGNORING: bool>(
-    stat: Stat,
-    views: &[TileView<'_>],
-    extent: Extent,
-    tile: u32,
-    r: u32,
-    made: &mut Tile,
-) -> Result<(), KernelRefusal>
-    requires two { length views.now ≡ 2 }
-    requires within { tile < tiles_in extent }
-    requires sizes { HaveSize (tile_height extent tile) (tile_width extent tile) views.now }
-    requires row { r < tile_height extent tile }
-    requires size { IsBlockOf extent tile made.old }
-    ensures { IsRowAnswer (cell_by (of_stat stat IGNORING) views.now r) extent tile r made.old made.new result }
-{
-    match stat {
-        Stat::Sum => row_by_nulls::<_, IGNORING>(Sums, views, extent, tile, r, made),
-        Stat::Product => row_by_nulls::<_, IGNORING>(Products, views, extent, tile, r, made),
-        Stat::Maximum => row_by_nulls::<_, IGNORING>(Maxima, views, extent, tile, r, made),
-        Stat::Minimum => row_by_nulls::<_, IGNORING>(Minima, views, extent, tile, r, made),
-        _ => row_by_nulls::<_, IGNORING>(AnyStat(stat), views, extent, tile, r, made),
-    }
-}
-
-/// The same for a statistic as a type.
-fn row_by_nulls<P: StatOfTwo + Drop, const IGNORING: bool>(
-    statistic: P,
-    views: &[TileView<'_>],
-    extent: Extent,
-    tile: u32,
-    r: u32,
-    made: &mut Tile,
-) -> Result<(), KernelRefusal>
-    requires two { length views.now ≡ 2 }
-    requires within { tile < tiles_in extent }
-    requires sizes { HaveSize (tile_height extent tile) (tile_width extent tile) views.now }
-    requires row { r < tile_height extent tile }
-    requires size { IsBlockOf extent tile made.old }
-    ensures { IsRowAnswer (cell_by (of_stat (P.stat statistic) IGNORING) views.now r) extent tile r made.old made.new result }
-{
-    if IGNORING {
-        row_of_two(&AnyPresent { statistic }, views, extent, tile, r, made)
-    } else {
-        row_of_two(&BothPresent { statistic }, views, extent, tile, r, made)
-    }
-}
-
 /// A row of a tile of any operands.
-fn row_of_any(
+pub fn row_of_any(
     op: &LocalOp,
     views: &[TileView<'_>],
     extent: Extent,

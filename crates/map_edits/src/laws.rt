@@ -35,7 +35,7 @@ pub fn lawful_law()
 {}
 
 /// A layer's grid is made of those of its operands, and more steps change nothing. It has one exactly where it lacks no
-/// name. An edit changes the grids of the edited name's layers, and of those from which the name is reached.
+/// name. An edit changes no grid but those of the edited name's layers, and of those from which the name is reached.
 pub fn value_law()
     ensures made { ValueIsMade }
     ensures defined { DefinedLacksNone }

@@ -5,9 +5,9 @@
 //! and every other answer leaves the count as it was. What each of them holds may be told to contracts or not.
 //!
 //! The forms in memory ([`MemoryShelf`], [`MemorySource`], [`MemorySink`]) tell it, and fail at the calls that they were
-//! given. Others never fail ([`SteadyShelf`], [`SteadySource`], [`RepeatSource`], [`SteadySink`]). The adapters ([`FileShelf`], [`ReadSource`], [`WriteSink`]) stand over any [`Opener`], reader and [`Outlet`], as
-//! those of the system are. What a real file, reader or writer holds is known to nobody. [`Counts`] is the tally whose numbers
-//! can be read.
+//! given. Others never fail ([`SteadyShelf`], [`SteadySource`], [`RepeatSource`], [`SteadySink`]). The adapters ([`FileShelf`],
+//! [`ReadSource`], [`WriteSink`]) stand over any [`Opener`], reader and [`Outlet`], as those of the system are. What a real file,
+//! reader or writer holds is known to nobody. [`Counts`] is the tally whose numbers can be read.
 #![tactic(auto)]
 
 mod calls;

@@ -16,8 +16,8 @@ pub enum FetchFault {
 
 /// Files by name, each fetched whole.
 ///
-/// A run fetches each file just before it reads it, so the files after a refused one are never fetched. No fetch changes
-/// what is held or which names are served, whatever it answers, so that a file may be fetched again after a fault.
+/// A run fetches each file just before it reads it, and none after a refused one: so is its code, and no clause says it. No fetch
+/// changes what is held or which names are served, whatever it answers, so that a file may be fetched again after a fault.
 pub trait Shelf {
     ghost use Rattle.map_outside.specs.Causes.{FetchCounts};
     ghost use Rattle.map_outside.specs.Contents.{Files, Fetches};

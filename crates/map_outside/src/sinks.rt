@@ -12,8 +12,8 @@ pub enum PutFault {
 
 /// A place to write to.
 ///
-/// A run puts each reply whole, in order, and puts nothing after a fault. After a fault a front of the bytes was
-/// appended, maybe none of them. What a sink holds may cease to be told, and is then never told again.
+/// A run puts each reply whole, in order. It puts nothing after a fault: so is its code, and no clause says it. After a fault a front of
+/// the bytes was appended, maybe none of them. What a sink holds may cease to be told, and is then never told again.
 pub trait Sink {
     ghost use Rattle.map_outside.specs.Causes.{PutCounts};
     ghost use Rattle.map_outside.specs.Contents.{PutGrows};

@@ -9,8 +9,8 @@ pub struct Failed;
 
 /// Bytes that are read in pieces.
 ///
-/// A run takes pieces until one is empty or it has read enough, and takes none after a fault. After `Failed` the bytes that
-/// are left are as before, so that a caller may also go on.
+/// A run takes pieces until one is empty or it has read enough. It takes none after a fault: so is its code, and no clause says it.
+/// After `Failed` the bytes that are left are as before, so that a caller may also go on.
 pub trait Source {
     ghost use Rattle.map_outside.specs.Causes.{TakeCounts};
 

@@ -8,7 +8,7 @@ use Rattle.map_machine.specs.Lines.{ended_lines}
 use Rattle.map_machine.specs.Text.{session_lines}
 use Rattle.map_machine.proofs.TextLemmas.{session_lines_begin}
 use Rattle.map_machine.specs.Steps.{is_quit}
-use Rattle.map_machine.specs.Openings.{Opening, goes_on}
+use Rattle.map_machine.specs.Openings.{Opening, goes_on, turned_back}
 use Rattle.map_run.specs.Completeness.{ComesToEnd, IsComplete, ComesToLimit, IsTooLong}
 use Rattle.map_run.specs.FaultCounts.{RunCounts, NoneRose}
 use Rattle.map_run.specs.Openings.{OpensSo}
@@ -34,7 +34,7 @@ pub completes : (limit : ℕ) (session : List ℕ) (left' : Option (List ℕ)) (
 completes limit session left' opening f f' s s' k k' Done form counts opens ends none is comes = tt
 completes limit session left' opening f f' s s' k k' NoMemory form counts opens ends none is comes = tt
 completes limit session left' opening f f' s s' k k' Usage form counts opens ends none is comes = form refl
-completes limit session left' opening f f' s s' k k' Load form counts opens ends none is comes = subst (OpensSo Load) is opens
+completes limit session left' opening f f' s s' k k' Load form counts opens ends none is comes = let back : opening ≡ turned_back = opens in absurd (cc)
 completes limit session left' opening f f' s s' k k' ShelfFault form counts opens ends none is comes = none.0 counts.0
 completes limit session left' opening f f' s s' k k' SourceFault form counts opens ends none is comes = none.1 counts.1
 completes limit session left' opening f f' s s' k k' SinkFault form counts opens ends none is comes = none.2 counts.2
@@ -69,7 +69,7 @@ pub too_long : (limit : ℕ) (session : List ℕ) (left' : Option (List ℕ)) (o
 too_long limit session left' opening f f' s s' k k' Done form counts opens ends none is comes = not_done limit session left' ends comes
 too_long limit session left' opening f f' s s' k k' NoMemory form counts opens ends none is comes = tt
 too_long limit session left' opening f f' s s' k k' Usage form counts opens ends none is comes = form refl
-too_long limit session left' opening f f' s s' k k' Load form counts opens ends none is comes = subst (OpensSo Load) is opens
+too_long limit session left' opening f f' s s' k k' Load form counts opens ends none is comes = let back : opening ≡ turned_back = opens in absurd (cc)
 too_long limit session left' opening f f' s s' k k' ShelfFault form counts opens ends none is comes = none.0 counts.0
 too_long limit session left' opening f f' s s' k k' SourceFault form counts opens ends none is comes = none.1 counts.1
 too_long limit session left' opening f f' s s' k k' SinkFault form counts opens ends none is comes = none.2 counts.2

@@ -12,7 +12,7 @@ use Rattle.map_run.specs.FaultCounts.{RunCounts}
 use Rattle.map_run.specs.Progress.{Progress}
 use Rattle.map_run.specs.Played.{CameTo, Plays}
 use Rattle.map_run.specs.Stops.{status_of}
-use Rattle.map_run.specs.declared.status.Status.TheVariants.{NoMemory as Lacking, SourceFault as Faulty, TooLong as Full}
+use Rattle.map_run.specs.declared.status.Status.TheVariants.{NoMemory as Lacking}
 use Rattle.map_run.specs.declared.lines.Fed.{Fed}
 use Rattle.map_run.specs.declared.lines.Fed.TheVariants.{More, Quit}
 use Rattle.map_run.specs.declared.stop.Stop.{Stop}
@@ -103,29 +103,6 @@ plays_finished limit old new left left' a b taken fed short moved at_end m = rec
   moved = moved;
   at_end = λ e. (at_end, short);
   came = finished_so limit old new a b taken fed m;
-}
-
--- the source failed, or the limit was reached
-pub plays_faulty : (limit : ℕ) (old now : MapState) (left left' : Option (List ℕ)) (a b : Progress) (taken : List ℕ)
-    → length taken < limit → Consumes left left' taken → AnswersAll old now (ended_lines taken) a b → Plays limit old left left' a b Faulty
-plays_faulty limit old now left left' a b taken few moved m = record {
-  taken = taken;
-  ended = false;
-  within = omega arith;
-  moved = moved;
-  at_end = λ e. absurd (cc);
-  came = (refl, few, m.none, m.whole);
-}
-
-pub plays_full : (limit : ℕ) (old now : MapState) (left left' : Option (List ℕ)) (a b : Progress) (taken : List ℕ)
-    → length taken ≡ limit → Consumes left left' taken → AnswersAll old now (ended_lines taken) a b → Plays limit old left left' a b Full
-plays_full limit old now left left' a b taken full moved m = record {
-  taken = taken;
-  ended = false;
-  within = omega arith;
-  moved = moved;
-  at_end = λ e. absurd (cc);
-  came = (refl, full, m.none, m.whole);
 }
 
 -- nothing more was taken

@@ -14,7 +14,6 @@ use Rattle.map_machine.specs.RunReads.{form_reads}
 use Rattle.map_machine.specs.Openings.{goes_on}
 use Rattle.map_machine.proofs.SampleLemmas.{sample_goes_on}
 use Rattle.map_outside.specs.Contents.{Files, Grows}
-use Rattle.map_outside.proofs.Tellings.{grows_nil}
 use Rattle.map_run.specs.Completeness.{HasSession, ComesToEnd, ComesToLimit, IsComplete, IsTooLong}
 use Rattle.map_run.specs.FaultCounts.{RunCounts, NoneRose}
 use Rattle.map_run.specs.Front.{WritesFront, ReadsAsWritten}
@@ -36,7 +35,6 @@ use Rattle.map_run.specs.declared.stop.Stop.TheVariants as stop
 use Rattle.map_run.proofs.Completeness.{completes, too_long}
 use Rattle.map_run.proofs.CountLemmas.{counts_then}
 use Rattle.map_run.proofs.FrontLemmas.{stage_front, stage_whole, stage_stopped, stage_refused}
-use Rattle.map_run.proofs.Rising.{rises_nothing}
 use Rattle.map_run.proofs.Whole.{plays_front, plays_whole}
 
 -- ---- facts of what is told
@@ -70,14 +68,14 @@ told_stage (Some held) most model ps a b came f is l = let same : held ≡ f = c
 -- ---- the session was played
 
 goes_so : (limit : ℕ) (s : MapState) (left left' : Option (List ℕ)) (a b : Progress) (status : Status) → Plays limit s left left' a b status → OpensSo status goes_on
-goes_so limit s left left' a b Load p = p.came
-goes_so limit s left left' a b Done p = tt
+goes_so limit s left left' a b Load p = absurd p.came
+goes_so limit s left left' a b Done p = refl
 goes_so limit s left left' a b Usage p = tt
 goes_so limit s left left' a b ShelfFault p = tt
-goes_so limit s left left' a b SourceFault p = tt
+goes_so limit s left left' a b SourceFault p = refl
 goes_so limit s left left' a b SinkFault p = tt
 goes_so limit s left left' a b NoMemory p = tt
-goes_so limit s left left' a b TooLong p = tt
+goes_so limit s left left' a b TooLong p = refl
 
 ends_so : (limit : ℕ) (s : MapState) (left left' : Option (List ℕ)) (a b : Progress) (status : Status) → Plays limit s left left' a b status → EndsSo limit left left' status
 ends_so limit s left left' a b Done p = record {
@@ -137,7 +135,7 @@ runs_played most limit model ps old mid new now status l counted p counts =
 -- ---- a stage stopped the run before its session
 
 stopped_opens : (stage : Stage) (a b : Progress) (why : Stop) → Comes stage a b (Err why) → OpensSo (stop_status why) (stage.opening (λ s. goes_on))
-stopped_opens stage a b stop.Load m = subst (OpensSo Load) (sym (m.opens (λ s. goes_on))) tt
+stopped_opens stage a b stop.Load m = subst (OpensSo Load) (sym (m.opens (λ s. goes_on))) refl
 stopped_opens stage a b stop.ShelfFault m = tt
 stopped_opens stage a b stop.SourceFault m = absurd m.form
 stopped_opens stage a b stop.SinkFault m = tt
@@ -203,7 +201,7 @@ runs_stopped most limit model ps old new why same l counts =
 -- ---- the sample
 
 sample_opens : (status : Status) → EndsSample status → OpensSo status goes_on
-sample_opens Done e = tt
+sample_opens Done e = refl
 sample_opens SinkFault e = tt
 sample_opens NoMemory e = tt
 sample_opens _ e = absurd e
@@ -230,21 +228,6 @@ runs_sampled most limit n old new status same m counts = record {
 }
 
 -- ---- without words of a form nothing is done
-
-pub runs_nothing : (most limit : ℕ) (old : Seen) → RunsTo most limit None old old Usage
-runs_nothing most limit old = record {
-  usage = (λ _. refl, λ _. refl);
-  counts = (refl, refl, refl);
-  quiet = grows_nil old.progress.held;
-  reads = where_told old.files old.left (λ f session. ReadsAsWritten old.progress old.progress [] (λ n. no_reads)) (λ f session is told. record {
-    written = record { front = []; rest = []; whole = refl; wrote = grows_nil old.progress.held };
-    rose = rises_nothing no_reads old.progress.tally;
-  });
-  whole = λ _. where_told old.files old.left (λ f session. Grows old.progress.held old.progress.held []) (λ f session is told. grows_nil old.progress.held);
-  source_fault = λ e. absurd (cc);
-  opens = where_held old.files (λ f. OpensSo Usage goes_on) (λ f is. tt);
-  ended = Keeps-refl old.left;
-}
 
 -- ---- the clauses of the top call
 

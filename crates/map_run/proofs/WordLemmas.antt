@@ -10,7 +10,7 @@ use Rattle.map_words.specs.Names.{is_plain}
 use Rattle.map_machine.specs.Pairs.{Pair, cut, pair_of, all_pairs, are_apart, pairs_of}
 use Rattle.map_machine.specs.Words.{Form, of_files, model_files, files_of}
 use Rattle.map_machine.proofs.WordsLemmas.{cut-none, cut-at}
-use Rattle.map_machine.proofs.PairsLemmas.{is_named, all_pairs-more, apart_more, pairs_good, pairs_too_many, pairs_twice}
+use Rattle.map_machine.proofs.PairsLemmas.{is_named, all_pairs-more, apart_more, pairs_too_many, pairs_twice}
 use Rattle.map_run.specs.Forms.{pair_read, pairs_read}
 use Rattle.map_run.specs.declared.forms.Pair.{Pair as Read}
 use denote.Ref.{Bor}
@@ -37,9 +37,6 @@ pub record ReadSoFar (taken : List (String Global)) (ps : List Read) : Type 0 wh
   pub few : length ps ≤ 32
   pub plain : All (λ (p : Read). IsTrue (is_plain p.name.now)) ps
 
-pub read_none : ReadSoFar [] []
-read_none = record { read = refl; apart = refl; few = omega arith; plain = All-nil (λ (p : Read). IsTrue (is_plain p.name.now)) }
-
 pub read_more : (taken : List (String Global)) (w : String Global) (ps : List Read) (p : Read) → ReadSoFar taken ps → pair_of (string_bytes w) ≡ Some (pair_read p)
     → IsTrue (is_plain p.name.now) → length ps < 32 → is_read ps p.name.now ≡ false → ReadSoFar (taken ++ w ∷ []) (ps ++ p ∷ [])
 read_more taken w ps p so is plain room new' =
@@ -65,13 +62,6 @@ read_full taken more w ps p so is full = pairs_too_many taken more w (pairs_read
 pub read_twice : (taken more : List (String Global)) (w : String Global) (ps : List Read) (p : Read) → ReadSoFar taken ps → pair_of (string_bytes w) ≡ Some (pair_read p)
     → is_read ps p.name.now ≡ true → pairs_of (all_pairs (taken ++ w ∷ more)) ≡ None
 read_twice taken more w ps p so is named = pairs_twice taken more w (pairs_read ps) (pair_read p) so.read is (named_read ps p.name.now ∙ named)
-
-pub read_all : (words : List (String Global)) (ps : List Read) → ReadSoFar words ps → 0 < length ps → pairs_of (all_pairs words) ≡ Some (pairs_read ps)
-read_all words ps so some = ap pairs_of so.read ∙ pairs_good (pairs_read ps) (omega (arith, length-map ps pair_read)) (omega (arith, length-map ps pair_read, so.few)) so.apart
-
-pub read_empty : (words : List (String Global)) (ps : List Read) → ReadSoFar words ps → length ps ≡ 0 → pairs_of (all_pairs words) ≡ None
-read_empty words [] so none = ap pairs_of so.read
-read_empty words (p ∷ ps) so none = absurd (omega (arith, none))
 
 -- where every file of a form is served, those of its pairs are, and its model file
 pub pairs_served : (serves : List ℕ → Bool) (model : Option (List ℕ)) (ps : List Read) → All (λ f. IsTrue (serves f)) (files_of (of_files model (pairs_read ps)))

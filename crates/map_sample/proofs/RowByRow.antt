@@ -1,10 +1,9 @@
 -- A tile of a grid that is made row by row.
-use Rattle.std.proofs.Common.{◌≡◌, ℕ, suc, ◌+◌, ◌*◌, ◌/◌, ◌%◌, ◌<◌, replicate, Option, None, ℤ, inl, refl, sym, ◌∙◌, ap, subst, arith, below_more}
-use Rattle.std.proofs.lemmas.List.{length-replicate}
+use Rattle.std.proofs.Common.{◌≡◌, ℕ, suc, ◌+◌, ◌*◌, ◌/◌, ◌%◌, ◌<◌, Option, None, ℤ, inl, sym, ◌∙◌, ap, subst, arith, below_more}
 use Rattle.std.proofs.lemmas.List.FromFn.{get_or-map-range_with_len}
 use Rattle.std.proofs.lemmas.Nat.{mul-add-lt, div-mul-add, mod-mul-add}
 use Rattle.map_nums.specs.Grids.{Size, IsSize, Cells, cells_in, cell_at}
-use Rattle.layer_tiles.specs.Tiles.{Block, IsBlockOf, IsRowSet, tile_block, tile_height, tile_left, tile_size, tile_start, tile_top, tile_width, tiles_in}
+use Rattle.layer_tiles.specs.Tiles.{Block, IsBlockOf, IsRowSet, tile_block, tile_height, tile_left, tile_start, tile_top, tile_width, tiles_in}
 use Rattle.layer_tiles.proofs.Patching.{block_is}
 use Rattle.layer_tiles.proofs.Places.{placed}
 use Rattle.layer_tiles.proofs.Rounds.{here}
@@ -16,14 +15,6 @@ use Rattle.map_sample.specs.declared.grids.SampleGrid.{SampleGrid}
 pub record HasRows (s : Size) (cells : Cells) (t n : ℕ) (b : Block) : Type 0 where
   pub size : IsBlockOf s t b
   pub rows : (r : ℕ) → r < n → (c : ℕ) → c < tile_width s t → cell_at b.cells (r * tile_width s t + c) ≡ cell_at cells (tile_start s t + r * s.columns + c)
-
-pub no_rows : (s : Size) (cells : Cells) (t : ℕ) (fill : Option ℤ) (b : Block) → b ≡ record { height = tile_height s t; width = tile_width s t; cells = replicate (tile_size s t) fill } → HasRows s cells t 0 b
-no_rows s cells t fill b e =
-    rw (e)
-    record {
-      size = record { height = refl; width = refl; count = length-replicate (tile_size s t) fill };
-      rows = λ r l c m. absurd (omega (arith, l));
-    }
 
 pub one_more : (s : Size) (cells row : Cells) (t n : ℕ) (old new : Block) → HasRows s cells t n old → IsRowSet n row old new → ((c : ℕ) → c < tile_width s t → cell_at row c ≡ cell_at cells (tile_start s t + n * s.columns + c)) → HasRows s cells t (n + 1) new
 one_more s cells row t n old new h set is =

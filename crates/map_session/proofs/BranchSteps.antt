@@ -1,11 +1,9 @@
 -- What branches told, in words, is the machine's reply to them.
-use Rattle.std.proofs.Common.{◌≡◌, ◌≤◌, ℕ, suc, List, [], ◌∷◌, ◌++◌, length, Some, Result, Ok, Err, unwrap_or, Vec, codes, refl, ap, ◌∙◌, sym, subst, append_assoc}
+use Rattle.std.proofs.Common.{◌≡◌, ℕ, suc, List, [], ◌∷◌, ◌++◌, Some, Result, Ok, Err, unwrap_or, Vec, codes, refl, ap, ◌∙◌, sym, append_assoc}
 use Rattle.std.specs.declared.alloc.Global.{Global}
 use Rattle.std.specs.List.{AllZip}
-use Rattle.std.proofs.lemmas.List.{length-map}
-use Rattle.statement_parser.specs.Formed.{Each, IsItem, IsBranch, IsRequest}
-use Rattle.statement_parser.specs.Lines.{Item, make, look_at, ask_branches}
-use Rattle.statement_parser.specs.Views.{items_view, branches_view}
+use Rattle.statement_parser.specs.Formed.{Each, IsItem, IsBranch}
+use Rattle.statement_parser.specs.Lines.{Item, make, look_at}
 use Rattle.statement_parser.specs.declared.line.Item as items
 use Rattle.kept_map.specs.Repairs.{counts_view}
 use Rattle.live_engine.specs.Accepts.{Accepts}
@@ -79,9 +77,6 @@ branches_said s k (b ∷ bs) (t ∷ ts) told =
     ∙ ap (λ (text : List ℕ). head ++ codes "\n" ++ items_reply s b ++ text) (branches_said s (suc k) bs ts told.1)
 
 -- ---- what is asked of branches that are tried
-
-pub few_branches : (bs : List (Vec items.Item Global)) → IsRequest (ask_branches (branches_view bs)) → length bs ≤ 16
-few_branches bs formed = subst (λ n. n ≤ 16) (length-map bs (λ (b : Vec items.Item Global). items_view b.items)) formed.0.1
 
 pub branch_items : (bs : List (List Item)) → Each IsBranch bs → Each (Each IsItem) bs
 branch_items [] formed = tt

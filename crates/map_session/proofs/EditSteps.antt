@@ -17,18 +17,16 @@ use Rattle.map_edits.specs.Refusals as edits
 use Rattle.map_edits.specs.Faults as faults
 use Rattle.map_edits.specs.WholeStates.{WholeState}
 use Rattle.map_edits.specs.WholeEdits.{WholeEdit, of_names}
-use Rattle.map_edits.specs.Pasts.{Past, parts_of, with_past}
-use Rattle.map_edits.specs.Touches.{touch_of}
+use Rattle.map_edits.specs.Pasts.{Past, parts_of}
 use Rattle.map_edits.specs.Counted as counted
 use Rattle.map_edits.specs.Counted.{accept_counted}
 use Rattle.map_machine.specs.declared.Kind.TheVariants as kinds
 use Rattle.map_machine.specs.States.{MapState}
-use Rattle.map_machine.specs.Replies.{counted_reply, refused_reply, load_refused_reply}
+use Rattle.map_machine.specs.Replies.{load_refused_reply}
 use Rattle.map_machine.specs.Causes.{edit_cause}
 use Rattle.map_machine.specs.Loads.{opened, grid_load}
-use Rattle.map_machine.specs.Steps.{later, edited}
 use Rattle.map_session.specs.Causes.{edit_told}
-use Rattle.map_session.specs.Said.{Says, Does}
+use Rattle.map_session.specs.Said.{Says}
 use Rattle.map_session.specs.Answered.{LoadsAs}
 use Rattle.map_session.specs.declared.replies.Reply.{Reply}
 
@@ -42,14 +40,6 @@ state h p whole pasts = record { header = h; place = p; whole = whole; pasts = p
 -- what the machine is told of an edit that the engine accepted
 abbrev pub outcome : WholeState → Accepted → counted.Accepted
 outcome new a = record { state = new; counts = counts_view a.counts }
-
-pub edit_done : (h : Header) (p : Place) (old new : WholeState) (before after : List Past) (s : MapState) (e : WholeEdit) (a : Accepted) (reply : Reply) → state h p old before ≡ s → accept_counted old e ≡ Ok (outcome new a)
-    → a.number ≡ new.names.number → after ≡ with_past old (touch_of e) before → Says (counted_reply a.number (counts_view a.counts)) kinds.Accepted reply
-    → Does s (state h (later p.language) new after) (edited s e (accept_counted s.whole e)) (Ok reply)
-edit_done h p old new before after s e a reply w accepts number kept says =
-    subst (λ (u : MapState). Does u (state h (later p.language) new after) (edited u e (accept_counted u.whole e)) (Ok reply)) w
-    (subst (λ (r : Result counted.Accepted edits.Refusal). Does (state h p old before) (state h (later p.language) new after) (edited (state h p old before) e r) (Ok reply)) (sym accepts)
-    (ap (state h (later p.language) new) kept, says.0 ∙ ap (λ k. counted_reply k (counts_view a.counts)) number, says.1))
 
 -- what an edit that is refused leaves, and what is told of it
 pub record Turned (old new : WholeState) (e : WholeEdit) (text : List ℕ) : Type 0 where
@@ -77,15 +67,6 @@ holding h p whole held = state h p whole (pasts_from (parts_of whole) held)
 
 pub held_same : (h : Header) (p : Place) (old new : WholeState) (held left : List Inverse) → new ≡ old → left ≡ held → holding h p new left ≡ holding h p old held
 held_same h p old new held left same kept = ap (λ (w : WholeState). holding h p w left) same ∙ ap (holding h p old) kept
-
-pub edit_refused : (h : Header) (p : Place) (old new : WholeState) (held left : List Inverse) (s : MapState) (e : WholeEdit) (r : Refusal) (cause text : List ℕ) (reply : Result Reply NoMemory) → holding h p old held ≡ s → Refuses old new e r → left ≡ held
-    → edit_told r ≡ Some cause → text ≡ cause → IfOk reply (Says (refused_reply text) kinds.Refused) → Does s (holding h p new left) (edited s e (accept_counted s.whole e)) reply
-edit_refused h p old new held left s e r cause text (Ok reply) w a kept t same says =
-    let u = turned old new e r cause a t in
-    subst (λ (s : MapState). Does s (holding h p new left) (edited s e (accept_counted s.whole e)) (Ok reply)) w
-    (subst (λ (x : Result counted.Accepted edits.Refusal). Does (holding h p old held) (holding h p new left) (edited (holding h p old held) e x) (Ok reply)) (sym u.is)
-    (held_same h p old new held left u.kept kept, says.0 ∙ ap refused_reply (same ∙ sym u.told), says.1))
-edit_refused h p old new held left s e r cause text (Err x) w a kept t same says = held_same h p old new held left (turned old new e r cause a t).kept kept ∙ w
 
 -- a load that is refused
 pub load_turned : (h : Header) (p : Place) (old new : WholeState) (held : List Inverse) (s : MapState) (name copied : Name) (grid : Grid) (r : Refusal) (cause text : List ℕ) (reply : Result Reply NoMemory) → holding h p old held ≡ s

@@ -1,11 +1,11 @@
 -- What an undo does and may read, by what the history answers.
-use Rattle.std.proofs.Common.{◌≡◌, ℕ, List, [], ◌∷◌, codes, Result, Ok, Err, IfOk, refl, ap, ◌∙◌, sym, subst}
+use Rattle.std.proofs.Common.{◌≡◌, ℕ, List, [], ◌∷◌, codes, Result, Ok, Err, IfOk, ap, ◌∙◌, subst}
 use Rattle.map_nums.specs.declared.NoMemory.{NoMemory}
 use Rattle.grid_text.specs.declared.Header.{Header}
 use Rattle.layer_tiles.specs.Tallies.{TallyState}
 use Rattle.statement_parser.specs.declared.language.Place.{Place}
 use Rattle.kept_map.specs.Repairs.{counts_view}
-use Rattle.live_engine.specs.Inverses.{back, past_of}
+use Rattle.live_engine.specs.Inverses.{past_of}
 use Rattle.live_engine.specs.declared.edits.Accepted.{Accepted}
 use Rattle.live_engine.specs.declared.inverses.Inverse.{Inverse}
 use Rattle.map_edits.specs.Refusals as edits
@@ -20,7 +20,7 @@ use Rattle.map_machine.specs.LineReads.{undo_reads}
 use Rattle.map_machine.specs.States.{MapState}
 use Rattle.map_machine.specs.Replies.{counted_reply, refused_reply}
 use Rattle.map_machine.specs.Steps.{undone}
-use Rattle.undo_shelf.specs.Histories.{pasts_from, IsUndone, ReadsForUndo}
+use Rattle.undo_shelf.specs.Histories.{IsUndone, ReadsForUndo}
 use Rattle.undo_shelf.specs.declared.history.UndoRefusal.TheVariants as undos
 use Rattle.map_session.specs.Asked.{IsRead}
 use Rattle.map_session.specs.Said.{Says, Does}
@@ -48,16 +48,8 @@ undo_nothing h p old new [] left s text (Ok reply) w u is_text says =
     (held_same h p old new [] left u.1 u.0, says.0 ∙ ap refused_reply is_text, says.1)
 undo_nothing h p old new [] left s text (Err e) w u is_text says = held_same h p old new [] left u.1 u.0 ∙ w
 
--- for want of memory all is as before
-pub undo_kept : (h : Header) (p : Place) (old new : WholeState) (held left : List Inverse) (s : MapState) → holding h p old held ≡ s → IsUndone old new held left (Err undos.NoMemory) → holding h p new left ≡ s
-undo_kept h p old new [] left s w u = absurd u
-undo_kept h p old new (i ∷ is) left s w u = held_same h p old new (i ∷ is) left u.1 u.0 ∙ w
-
 -- ---- how much is read
 
 allowed : (s : MapState) (pasts : List Past) (a b : TallyState) → ReadsForUndo s.whole pasts a b → IsRead (undo_reads s pasts) a b
 allowed s [] a b r = r
 allowed s (p ∷ ps) a b r = r
-
-pub undo_read : (h : Header) (p : Place) (old : WholeState) (held : List Inverse) (s : MapState) (a b : TallyState) → holding h p old held ≡ s → ReadsForUndo old (pasts_from (parts_of old) held) a b → IsRead (undo_reads s s.pasts) a b
-undo_read h p old held s a b w r = subst (λ (v : MapState). IsRead (undo_reads v v.pasts) a b) w (allowed (holding h p old held) (pasts_from (parts_of old) held) a b r)

@@ -101,8 +101,9 @@ fn repair_phase<'a, K: Maker + Sync, M: Tally + Send, G: Gate + Sync, R: Threads
 
 /// Repairs all statements, depth by depth, each depth by the workers at hand; it stops at the first depth with a fault.
 ///
-/// Of each statement it gives what was made, and nothing where the statement stays as it was, which takes no look and no memory
-/// of its own. A statement takes at most 62 looks for each tile of its damage, and 1000 picks for each unit of its work.
+/// Of each statement it gives what was made, or nothing where the statement stays as it was. That such a one is passed over, with no
+/// look and no memory of its own, is its code, and no clause. Those that were looked at take together at most 62 looks for each tile
+/// of their damage, and 1000 picks for each unit of their work.
 ///
 /// # Errors
 ///

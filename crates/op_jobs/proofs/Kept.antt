@@ -30,7 +30,8 @@ use Rattle.op_jobs.specs.Owning.{IsOwn, IsWholeJob, reached}
 use Rattle.op_jobs.specs.Pieces.{IsWholeMade, IsWholePiece, IsWholeRepaired}
 use Rattle.op_jobs.specs.Repairs.{IsRepairOf}
 use Rattle.op_jobs.specs.Sound.{StatementJobs, IsSound, IsPiece, IsPieceOf, ArePieces, now_in}
-use Rattle.op_jobs.specs.Whole.{IsRightBefore, IsWholeAnswer, count_any}
+use Rattle.damage_sets.specs.Counted.{count_any}
+use Rattle.op_jobs.specs.Whole.{IsRightBefore, IsWholeAnswer}
 use Rattle.op_jobs.specs.Zonal.{IsRightBook}
 use Rattle.op_jobs.specs.declared.beside.Beside.{Beside}
 use Rattle.op_jobs.specs.declared.beside.Beside.TheVariants.{Nothing, Book, Viewers}

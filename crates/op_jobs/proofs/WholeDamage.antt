@@ -25,7 +25,7 @@ use Rattle.map_waves.specs.Operands.{IsOperand}
 use Rattle.map_waves.specs.Statements.{cells_were, made, damage_by}
 use Rattle.op_jobs.specs.Classes.{is_nearest_in}
 use Rattle.op_jobs.specs.Owning.{reached}
-use Rattle.op_jobs.specs.Whole.{has_in, count_any}
+use Rattle.damage_sets.specs.Counted.{has_in, count_any}
 use Rattle.op_jobs.proofs.Listing.{filter_all, filter_has, passes, tests_same}
 use Rattle.op_jobs.proofs.Quiet.{has_one}
 use Rattle.op_jobs.proofs.WholeTiles.{has_changed_tile}

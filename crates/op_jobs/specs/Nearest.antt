@@ -18,7 +18,7 @@ use Rattle.map_waves.specs.declared.keeping.Kept.{Kept}
 use Rattle.map_waves.specs.declared.keeping.Made.{Made}
 use Rattle.op_jobs.specs.Beside.{AreCosts, costs_at}
 use Rattle.op_jobs.specs.Owning.{reached}
-use Rattle.op_jobs.specs.Whole.{count_any}
+use Rattle.damage_sets.specs.Counted.{count_any}
 use Rattle.op_jobs.specs.declared.beside.Beside.{Beside}
 use Rattle.op_jobs.specs.declared.lists.FreshLayer.{FreshLayer}
 use Rattle.op_jobs.specs.declared.lists.LayerList.TheVariants.{Nearest as NearestOf}

@@ -1,17 +1,15 @@
 -- A statement whose layer is repaired whole: flow, spreading, regions, nearest sources.
-use Rattle.std.specs.Prelude.{◌≡◌, ℕ, Bool, false, ◌||◌, is_some, List, length, filter, Option, Some, None, IsSome, Result, Ok, Err, ⊤}
+use Rattle.std.specs.Prelude.{◌≡◌, ℕ, List, Option, Some, None, IsSome, Result, Ok, Err, ⊤}
 use Rattle.std.specs.List.{All, position}
 use Rattle.map_nums.specs.Answers.{is_wide}
 use Rattle.map_nums.specs.Grids.{Size, Cells}
-use Rattle.map_nums.specs.Tiles.{tiles}
 use Rattle.map_defs.specs.Ops.{Op}
 use Rattle.layer_tiles.specs.Changes.{ChangeState}
 use Rattle.layer_tiles.specs.Operands.{cells_after}
 use Rattle.layer_tiles.specs.Layers.{LayerState}
-use Rattle.layer_tiles.specs.Patches.{PatchState, patch_get}
+use Rattle.layer_tiles.specs.Patches.{PatchState}
 use Rattle.layer_tiles.specs.declared.kernels.KernelRefusal.{KernelRefusal}
 use Rattle.layer_tiles.specs.declared.kernels.KernelRefusal.TheVariants.{Overflow, NoMemory}
-use Rattle.damage_sets.specs.Sets.{TileSetState, has_tile}
 use Rattle.map_waves.specs.Statements.{cells_were, made}
 use Rattle.op_jobs.specs.Pieces.{IsWholeMade}
 
@@ -31,12 +29,3 @@ abbrev pub IsWholeAnswer : Size → Op → Option Cells → List ChangeState →
 IsWholeAnswer s op was operands (Ok r) = IsWholeMade s op was operands r.0 r.1
 IsWholeAnswer s op was operands (Err (Overflow at)) = position is_wide (made s op (cells_after operands)) ≡ Some at
 IsWholeAnswer s op was operands (Err NoMemory) = ⊤
-
--- there is a patch, and it has tile t
-abbrev pub has_in : Option PatchState → ℕ → Bool
-has_in None t = false
-has_in (Some p) t = is_some (patch_get p.tiles t)
-
--- how many tiles a set, a patch or a further patch has
-abbrev pub count_any : TileSetState → PatchState → Option PatchState → ℕ
-count_any set patch further = length (filter (λ t. has_tile set t || (has_in further t || is_some (patch_get patch.tiles t))) (tiles patch.size))

@@ -44,7 +44,7 @@ pub enum Part {
     Costs(CostBand),
     /// The same, and the numbers of the nearest sources by such paths.
     Nearest(NearestBand),
-    /// The flow of a band of rows, as far as it comes from these.
+    /// A band of rows in which places may have passed on what they have.
     Flows(FlowBand),
     /// The labels of the regions within a band of rows.
     Labels(LabelBand),

@@ -25,7 +25,6 @@ mod statements;
 mod tiles;
 mod weights;
 mod whole;
-mod whole_damage;
 mod whole_flow;
 mod whole_jobs;
 mod whole_nearest;

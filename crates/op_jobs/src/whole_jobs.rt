@@ -10,7 +10,7 @@ ghost use Rattle.map_waves.specs.declared.keeping.Made.{Made};
 ghost use Rattle.op_jobs.specs.Beside.{layer_in};
 ghost use Rattle.op_jobs.specs.Pieces.{IsWholePiece};
 ghost use Rattle.op_jobs.specs.Sound.{IsSound, damage_in};
-ghost use Rattle.op_jobs.specs.Whole.{count_any};
+ghost use Rattle.damage_sets.specs.Counted.{count_any};
 ghost use Rattle.op_jobs.specs.declared.beside.Beside.{Beside};
 ghost use Rattle.op_jobs.specs.declared.own.Own.TheVariants.{Whole};
 ghost use Rattle.op_jobs.specs.declared.own.Repair.TheVariants.{Alone, Nearest};
@@ -21,9 +21,8 @@ use crate::operands::both_of;
 use crate::own::{Lone, Own, Repair, WholeJob};
 use crate::pieces::Piece;
 use crate::whole::repair_whole;
-use crate::whole_damage::count_damage;
 use crate::whole_nearest::{nearest_of, repair_nearest};
-use damage_sets::TileSet;
+use damage_sets::{TileSet, count_any};
 use layer_tiles::{Extent, KernelRefusal, Layer, Patch, Tally};
 use map_nums::NoMemory;
 use map_waves::{Jobs, Kept, Made};
@@ -45,7 +44,7 @@ fn made_alone(touched: &TileSet, patch: Patch, worked: u64) -> Made<Beside>
     requires { touched.now.size ≡ patch.size }
     ensures { result ≡ record { patch = patch; beside = Beside.Nothing; evaluated = count_any touched.now patch None; worked = worked } }
 {
-    let evaluated = count_damage(touched, &patch, None);
+    let evaluated = count_any(touched, &patch, None);
     Made {
         patch,
         beside: Beside::Nothing,

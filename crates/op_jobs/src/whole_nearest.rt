@@ -12,8 +12,7 @@ ghost use Rattle.op_jobs.specs.Nearest.{HasCosts, AreHanded, CanTake, AreCommitt
 ghost use Rattle.op_jobs.specs.Pieces.{IsWholeRepaired};
 
 use crate::beside::Beside;
-use crate::whole_damage::count_damage;
-use damage_sets::TileSet;
+use damage_sets::{TileSet, count_any};
 use friction_neighbor::{Nearest, NearestRepair, neighbor_repair};
 use layer_tiles::{Change, Layer, Patch, Tally, Value};
 use map_nums::NoMemory;
@@ -72,10 +71,11 @@ fn made_nearest(
     repair: NearestRepair,
 ) -> Result<Made<Beside>, NoMemory>
     requires size { touched.now.size ≡ repair.value.size }
+    requires cost { touched.now.size ≡ repair.cost.size }
     requires old { CanTake (option_copied old) repair.cost }
     ensures { IfOk result (IsNearestMade touched.now (option_copied old.entry) repair) }
 {
-    let evaluated = count_damage(touched, &repair.value, Some(&repair.cost));
+    let evaluated = count_any(touched, &repair.value, Some(&repair.cost));
     let costs = costs_after(alloc, old, repair.cost)?;
     Ok(Made {
         patch: repair.value,

@@ -7,11 +7,11 @@ use Rattle.std.proofs.lemmas.Nat.{div-mul-add, mod-mul-add, div-add-mod', mod_be
 use Rattle.map_nums.specs.Grids.{Size, IsSize, Cells, cell_at, cells_in, row_of, column_of, gap, is_neighbour}
 use Rattle.region_labels.specs.Flood.{is_marked, Holds, FloodState, reached, IsRoundTo, IsGrown}
 use Rattle.region_labels.specs.Lists.{ListState, labelled, flood_of, MayGet}
-use Rattle.region_labels.specs.Runs.{IsRunTo, IsBareFrom, IsRunIn, IsClose, IsRunGrown, IsRunRow, IsRunRowTo, IsRunRound}
+use Rattle.region_labels.specs.Runs.{IsRunTo, IsBareFrom, IsRunIn, IsClose, IsRunGrown, IsRunRowTo, IsRunRound}
 use Rattle.region_labels.proofs.Walks.{near_is}
 use Rattle.region_labels.proofs.Flooding.{grown_then, grown_reached, reached_marked, holds_kept, holds_last}
 use Rattle.region_labels.proofs.Rows.{IsPlace, place_of}
-use Rattle.region_labels.proofs.Listing.{labelled_at, flood_reached, may_stay, may_then, may_added}
+use Rattle.region_labels.proofs.Listing.{labelled_at, flood_reached, may_then, may_added}
 
 -- ---- places along a row
 
@@ -43,23 +43,12 @@ grown_on s cells value from via a b c g held h = record {
   stays = λ k l. h.stays k (omega (arith, l, g.grows)) ∙ g.stays k l;
 }
 
-grown_none : (s : Size) (cells : Cells) (value : Option ℤ) (from : ℕ) (a : FloodState) → IsGrown s cells value from a a
-grown_none s cells value from a = record { floods = λ z root before e p m. p; marked = λ i e. e; extent = refl; size = refl; grows = omega arith; stays = λ k l. refl }
-
 -- what a run from place `at` to before place j leaves
 pub record IsRunning (s : Size) (cells : Cells) (value label : Option ℤ) (at j : ℕ) (old l : ListState) : Type 0 where
   pub grown : (from : ℕ) → IsClose s from at → IsGrown s cells value from (flood_of old) (flood_of l)
   pub labels : MayGet label old.labels l.labels
   pub marked : (k : ℕ) → at ≤ k → k < j → is_marked (labelled l.labels) k ≡ true
   pub last : at < j → Holds l.found (j - 1)
-
-pub run_begun : (s : Size) (cells : Cells) (value label : Option ℤ) (at : ℕ) (l : ListState) → IsRunning s cells value label at at l l
-run_begun s cells value label at l = record {
-  grown = λ from h. grown_none s cells value from (flood_of l);
-  labels = may_stay label l.labels;
-  marked = λ k h l. absurd (omega (arith, h, l));
-  last = λ h. absurd (omega (arith, h));
-}
 
 module _ (s : Size) (cells : Cells) (value label : Option ℤ) (at j : ℕ) (old l new : ListState) (size : IsSize s) (some : IsSome label) (from_at : at ≤ j) (in_it : j < (row_of s at + 1) * s.columns) (within : j < cells_in s) (full : length l.labels ≡ cells_in s) (none : is_some (cell_at l.labels j) ≡ false) (same : cell_at cells j ≡ value) (is : new ≡ record l { labels = slice_set l.labels j label; found = l.found ++ j ∷ [] }) (h : IsRunning s cells value label at j old l) where
   reaches : flood_of new ≡ reached cells value j (flood_of l)
@@ -148,9 +137,6 @@ run_grown_from s cells value at count row next a b c size some run close r l m g
     let k_is : at + k - at ≡ k = omega arith in
     run_grown_then s cells value at count a b c g (run_grown_one s cells value at count k b c n.0 (h (at + k) (omega (arith, w.0, close, r), omega (arith, w.1, k_is, n.1))))
 
-pub run_row_begun : (s : Size) (cells : Cells) (value : Option ℤ) (at count row next : ℕ) (marks : List Bool) → next ≡ row * s.columns + (column_of s at - 1) → IsRunRowTo s cells value at count row next marks
-run_row_begun s cells value at count row next marks e j l r a b v k = absurd (omega (arith, in_row s j row r, e, a, k))
-
 pub run_row_more : (s : Size) (cells : Cells) (value : Option ℤ) (at count row next end stop : ℕ) (old new : List Bool) → IsSize s → end ≡ row * s.columns + s.columns → ((i : ℕ) → is_marked old i ≡ true → is_marked new i ≡ true) → IsRunTo cells value next end stop new → IsRunRowTo s cells value at count row next old → IsRunRowTo s cells value at count row (stop + 1) new
 run_row_more s cells value at count row next end stop old new size e more run near j l r a b v k = elim (cases_lt j next) as (λ _. is_marked new j ≡ true) [
   | inl m ↦ more j (near j l r a b v m)
@@ -161,9 +147,6 @@ run_row_more s cells value at count row next end stop old new size e more run ne
         subst P is (run.stopped (omega (arith, is, in_row s j row r, column_lt s j size, e)) (ap (cell_at cells) is ∙ v)))
   ]
 ]
-
-pub run_row_done : (s : Size) (cells : Cells) (value : Option ℤ) (at count row next high : ℕ) (marks : List Bool) → IsSize s → high ≡ row * s.columns + min (column_of s at + count + 1) s.columns → high ≤ next → IsRunRowTo s cells value at count row next marks → IsRunRow s cells value at count row marks
-run_row_done s cells value at count row next high marks size e l near j w r a b v = near j w r a b v (omega (arith, in_row s j row r, column_lt s j size, e, l, b))
 
 -- ---- a run has no further neighbour
 

@@ -1,14 +1,14 @@
 -- Rows that are made cell by cell, and tiles that are made row by row.
-use Rattle.std.proofs.Common.{◌≡◌, ◌≢◌, ℕ, ◌+◌, ◌-◌, ◌*◌, ◌<◌, ◌≤◌, length, get_or, set, IsTrue, IsFalse, Option, None, ℤ, Result, Ok, Err, IfOk, refl, sym, ◌∙◌, ap, subst, arith, below_more, ⊎_elim, inl, Bool, true, false, min, if◌then◌else◌}
+use Rattle.std.proofs.Common.{◌≡◌, ◌≢◌, ℕ, ◌+◌, ◌-◌, ◌*◌, ◌<◌, ◌≤◌, length, get_or, set, IsTrue, IsFalse, Option, None, ℤ, Result, Ok, Err, IfOk, refl, sym, ◌∙◌, ap, subst, arith, below_more, ⊎_elim, Bool, true, false, min, if◌then◌else◌}
 use Rattle.std.specs.Result.{is_err}
 use Rattle.std.proofs.lemmas.Bool.{cases_lt}
 use Rattle.std.proofs.lemmas.List.{get_or-set_same, get_or-set_other, length-set}
 use Rattle.std.proofs.lemmas.Nat.{mul-add-lt, div-mul-add, mod-mul-add}
 use Rattle.map_nums.specs.Answers.{is_wide}
 use Rattle.map_nums.specs.Exact.{IsExact}
-use Rattle.map_nums.specs.Grids.{Size, Cells, cell_at}
+use Rattle.map_nums.specs.Grids.{Size, Cells}
 use Rattle.map_nums.specs.declared.Wide.{Wide}
-use Rattle.layer_tiles.specs.Tiles.{Block, IsRowSet, tile_start, tile_top, tile_left, tile_height, tile_width}
+use Rattle.layer_tiles.specs.Tiles.{Block, tile_start, tile_top, tile_left, tile_height, tile_width}
 use Rattle.layer_tiles.specs.PlaceByPlace.{IsPlaceRefusal, IsLeastPlace, IsMade}
 use Rattle.layer_tiles.specs.declared.kernels.KernelRefusal.{KernelRefusal}
 use Rattle.layer_tiles.specs.declared.kernels.KernelRefusal.TheVariants.{Overflow}
@@ -50,19 +50,6 @@ row_more value width height r c old made new cell m w count p q a n =
 pub row_put : (value : ℕ → Option ℤ) (width height r c at : ℕ) (old made new : Block) (answer : Result (Option ℤ) Wide) → IsRowMade value width r c old made → old.width ≡ width → length old.cells ≡ height * width → r < height → c < width → IsExact (value c) answer → IfOk answer (λ cell. new ≡ record made { cells = set made.cells (r * made.width + c) cell }) → refused_at at answer ≡ Ok tt → IsRowMade value width r (c + 1) old new
 row_put value width height r c at old made new (Ok cell) m w count p q a n e = row_more value width height r c old made new cell m w count p q a n
 row_put value width height r c at old made new (Err wide) m w count p q a n e = cc
-
--- the cells of a row were set to its values
-pub row_set : (value : ℕ → Option ℤ) (width r : ℕ) (row : Cells) (old new : Block) → old.width ≡ width → IsRowSet r row old new → ((c : ℕ) → c < width → cell_at row c ≡ value c) → ((c : ℕ) → c < width → IsFalse (is_wide (value c))) → IsRowMade value width r width old new
-row_set value width r row old new w set same ranged =
-    let here : (c : ℕ) → c < width → cell_at new.cells (r * old.width + c) ≡ cell_at row c = λ c l. set.here c (omega (arith, l, w)) in
-    record {
-      height_stays = set.height_stays;
-      width_stays = set.width_stays;
-      count = set.count;
-      above = λ k l. set.other k (inl (subst (λ j. k < r * j) (sym w) l));
-      done = λ c l. ap (λ j. cell_at new.cells (r * j + c)) (sym w) ∙ here c l ∙ same c l;
-      in_range = ranged;
-    }
 
 -- one more cell of a list
 cells_more : (value : ℕ → Option ℤ) (c : ℕ) (cells : Cells) (cell : Option ℤ) → AreCellsOf value c cells → c < length cells → cell ≡ value c → IsFalse (is_wide (value c)) → AreCellsOf value (c + 1) (set cells c cell)

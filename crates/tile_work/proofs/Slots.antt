@@ -1,9 +1,9 @@
 -- The cells that copied tiles and an old layer show.
-use Rattle.std.proofs.Common.{◌≡◌, ◌≢◌, ◌⊎◌, inl, inr, ℕ, zero, suc, ◌+◌, ◌*◌, ◌/◌, ◌%◌, ◌<◌, Bool, true, false, List, [], ◌∷◌, ◌++◌, length, map, get_or, replicate, Option, Some, None, refl, sym, ◌∙◌, ap, subst, arith, ℤ, cond}
+use Rattle.std.proofs.Common.{◌≡◌, ◌≢◌, ◌⊎◌, inl, inr, ℕ, zero, suc, ◌+◌, ◌*◌, ◌/◌, ◌%◌, ◌<◌, Bool, true, false, List, [], ◌∷◌, length, map, get_or, replicate, Option, Some, None, refl, sym, ◌∙◌, ap, subst, arith, ℤ, cond}
 use Rattle.std.specs.Prelude.{slice_set, is_some, IfSome}
 use Rattle.std.proofs.lemmas.Bool.{cases_eq, cases_lt}
 use Rattle.std.proofs.lemmas.Nat.{div-mul-add, mod-mul-add, mul-add-lt}
-use Rattle.std.proofs.lemmas.List.{get_or_past, get_or-set_same, get_or-set_other, length-set, set-get_or, map-set, get_or-map, get_or-replicate, length-replicate, replicate-append-replicate, ext_get_or}
+use Rattle.std.proofs.lemmas.List.{get_or_past, get_or-set_same, get_or-set_other, length-set, set-get_or, map-set, get_or-map, get_or-replicate, length-replicate, ext_get_or}
 use Rattle.std.proofs.lemmas.List.Folds.{sum_by-replicate}
 use Rattle.std.proofs.lemmas.List.Sums.{sum_by-set}
 use Rattle.std.proofs.lemmas.List.FromFn.{get_or-map-range_with_len, length-map-range_with_len}
@@ -161,9 +161,6 @@ map_none (suc n) = ap (λ xs. false ∷ xs) (map_none n)
 pub no_copies : (n : ℕ) → copies (map is_some (replicate n none_block)) ≡ 0
 no_copies n = rw (map_none n) (sum_by-replicate (λ b. cond b 1 0) n false ∙ omega arith)
 
-pub replicate_push : (n : ℕ) → replicate n none_block ++ None ∷ [] ≡ replicate (n + 1) none_block
-replicate_push n = replicate-append-replicate n 1 none_block
-
 -- ---- tiles
 
 abbrev null_cell : Option ℤ
@@ -210,9 +207,6 @@ copies_set copied t l e =
     let h = sum_by-set f copied t true false l in
     let w : f (get_or copied t false) ≡ 0 = rw (e) refl in
     omega (arith, h, w)
-
-pub copies_same : (copied : List Bool) (t : ℕ) → get_or copied t false ≡ true → slice_set copied t true ≡ copied
-copies_same copied t e = ap (λ v. slice_set copied t v) (sym e) ∙ set-get_or copied t false
 
 -- a tile that is copied after a write was so before, or is the one written
 pub copied_for : (copied : List Bool) (t u : ℕ) → get_or (slice_set copied t true) u false ≡ true → (get_or copied u false ≡ true) ⊎ (u ≡ t)

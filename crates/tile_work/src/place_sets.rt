@@ -30,6 +30,10 @@ impl Model for PlaceSet {
 
 impl PlaceSet {
     /// No place of a grid.
+    ///
+    /// # Errors
+    ///
+    /// `NoMemory`.
     pub fn new(alloc: Global, extent: Extent) -> Result<PlaceSet, NoMemory>
         ensures { IfOk result (λ p. p ≡ record { size = extent; marks = replicate (cells_in extent) false }) }
     {
@@ -78,6 +82,10 @@ impl PlaceSet {
     }
 
     /// Marks a place.
+    ///
+    /// # Errors
+    ///
+    /// `NoMemory`, and no place is marked that was not.
     pub fn add(&mut self, at: u32) -> Result<(), NoMemory>
         requires { at < cells_in self.old.size }
         ensures ok { OnOk result (self.new ≡ record self.old { marks = slice_set self.old.marks at true }) }
@@ -89,6 +97,10 @@ impl PlaceSet {
     }
 
     /// Marks the place of a row and a column.
+    ///
+    /// # Errors
+    ///
+    /// `NoMemory`, and no place is marked that was not.
     pub fn add_at(&mut self, row: u32, column: u32) -> Result<(), NoMemory>
         requires row { row < self.old.size.rows }
         requires column { column < self.old.size.columns }

@@ -77,6 +77,10 @@ impl<'a> Working<'a> {
 
 impl<'a> Working<'a> {
     /// A working layer over an old one, or over nothing: null everywhere.
+    ///
+    /// # Errors
+    ///
+    /// `NoMemory`.
     pub fn new(
         alloc: Global,
         extent: Extent,
@@ -102,6 +106,10 @@ impl<'a> Working<'a> {
     }
 
     /// Writes a cell. One look where its tile is written for the first time.
+    ///
+    /// # Errors
+    ///
+    /// `NoMemory`, and nothing is written.
     pub fn set<M: Tally>(&mut self, at: u32, cell: Cell, tally: &mut M) -> Result<(), NoMemory>
         requires { at < cells_in self.old.size }
         ensures ok { OnOk result (self.new ≡ written self.old at cell) }
@@ -121,6 +129,10 @@ impl<'a> Working<'a> {
     }
 
     /// Writes a cell where it is not the one that stands there. One look where its tile is written for the first time.
+    ///
+    /// # Errors
+    ///
+    /// `NoMemory`, and nothing is written.
     pub fn put<M: Tally>(&mut self, at: u32, cell: Cell, tally: &mut M) -> Result<(), NoMemory>
         requires { at < cells_in self.old.size }
         ensures same { IsSameWork self.old self.new }
@@ -139,6 +151,10 @@ impl<'a> Working<'a> {
     }
 
     /// The tiles that hold a changed cell; where there was no layer, all tiles. One look at most for each copied tile.
+    ///
+    /// # Errors
+    ///
+    /// `NoMemory`.
     pub fn into_patch<M: Tally>(self, tally: &mut M) -> Result<Patch, NoMemory>
         ensures size { IfOk result (λ patch. patch.size ≡ self.entry.size) }
         ensures patch { IfOk result (λ patch. IsPatchTo self.entry.size self.entry.before self.entry.cells patch.tiles) }

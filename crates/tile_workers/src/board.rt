@@ -64,7 +64,8 @@ impl Board {
         self.table.shared.fetch_add::<Draw>(&mut seat.inner, 0, 1)
     }
 
-    /// How many numbers were drawn. A seat with every share has drawn, or taken in, each of them.
+    /// How many numbers were drawn, told to a seat with every share that holds fewer than 2^64 - 1: it has drawn, or taken in, each of
+    /// them.
     pub fn close(self, seat: Seat) -> u64
         requires own { IsSeatOf self seat }
         ensures all { share seat ≡ 64 → length (drawn seat) < 2 ^ 64 - 1 → (drawn seat ≡ range_with_len 0 result) × (marked seat ≡ false) }

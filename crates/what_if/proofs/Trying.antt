@@ -7,7 +7,7 @@ use Rattle.std.proofs.lemmas.List.{length-map}
 use Rattle.std.proofs.lemmas.List.Sums.{sum_by-cons}
 use Rattle.std.proofs.lemmas.Option.{slice_get_within, get_or_from_slice_get}
 use Rattle.layer_tiles.specs.Tallies.{TallyState, RisesBy}
-use Rattle.layer_tiles.proofs.Rising.{rises_then, rises_within}
+use Rattle.layer_tiles.proofs.Rising.{rises_within}
 use Rattle.statement_parser.specs.Lines.{Item}
 use Rattle.statement_parser.specs.Formed.{Each, IsItem}
 use Rattle.statement_parser.specs.Views.{items_view, branches_view}
@@ -32,11 +32,6 @@ branch_formed (b ∷ bs) (suc k) each less = branch_formed bs k each.1 (omega (a
 
 pub branches_many : (bs : List (Vec items.Item Global)) → length (branches_view bs) ≡ length bs
 branches_many bs = length-map bs (λ (b : Vec items.Item Global). items_view b.items)
-
--- what a job tells of its own count, told to the phase's: so many looks, and then so many picks
-pub told_on : (l p : ℕ) (none counts a b c : TallyState) → none.looks ≡ 0 → none.picks ≡ 0 → RisesBy l p none counts → RisesBy counts.looks 0 a b → RisesBy 0 counts.picks b c → RisesBy l p a c
-told_on l p none counts a b c no_looks no_picks all looks picks =
-    rises_within (counts.looks + 0) (0 + counts.picks) l p a c (omega (arith, all.looks_rise, no_looks)) (omega (arith, all.picks_rise, no_picks)) (rises_then counts.looks 0 0 counts.picks a b c looks picks)
 
 -- ---- all branches
 

@@ -24,7 +24,8 @@ pub enum Seen {
     Undefined(Name),
 }
 
-/// Looks at the cell in a row and a column of a name, which count from 1. One pick, none where there is no such cell.
+/// Looks at the cell in a row and a column of a name, which count from 1. At most one look and one
+/// pick, none where the layer is undefined.
 ///
 /// # Errors
 ///

@@ -3,7 +3,6 @@ use Rattle.std.proofs.Common.{◌≡◌, ◌≢◌, inl, inr, ℕ, ◌+◌, ◌-
 use Rattle.std.specs.Prelude.{nat_le, nat_lt}
 use Rattle.std.proofs.lemmas.Int.{ints}
 use Rattle.std.proofs.lemmas.List.{drop_more}
-use Rattle.std.proofs.Math.ListN.{drop_of_length-le}
 use Rattle.std.proofs.lemmas.Bool.{cases_lt}
 use Rattle.std.proofs.lemmas.Bool.Decides.{nat_tests}
 use Rattle.map_nums.specs.Grids.{Size, IsSize, Cells, cells_in, cell_at}
@@ -212,11 +211,6 @@ module _ (s : Size) (values zones : Cells) (all : CountsState) (ranges : List Co
     },
     left.3,
   )
-
-pub done_all : (s : Size) (values zones : Cells) (all : CountsState) (ranges : List CountsState) (i : ℕ) → length ranges ≤ i → AreDone s values zones all (drop i ranges) → AreTileCounts s values zones 0 (tiles_in s) all
-done_all s values zones all ranges i h done =
-    let e : done.0 ≡ tiles_in s = subst (λ (l : List CountsState). AreRanges s values zones done.0 (tiles_in s) l) (drop_of_length-le ranges h) done.2 in
-    subst (λ (n : ℕ). AreTileCounts s values zones 0 n all) e done.1
 
 -- ---- the book of the whole
 

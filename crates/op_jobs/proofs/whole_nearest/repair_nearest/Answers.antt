@@ -16,6 +16,9 @@ use Rattle.op_jobs.proofs.whole_nearest.repair_nearest.Goals as goal
 pub made_nearest-requires-clause-size : goal.made_nearest-requires-clause-size
 made_nearest-requires-clause-size g c = reached_size c.args.sources.now.size (before_of (values_of c.args.old)) (c.args.sources.now ∷ c.args.friction.now ∷ []) c.args.touched.now c.requires.tiles ∙ sym c.in_ok-repair.ensures.sizes.1
 
+pub made_nearest-requires-clause-cost : goal.made_nearest-requires-clause-cost
+made_nearest-requires-clause-cost g c = reached_size c.args.sources.now.size (before_of (values_of c.args.old)) (c.args.sources.now ∷ c.args.friction.now ∷ []) c.args.touched.now c.requires.tiles ∙ sym c.in_ok-repair.ensures.sizes.0
+
 pub made_nearest-requires-clause-old : goal.made_nearest-requires-clause-old
 made_nearest-requires-clause-old g c =
     let so = c.args.sources.now in
