@@ -484,6 +484,12 @@ class Language(Case):
         self.assertLessEqual({'syntax', 'operation', 'number', 'long', 'unknown', 'derived', 'exists', 'size', 'limit', 'procedure', 'count', 'cycle', 'overflow',
                               'nothing'}, kinds)
 
+    def test_a_statement_that_is_named_source(self):
+        self.grid('a.asc', [[1, 2]])
+        out, _ = program(['run', '1', '-', 'A=a.asc'], b'procedure next(a): result = LocalSum of a and 1\nsource = next(A)\nlist\n', self.folder)
+        names = Names(out.decode().splitlines()[4:])
+        self.assertEqual((names.sources, names.statements, [*names.procedures]), (['A'], {'source': 'next(A)'}, ['next']))
+
     def test_nearest(self):
         self.assertEqual(nearest('elevaton', ['Cover', 'Elevation']), 'Elevation')
         self.assertIsNone(nearest('Zzz', ['Cover', 'Elevation']))

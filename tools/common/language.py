@@ -96,14 +96,14 @@ class Names:
     def __init__(self, lines=()):
         self.sources, self.statements, self.procedures = [], {}, {}
         for line in lines:
-            if line.startswith('source '):
-                self.sources.append(line.split()[1])
-            elif line.startswith('procedure '):
+            if line.startswith('procedure '):
                 head, _, body = line[len('procedure '):].partition(': ')
                 self.procedures[head.split('(')[0]] = head, body
-            elif ' = ' in line:
+            elif ' = ' in line:  # also `source = ..`, since that is no word of the language
                 name, _, body = line.partition(' = ')
                 self.statements[name] = body
+            elif line.startswith('source '):
+                self.sources.append(line.split()[1])
 
     def layers(self):
         return [*self.sources, *self.statements]
