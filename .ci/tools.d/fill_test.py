@@ -116,6 +116,15 @@ class Fill(Case):
         self.assertEqual(self.read('out.asc').decode().splitlines()[2:6], ['xllcorner 100', 'yllcorner 200.5', 'cellsize 10', 'NODATA_value -1000000000000001'])
         self.assertEqual(self.read('out.prj'), b'a projection')
 
+    def test_a_projection_that_is_there_by_a_link(self):
+        self.write('in.prj', 'a projection')
+        os.link(self.path('in.prj'), self.path('out.prj'))
+        os.symlink('.', self.path('here'))
+        self.grid('in.asc', [[5]])
+        for path in ('out.asc', 'here/in.asc', './in.asc'):
+            self.assertEqual(tool('fill', 'in.asc', path, folder=self.folder), (f'{path}: 0 of 1 cells raised\n'.encode(), '', 0))
+        self.assertEqual(self.read('in.prj'), b'a projection')
+
     def test_refused(self):
         self.refused('fill', 'in.asc', 'out.asc', saying='in.asc: No such file')
         self.write('in.asc', grid_text([[1, 2], [3, 4]]).replace('3', '3.5'))

@@ -366,6 +366,7 @@ class Own(Talk):
         os.remove(self.path('a.prj'))
         self.assertEqual(terminal.line('.save Wet other.asc'), ['  # other.asc: 2 rows, 2 columns'])
         self.assertEqual(terminal.line('.save Wet none/wet.asc'), ['  # none/wet.asc: No such file or directory'])
+        self.assertEqual(terminal.line('.save Wet /dev/full'), ['  # No space left on device'])
         self.assertEqual(terminal.line('.save Wt wet.asc')[0], 'undefined Wt: Wt')
         self.assertFalse(os.path.exists(self.path('wet.asc')))
 

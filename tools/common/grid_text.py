@@ -1,5 +1,6 @@
 """Grids in the Arc/Info ASCII text: read as the program reads them, printed as it prints them."""
 
+import contextlib
 import math
 import os
 import re
@@ -167,6 +168,6 @@ def carry_projection(of, to):
     source, target = projection_beside(of), projection_beside(to)
     if not os.path.isfile(source):
         return False
-    if os.path.abspath(source) != os.path.abspath(target):
+    with contextlib.suppress(shutil.SameFileError):
         shutil.copyfile(source, target)
     return True

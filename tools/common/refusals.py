@@ -8,6 +8,11 @@ class Refused(Exception):
     """What is wrong, in a sentence."""
 
 
+def sentence(error):
+    """What a file that fails says; which file, where that is known."""
+    return f'{error.filename}: {error.strerror}' if error.filename else error.strerror
+
+
 def run(name, main):
     """Calls main; the status is 0, or 2 after a sentence on standard error."""
     try:
@@ -19,7 +24,7 @@ def run(name, main):
         os.dup2(os.open(os.devnull, os.O_WRONLY), sys.stdout.fileno())  # so that nothing is told as the interpreter ends
         sys.exit(2)
     except OSError as error:
-        fail(name, f'{error.filename}: {error.strerror}' if error.filename else error.strerror)
+        fail(name, sentence(error))
     except KeyboardInterrupt:
         sys.exit(130)
 
