@@ -3,7 +3,7 @@
 import os
 from random import Random
 
-from support import TOP, Case, functions, grid_of, grid_text, program, rows_of, tool
+from support import TOP, Case, functions, grid_of, grid_text, process, program, rows_of, tool
 
 UNREACHED = 10 ** 12
 AROUND = [(down, right) for down in (-1, 0, 1) for right in (-1, 0, 1) if down or right]
@@ -115,6 +115,13 @@ class Fill(Case):
         self.assertEqual(self.filled([*rows[:2], [5, 5, 5], rows[2]], null=6), [[5, 5, 5], [5, 6, 5], [5, 5, 5], [5, None, 5]])
         self.assertEqual(self.read('out.asc').decode().splitlines()[2:6], ['xllcorner 100', 'yllcorner 200.5', 'cellsize 10', 'NODATA_value -1000000000000001'])
         self.assertEqual(self.read('out.prj'), b'a projection')
+
+    def test_a_name_that_is_no_text(self):
+        name = os.fsdecode(b'f\xfclled.asc')
+        self.grid('in.asc', [[5]])
+        for variables in ({}, {'PYTHONIOENCODING': 'utf-8:strict'}):
+            told = process('fill', 'in.asc', name, folder=self.folder, **variables)
+            self.assertEqual(told, (b'f\xfclled.asc: 0 of 1 cells raised\n', '', 0))
 
     def test_a_projection_that_is_there_by_a_link(self):
         self.write('in.prj', 'a projection')

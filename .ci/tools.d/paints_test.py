@@ -1,8 +1,9 @@
 """tools/paints: its lines, played on the old grid by hand and by the program, give the new one."""
 
+import os
 from random import Random
 
-from support import Case, functions, grid_of, program, rows_of, tool
+from support import TOOLS, Case, call, functions, grid_of, program, rows_of, tool
 
 
 def painted(rows, rectangles):
@@ -84,6 +85,14 @@ class Paints(Case):
             self.refused('paints', 'old.asc', 'old.asc', name, saying=f"'{name}' can't be a layer's name")
         self.write('new.asc', 'ok 1 changed 0 evaluated 0 worked 0\n')
         self.refused('paints', 'old.asc', 'new.asc', 'A', saying="'ok' is no key of a grid's header")
+
+    def test_closed_outputs(self):
+        """Nothing that is told comes among the lines, and lines that can't be written are no success."""
+        self.grid('old.asc', [[1, 2]])
+        self.grid('new.asc', [[1, 3]], header='xllcorner 110\nyllcorner 200.5\ncellsize 10\n')
+        paints = os.path.join(TOOLS, 'paints') + ' old.asc new.asc A '
+        self.assertEqual(call('bash', '-c', paints + '2>&-', folder=self.folder), (b'paint A 1 2 1 2 3\n', '', 0))
+        self.assertEqual(call('bash', '-c', paints + '>&-', folder=self.folder), (b'', 'paints: standard output is closed\n', 2))
 
     def test_a_grid_elsewhere_is_told(self):
         self.grid('old.asc', [[1, 2]])

@@ -34,7 +34,7 @@ def process(name, *words, **rest):
 def tool(name, *words, given=b'', folder='.'):
     """The same of a tool that is called within this process, which is faster."""
     from common.refusals import run
-    out, told, status, here, saved = io.StringIO(), io.StringIO(), 0, os.getcwd(), (sys.argv, sys.stdin)
+    out, told, status, here, saved = io.TextIOWrapper(io.BytesIO(), write_through=True), io.StringIO(), 0, os.getcwd(), (sys.argv, sys.stdin)
     sys.argv, sys.stdin = [name, *map(str, words)], io.TextIOWrapper(io.BytesIO(given))
     os.chdir(folder)
     try:
@@ -45,7 +45,7 @@ def tool(name, *words, given=b'', folder='.'):
     finally:
         os.chdir(here)
         sys.argv, sys.stdin = saved
-    return out.getvalue().encode(), told.getvalue(), status
+    return out.buffer.getvalue(), told.getvalue(), status
 
 
 @functools.cache

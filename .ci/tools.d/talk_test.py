@@ -87,6 +87,8 @@ class Answers(Talk):
                              (['run', '1', '-', 'Heights=none.asc'], b''), (['sample', '1', '3'], b''), (['run'], b''), (['x', '-y'], b'')):
             out, _, status = process('talk', *words, given=given, folder=self.folder)
             self.assertEqual((out, status), program(words, given, self.folder))
+        closed = call('bash', '-c', os.path.join(TOOLS, 'talk') + ' run 1 - Heights=a.asc <&-', folder=self.folder)
+        self.assertEqual((closed[0], closed[2]), (b'ok 1 changed 1 evaluated 1 worked 0\n', 5))
 
     def test_lines_of_any_kind(self):
         """Lines without an answer, and lines that the shell or the terminal might take for something else."""

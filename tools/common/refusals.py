@@ -15,7 +15,12 @@ def sentence(error):
 
 def run(name, main):
     """Calls main; the status is 0, or 2 after a sentence on standard error."""
+    if sys.stderr is None:  # it is closed; what is told would go to standard output
+        sys.stderr = open(os.devnull, 'w')
     try:
+        if sys.stdout is None:
+            raise Refused('standard output is closed')
+        sys.stdout.reconfigure(errors='surrogateescape')  # the name of a file may be no text
         main()
         sys.stdout.flush()
     except Refused as refused:
