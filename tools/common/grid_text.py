@@ -43,9 +43,10 @@ def whole(token):
     if not WHOLE.fullmatch(token):
         return None
     number = token.partition(b'.')[0]
-    if len(number.lstrip(b'+-').lstrip(b'0')) > 18:
+    digits = number.lstrip(b'+-').lstrip(b'0')
+    if len(digits) > 18:
         return math.inf
-    return int(number)
+    return int(digits or b'0') * (-1 if number.startswith(b'-') else 1)
 
 
 def readable(token):
