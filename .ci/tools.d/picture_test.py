@@ -2,7 +2,7 @@
 
 import os
 import shutil
-from unittest import skipUnless
+from unittest import mock, skipUnless
 
 from png import decode
 from support import TOP, Case, call, grid_text, program, tool
@@ -130,6 +130,12 @@ class Picture(Case):
         for text in ('NROWS 1 NCOLS\n2 cellsize 1 xllcorner 0 yllcorner 0\n5\n6', 'ncols 2\nnrows 1\nxllcorner 0\nyllcorner 0\ncellsize 1\n5\n6\n\n'):
             self.write('a.asc', text)
             self.assertEqual(self.picture('a.asc', '--pixels', 1), [[FIRST, SECOND]])
+
+    def test_replies_that_are_longer_than_a_grid_may_be(self):
+        first, last = (grid_text([row], null=-1000000000000001) for row in ([5, 6], [7, 7, 7]))
+        self.write('replies', first + 'value A 1 1 5\n' * 99 + last)
+        with mock.patch('common.grid_text.MOST_BYTES', 500):
+            self.assertEqual(self.picture('replies', '--pixels', 1), [[FIRST] * 3])
 
     def test_legend_of_classes(self):
         """A swatch of 18 pixels with an edge stands 10 pixels from the map; each text begins 10 pixels from it, two pixels a dot."""
