@@ -194,6 +194,8 @@ class Picture(Case):
         self.refused('picture', 'a.asc', out, '--classes', '--colours', 'short', saying='there is no colour for the value 2')
         self.refused('picture', 'a.asc', out, '--colours', 'wrong', saying='wrong, line 2: a colour is')
         self.refused('picture', 'a.asc', 'none/out.png', saying='none/out.png: No such file')
+        self.grid('wide.asc', [[1] * 4096] * 6)
+        self.refused('picture', 'wide.asc', out, '--pixels', 64, saying='the picture would have 262144 by 384 pixels')
         for words in (('--pixels', 0), ('--flow', '--colours', 'short'), ('--flow', '--ramp'), ('--since', 1, '--before', 'a.asc')):
             self.assertEqual(tool('picture', 'a.asc', out, *words, folder=self.folder)[2], 2)
         self.assertFalse(os.path.exists(self.path(out)))
