@@ -210,6 +210,15 @@ class Refusals(Talk):
         self.assertEqual(terminal.line('show é')[:2], ['       ^', 'refused syntax 6'])
         self.assertIn('refused syntax 7', terminal.line('grid A\xff'.encode('latin-1')))
 
+    def test_caret_behind_tabs(self):
+        """A tab takes the columns up to the next eighth one, with the prompt's two."""
+        terminal = self.begun(columns=60)
+        self.assertEqual(terminal.line('W =\x16\tLocalSun of Heights'), ['        ^', 'refused operation 5', '  # LocalSun is no operation; did you mean LocalSum?'])
+        self.assertEqual(terminal.line('\x16\t' * 7 + 'Wt 1')[:2], ['  ' + ' ' * 27 + 'Wt 1', '  ' + ' ' * 30 + '^'])
+        self.write('my.model', '\tWet =\tLocalSun of Heights')
+        shown, _ = self.talk('run', '1', 'my.model', 'Heights=a.asc').end()
+        self.assertEqual(shown[-4:-2], ['  my.model:1:   Wet =   LocalSun of Heights', ' ' * 24 + '^'])
+
     def test_caret_of_a_long_line(self):
         """Where the line doesn't fit, the part around the column stands above the caret."""
         terminal = self.begun(columns=40)
