@@ -204,6 +204,14 @@ class Refusals(Talk):
                 self.assertEqual(shown[:2], [' ' * (2 + column - 1) + '^', f'refused {reply} {column}'], line)
             self.assertEqual(shown[2], f'  # {sentence}')
 
+    def test_sentences_of_zones_and_texts(self):
+        terminal = self.begun(columns=400)
+        for line, sentence in (
+                ('Wet = ZonalSum of Heights within 1000000000000001', 'a cell is a number from -1000000000000000 to 1000000000000000, or null'),
+                ('Wet = FocalProximity of Heights within -1', 'the reach of a view is 1 to 64, the limit of a way 0 to 1000000000000000'),
+                ('label Heights 1 ' + 'long text ' * 7, "a label's text has at most 64 bytes"), ('symbol Heights 1 ab', 'a symbol is one byte')):
+            self.assertEqual(terminal.line(line)[2], f'  # {sentence}')
+
     def test_column_after_a_letter_of_two_bytes(self):
         """The program counts bytes: the letter is at 6, and what follows would be at 8. On the screen it takes one column."""
         terminal = self.begun()

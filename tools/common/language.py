@@ -45,6 +45,7 @@ TOO_MANY_BRANCHES = f'a line has at most {MOST_BRANCHES} branches'
 LATE_MODEL = 'a line that sets the language stands before the first edit, and only once'
 OF_LANGUAGE_2 = 'ignoring nulls is of language 2, for which the line model 2 stands before the first edit'
 RANGES = {'at': 'a radius is 1 to 32', 'within': 'the reach of a view is 1 to 64, the limit of a way 0 to 1000000000000000'}
+TEXTS = {'label': "a label's text has at most 64 bytes", 'symbol': 'a symbol is one byte'}
 LIMITS = {
     'sources': '32 layers that are loaded or made by new', 'statements': '64 statements, those of calls included',
     'zonals': '12 Zonal statements', 'neighbors': '8 statements of FocalNeighbor', 'procedures': '32 procedures',
@@ -167,6 +168,8 @@ def explain_place(kind, at, line, names):
         return 'lines are plain ASCII, without accents and signs beyond it'
     if not line[at - 1:].strip(b' \t'):
         return f'the line ends too early: {forms}'
+    if len(before) > 3 and before[0] in TEXTS:
+        return TEXTS[before[0]]
     if here == 'model' and not before:
         return LATE_MODEL
     if here == 'branch' and before.count(here) == MOST_BRANCHES:
@@ -180,7 +183,8 @@ def explain_place(kind, at, line, names):
 
 
 def explain_number(before):
-    if before[-1] in RANGES:
+    operation = next((word for word in reversed(before) if word in OPERATIONS), '')
+    if before[-1] in RANGES and not operation.startswith('Zonal'):  # whose `within` has zones behind it
         return RANGES[before[-1]]
     if before[0] == 'value' or before[0] == 'paint' and len(before) < 6:
         return 'rows and columns are 1 to 4096'
