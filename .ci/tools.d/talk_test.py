@@ -135,6 +135,14 @@ class Ends(Talk):
         lines, status = terminal.end()
         self.assertEqual((lines[-2], status), ('  # the program was ended', 128 + 15))
 
+    def test_control_c_at_the_loads(self):
+        os.chmod(self.write('slow', '#!/bin/sh\necho at it\nexec sleep 100\n'), 0o755)
+        terminal = self.talk(PILEPUMICE=self.path('slow'))
+        terminal.wait_for('at it\n')
+        terminal.press('\x03')
+        terminal.wait_for('once more ends it\n')
+        self.assertEqual(terminal.end('\x03')[1], 128 + 15)
+
     def test_a_program_that_ends(self):
         lines, status = self.slow().end('die\r')
         self.assertEqual((lines, status), (['die', '  # the program ended with status 7', ''], 7))
