@@ -340,6 +340,10 @@ class Keys(Talk):
             terminal.wait_for(typed)
             self.assertEqual(terminal.give_up()[0].rstrip('\x07'), typed)
 
+    def test_a_python_without_readline(self):
+        self.write('readline.py', 'raise ImportError')
+        self.assertEqual(self.begun(PYTHONPATH=self.folder).line('value Heights 1 1'), ['value Heights 1 1 1'])
+
     def test_names_come_and_go(self):
         terminal = self.begun()
         terminal.line('new Fresh 1')
