@@ -9,11 +9,23 @@ import subprocess
 import sys
 import threading
 import time
+from unittest import mock
 
 from chromium import Chromium, wait
-from live_run import RELIEF, TOP, WATER, Case, Page
+from live_run import LIVE, RELIEF, WATER, Case, Page, heed_control_c
 
 PAINT = 'paint Crater 57 24 60 30 1'
+AT_WORK = b'''import sys, time
+for line in sys.stdin:
+    if line == 'slow\\n':
+        time.sleep(1000)
+    elif line == 'list\\n':
+        print('list 1\\nsource A', flush=True)
+    elif line.startswith('branch '):
+        print('branch 1\\nok 2 changed 0 evaluated 0 worked 0', flush=True)
+    else:
+        print('undefined ' + line.split()[1] + ': it', flush=True)
+'''
 
 
 def connected(live, data=b''):
@@ -211,6 +223,47 @@ class Deaths(Case):
         live.say([PAINT])
         self.assertEqual(live.end(), (0, 'live: the program ended with status 0\n'))
 
+    def is_ended(self, number):
+        """A process that has ended, and that nobody has asked for its status yet, has no words any more."""
+        try:
+            with open(f'/proc/{number}/cmdline') as words:
+                wait(lambda: not words.seek(0) and not words.read(), f'the process {number} to end')
+        except (FileNotFoundError, ProcessLookupError):
+            pass
+        except AssertionError:
+            os.kill(number, signal.SIGKILL)
+            raise
+
+    def launching(self, command):
+        """Has a program that stands in for ours started by a launcher."""
+        launcher = self.write('launcher', f'#!/bin/sh\n{command}\nexit $?\n'.encode())
+        os.chmod(launcher, 0o755)
+        return mock.patch.dict(os.environ, PILEPUMICE=launcher)
+
+    def test_control_c_over_the_loads_ends_the_program_below_the_launcher(self):
+        number = os.path.join(self.folder, 'number')
+        with self.launching(f"sh -c 'echo $$ > {number}; exec sleep 1000'"):
+            live = subprocess.Popen([*LIVE, 'run', '1', '-', 'A=a'], preexec_fn=heed_control_c)
+        wait(lambda: os.path.exists(number) and os.path.getsize(number), 'the program to be started')
+        live.send_signal(signal.SIGINT)
+        self.assertEqual(live.wait(), 130)
+        with open(number) as file:
+            self.is_ended(int(file.read()))
+
+    def test_second_control_c_ends_the_program_below_the_launcher(self):
+        with self.launching(f'{sys.executable} {self.write("at_work.py", AT_WORK)}'):
+            live = self.live(['run', '1', '-', 'A=a'])
+        number = live.program_number()
+        slow = json.dumps({'lines': ['slow'], 'shown': {}}).encode()
+        with connected(live, head(live, len(slow)) + slow):
+            wait(lambda: live.state()['working'], 'the program to be at work')
+            live.process.send_signal(signal.SIGINT)
+            time.sleep(0.5)
+            live.process.send_signal(signal.SIGINT)
+            live.process.wait()
+        self.is_ended(number)
+        self.assertEqual(live.end(), (128 + 15, 'live: the program was ended by signal 15\n'))
+
     def test_refused_load_is_explained_and_no_page_is_served(self):
         grid = self.write('bad.asc', b'ncols 1\nnrows 1\nxllcorner 0\nyllcorner 0\ncellsize 1\n0.5\n')
         live = self.live(['run', '1', '-', f'Bad={grid}'])
@@ -219,7 +272,7 @@ class Deaths(Case):
         self.assertIn('no whole number', told)
 
     def test_words_that_are_no_run_are_refused(self):
-        done = subprocess.run([sys.executable, os.path.join(TOP, 'tools', 'live'), 'sample', '1', '3'], capture_output=True)
+        done = subprocess.run([*LIVE, 'sample', '1', '3'], capture_output=True)
         self.assertEqual((done.returncode, done.stdout), (2, b''))
 
 

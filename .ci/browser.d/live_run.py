@@ -16,6 +16,7 @@ from chromium import wait
 TOP = os.path.dirname(os.path.dirname(os.path.dirname(os.path.realpath(__file__))))
 sys.path.insert(1, os.path.join(TOP, 'tools'))
 PROGRAM = os.environ.get('PILEPUMICE') or os.path.join(TOP, 'pilepumice')
+LIVE = sys.executable, os.path.join(TOP, 'tools', 'live')
 RELIEF = os.path.join(TOP, 'examples', 'maunga_whau', 'elevation.asc')
 NULL = -1_000_000_000_000_001
 TILE = 32
@@ -49,8 +50,7 @@ class Live:
 
     def __init__(self, words):
         self.words = words
-        command = [sys.executable, os.path.join(TOP, 'tools', 'live'), *words]
-        self.process = subprocess.Popen(command, stdout=subprocess.PIPE, stderr=subprocess.PIPE, preexec_fn=heed_control_c)
+        self.process = subprocess.Popen([*LIVE, *words], stdout=subprocess.PIPE, stderr=subprocess.PIPE, preexec_fn=heed_control_c)
         atexit.register(self.end)  # where tests are broken off
         self.beginning = b''
         while (line := self.process.stdout.readline()) and not line.startswith(b'http://'):

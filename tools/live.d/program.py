@@ -4,6 +4,7 @@ import contextlib
 import fcntl
 import os
 import select
+import signal
 import subprocess
 import time
 
@@ -66,14 +67,12 @@ class Program:
 
     def beginning(self):
         """The replies to the loads and the model file, as one text. Ended where the program ended over them."""
-        text = b''
-        try:
+        reply = Reply(b'', 0.0)
+        with self.to_the_end([reply]):
             self.send(ASK_FOR_MARK)
             while not is_mark(line := self.line()):
-                text += line
-        except EOFError:
-            raise Ended([Reply(text, self.passed())]) from None
-        return text
+                reply.text += line
+        return reply.text
 
     def ask(self, lines):
         """The replies to lines of bytes, None for a line that has none. All are sent before the first reply is waited for."""
@@ -102,7 +101,7 @@ class Program:
         except EOFError:
             raise Ended(replies) from None
         except BaseException:
-            self.process.kill()
+            self.stop(signal.SIGKILL)
             raise
 
     def send(self, data):
@@ -171,6 +170,11 @@ class Program:
     def status(self):
         """The status with which the program ended, negative for a signal; None while it runs."""
         return self.process.poll()
+
+    def stop(self, sign):
+        """Sends a signal to the launcher and to the program that it has started, to which it hands none on."""
+        with contextlib.suppress(ProcessLookupError):
+            os.killpg(self.process.pid, sign)
 
     def end(self):
         """Ends the session; answers the status."""
