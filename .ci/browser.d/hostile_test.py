@@ -153,6 +153,16 @@ class Requests(Case):
         self.assertEqual((status, self.run_of_live.state()['ended']), (200, None))
         self.is_untouched()
 
+    def test_addresses_that_are_none_are_answered(self):
+        live = self.run_of_live
+        for target, status in (('http://[/', 403), ('//[', 403), ('*', 403), ('caf\u00e9', 403), (live.path + 'state?from=%C2%B2', 200),
+                               (live.path + 'state?from=' + '9' * 5000, 200), (live.path + 'state?from=-1', 200)):
+            with connected(live, f'GET {target} HTTP/1.1\r\nHost: {live.host}\r\n\r\n'.encode()) as connection:
+                self.assertIn(b' %d ' % status, connection.makefile('rb').readline(), target)
+        self.is_untouched()
+        self.assertEqual(live.end()[1], 'live: the program ended with status 0\n')
+        self.run_of_live = self.live()
+
     def test_files_outside_the_page_are_not_served(self):
         for path in ('../live', '..%2flive', 'server.py', '/etc/passwd', 'page.js/'):
             self.is_refused(404, 'GET', path)

@@ -3,13 +3,14 @@
 import hmac
 import json
 import os
+import re
 import secrets
 import socket
 import sys
 import threading
 import time
 from http.server import BaseHTTPRequestHandler, ThreadingHTTPServer
-from urllib.parse import parse_qs, urlsplit
+from urllib.parse import parse_qs
 
 from common import colours
 from common.grid_text import projection_beside
@@ -112,11 +113,11 @@ class Handler(BaseHTTPRequestHandler):
             raise Wrong(403, 'this is another host')
         if self.headers.get('Origin', f'http://{self.server.host}') != f'http://{self.server.host}':
             raise Wrong(403, 'this comes from another origin')
-        url = urlsplit(self.path)
-        _, token, path = (url.path.split('/', 2) + ['', ''])[:3]
+        path, _, query = self.path.partition('?')
+        _, token, path = (path.split('/', 2) + ['', ''])[:3]
         if not hmac.compare_digest(token.encode(), self.server.token.encode()):
             raise Wrong(403, 'the address lacks the token')
-        return path, parse_qs(url.query)
+        return path, parse_qs(query)
 
     def body(self):
         length = self.headers.get('Content-Length', '')
@@ -172,10 +173,10 @@ class Handler(BaseHTTPRequestHandler):
         self.answer(json.dumps(head).encode() + b'\n' + b''.join(text for _, text in changes.values()), BYTES, seconds=time.monotonic() - began)
 
     def state(self, query):
-        first = query.get('from', ['0'])[0]
+        first = re.fullmatch('[0-9]{1,9}', query.get('from', ['0'])[0])
         session = self.server.session
         state = session.state()
-        self.json({'state': state, 'entries': session.since(int(first) if first.isdigit() else 0)})
+        self.json({'state': state, 'entries': session.since(int(first[0]) if first else 0)})
 
     def look(self, _):
         self.json({'heights': colours.HEIGHTS, 'flow': colours.FLOW, 'classes': colours.CLASSES, 'words': self.server.session.words,
