@@ -112,11 +112,16 @@ class Requests(Case):
 
     def test_line_that_sets_the_language_has_a_reply_where_it_is_refused_alone(self):
         self.run_of_live = self.live(['run', '1', '-', f'Elevation={RELIEF}'])
-        lines = ['model 3', 'model 2', 'value Elevation 68 31', 'model 2', 'X = LocalSum of Elevation and 1 ignoring nulls', 'model 1\r', 'value X 68 31']
+        lines = ['model 3', 'model 2', 'value Elevation 68 31', 'model 2', 'X = LocalSum of Elevation and 1 ignoring nulls', 'model 1\r', 'value X 68 31',
+                 'model 2'.ljust(4096) + '\r', 'model 2'.ljust(4097)]
         status, answer = self.run_of_live.say(lines)
         replies = [entry['reply'] for entry in answer['entries']]
         self.assertEqual((status, replies), (200, ['refused number 7', '', 'value Elevation 68 31 195', 'refused syntax 1',
-                                                   'ok 2 changed 6 evaluated 6 worked 0', 'refused syntax 1', 'value X 68 31 196']))
+                                                   'ok 2 changed 6 evaluated 6 worked 0', 'refused syntax 1', 'value X 68 31 196',
+                                                   'refused syntax 1', 'refused long 4097']))
+        self.run_of_live = self.live(['run', '1', '-', f'Elevation={RELIEF}'])
+        _, answer = self.run_of_live.say(['model 2'.ljust(4096) + '\r', 'value Elevation 68 31'])
+        self.assertEqual([entry['reply'] for entry in answer['entries']], ['', 'value Elevation 68 31 195'])
 
     def test_edits_of_branches_are_none(self):
         branches = 'branch new B 1; drop Elevation; value Elevation 68 31 branch paint Crater 1 1 1 1 1; new B 1; drop B end'

@@ -21,7 +21,7 @@ def is_answered(line):
 
 def sets_language(line):
     """Whether a line of bytes has no reply where it is accepted, as its first word tells."""
-    return len(line) <= WIDEST_LINE and line.split()[:1] == [b'model']
+    return len(line.removesuffix(b'\r')) <= WIDEST_LINE and line.split()[:1] == [b'model']
 
 
 def answered(lines):
