@@ -11,7 +11,7 @@ import tempfile
 import unittest
 from urllib.parse import urlsplit
 
-from chromium import wait
+from chromium import ENTER, wait
 
 TOP = os.path.dirname(os.path.dirname(os.path.dirname(os.path.realpath(__file__))))
 sys.path.insert(1, os.path.join(TOP, 'tools'))
@@ -172,7 +172,7 @@ class Page:
         wait(lambda: self.turns() > before, 'a line to be answered')
 
     def type(self, line):
-        self.after(lambda: self.browser.type('#line', line + '\ue007'))
+        self.after(lambda: self.browser.type('#line', line + ENTER))
 
     def choose(self, **values):
         """Sets the controls of the brush."""

@@ -61,7 +61,7 @@ def header_value(kind, text):
     return number
 
 
-def read_header(tokens, end):
+def read_header(tokens):
     """-> the values by kind, the keys of x and y as they are printed, and how many tokens the header has."""
     values, spelled, place = {}, {}, 0
     while tokens[place][0][:1].isalpha():
@@ -84,7 +84,7 @@ def read_grid(data):
     """-> the extent, the header lines that are kept, and the cells; Refused at the first fault."""
     end = (b'', len(data) + 1)
     tokens = [(match[0], match.start() + 1) for match in re.finditer(rb'[^ \t\r\n]+', data)] + [end, end]
-    values, spelled, place = read_header(tokens, end)
+    values, spelled, place = read_header(tokens)
     rows, columns = values['rows'], values['columns']
     if not (1 <= rows <= 4096 and 1 <= columns <= 4096 and rows * columns <= MOST_CELLS):
         raise Refused(f'limits {rows} {columns}')

@@ -1,6 +1,6 @@
 """Letters for pictures: each printable ASCII character, five pixels wide and seven high."""
 
-WIDTH, HEIGHT = 5, 7
+HEIGHT = 7
 PITCH = 6  # from one letter to the next
 DRAWN = """
 ..... ..#.. .#.#. .#.#. ..#.. ##... .#... ..#.. ...#. .#... ..... ..... ..... ..... ..... .....

@@ -30,9 +30,6 @@ class Reply:
     def __init__(self, text, seconds):
         self.text, self.seconds = text, seconds
 
-    def first_line(self):
-        return self.text[:self.text.find(b'\n')].decode('latin-1')
-
 
 def is_quit(line):
     line = line.removesuffix(b'\r')
