@@ -9,6 +9,7 @@ import zlib
 from live_run import TOP
 
 sys.path.insert(1, os.path.join(TOP, '.ci', 'tools.d'))
+from common.canvas import SIGNATURE, chunk
 from png import chunks
 
 DIFFERENCES = '''
@@ -38,10 +39,6 @@ DIFFERENCES = '''
 KEPT, LAID_OVER = 0, 1  # what becomes of a frame after it was shown, and how it is drawn over the one before
 
 
-def chunk(kind, body):
-    return struct.pack('>I', len(body)) + kind + body + struct.pack('>I', zlib.crc32(kind + body))
-
-
 def parts(data):
     """The header and the pixels of a PNG, packed as tightly as it goes."""
     found = list(chunks(data))
@@ -56,7 +53,7 @@ def animated(browser, frames):
     changes = [parts(base64.b64decode(change)) for change in browser.run_until_told(DIFFERENCES, pictures)]
     header = changes[0][0]
     assert all(other == header for other, _ in changes), 'the screenshots have different sizes'
-    written = [b'\x89PNG\r\n\x1a\n', chunk(b'IHDR', header), chunk(b'acTL', struct.pack('>II', len(frames), 0))]
+    written = [SIGNATURE, chunk(b'IHDR', header), chunk(b'acTL', struct.pack('>II', len(frames), 0))]
     number = 0
     for (_, pixels), (_, duration) in zip(changes, frames):
         written.append(chunk(b'fcTL', struct.pack('>I', number) + header[:8] + struct.pack('>IIHHBB', 0, 0, duration, 1000, KEPT, LAID_OVER)))
