@@ -28,18 +28,6 @@ Slope = IncrementalGradient of Elevation
 '''
 
 
-class Told(unittest.TestResult):
-    """Tells what fails as it fails."""
-
-    def addFailure(self, test, error):
-        super().addFailure(test, error)
-        print(f'FAILED {test.id()}\n{self.failures[-1][1]}', flush=True)
-
-    def addError(self, test, error):
-        super().addError(test, error)
-        print(f'FAILED {test.id()}\n{self.errors[-1][1]}', flush=True)
-
-
 def heed_control_c():
     """What a shell puts into the background is told to take no notice of control-C."""
     signal.signal(signal.SIGINT, signal.SIG_DFL)
