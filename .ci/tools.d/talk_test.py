@@ -159,12 +159,12 @@ class Ends(Talk):
 
     def test_help(self):
         """Of each tool, called by its path and through a link."""
-        for name in ('talk', 'fill', 'paints', 'picture'):
+        for name in ('talk', 'fill', 'paints', 'picture', 'live', 'to-grid'):
             os.symlink(os.path.join(TOOLS, name), self.path(name))
             for path in (os.path.join(TOOLS, name), self.path(name)):
                 out, told, status = call(path, '--help')
                 self.assertEqual((told, status), ('', 0))
-                self.assertIn(f'usage: {name} ', out.decode())
+                self.assertIn('to-grid [-cell SIZE]' if name == 'to-grid' else f'usage: {name} ', out.decode())
 
 
 class Refusals(Talk):
