@@ -86,13 +86,16 @@ class Paints(Case):
         self.write('new.asc', 'ok 1 changed 0 evaluated 0 worked 0\n')
         self.refused('paints', 'old.asc', 'new.asc', 'A', saying="'ok' is no key of a grid's header")
 
-    def test_closed_outputs(self):
+    def test_outputs_that_are_closed_or_full(self):
         """Nothing that is told comes among the lines, and lines that can't be written are no success."""
         self.grid('old.asc', [[1, 2]])
         self.grid('new.asc', [[1, 3]], header='xllcorner 110\nyllcorner 200.5\ncellsize 10\n')
         paints = os.path.join(TOOLS, 'paints') + ' old.asc new.asc A '
         self.assertEqual(call('bash', '-c', paints + '2>&-', folder=self.folder), (b'paint A 1 2 1 2 3\n', '', 0))
         self.assertEqual(call('bash', '-c', paints + '>&-', folder=self.folder), (b'', 'paints: standard output is closed\n', 2))
+        self.grid('new.asc', [[1, 3]])
+        told = call('bash', '-c', paints + '> /dev/full', folder=self.folder, PYTHONUNBUFFERED='')
+        self.assertEqual(told, (b'', 'paints: No space left on device\n', 2))
 
     def test_a_grid_elsewhere_is_told(self):
         self.grid('old.asc', [[1, 2]])

@@ -26,12 +26,21 @@ def run(name, main):
     except Refused as refused:
         fail(name, refused)
     except BrokenPipeError:
-        os.dup2(os.open(os.devnull, os.O_WRONLY), sys.stdout.fileno())  # so that nothing is told as the interpreter ends
+        let_go()
         sys.exit(2)
     except OSError as error:
+        let_go()
         fail(name, sentence(error))
     except KeyboardInterrupt:
         sys.exit(130)
+
+
+def let_go():
+    """Has what standard output doesn't take go nowhere, so that the interpreter doesn't try once more as it ends."""
+    try:
+        sys.stdout.flush()
+    except OSError:
+        os.dup2(os.open(os.devnull, os.O_WRONLY), sys.stdout.fileno())
 
 
 def fail(name, text):
