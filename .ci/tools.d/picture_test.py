@@ -61,6 +61,15 @@ class Picture(Case):
         self.grid('a.asc', [[10, 20, 15, 11]])
         self.assertEqual(self.picture('a.asc', '--pixels', 1, '--colours', 'colours'), [[(0, 0, 0, 255), (100, 200, 50, 255), (90, 90, 90, 255), (18, 18, 18, 255)]])
 
+    def test_labels_beyond_ascii(self):
+        """Each letter takes the room of one, also those of whose bytes one ends a line in other alphabets."""
+        self.grid('a.asc', [[1]])
+        widths = set()
+        for label in ('\u00c5ker', 'Aker', '\u00c5ker'.encode('latin-1')):
+            self.write('colours', b'1 10 20 30 ' + (label if isinstance(label, bytes) else label.encode()) + b'\r\n')
+            widths.add(len(self.picture('a.asc', '--pixels', 1, '--legend', '--colours', 'colours')[0]))
+        self.assertEqual(widths, {1 + 3 * 10 + 18 + (6 * len('1 Aker') - 1) * 2})
+
     @skipUnless(shutil.which('gdaldem') and shutil.which('gdal_translate'), 'GDAL is not installed')
     def test_ramp_as_gdaldem_draws_it(self):
         relief = shutil.copy(os.path.join(TOP, 'examples', 'maunga_whau', 'elevation.asc'), self.folder)  # GDAL writes beside it
