@@ -82,6 +82,14 @@ class Requests(Case):
         self.assertNotEqual(other.path, self.run_of_live.path)
         self.assertGreater(len(other.path), 30)
 
+    def test_port_80_is_no_part_of_the_host(self):
+        try:
+            socket.create_server(('127.0.0.1', 80)).close()
+        except OSError as error:
+            self.skipTest(f'the port 80 is not to be had: {error}')
+        live = self.live(['--port', '80', 'run', '1', '-', f'Elevation={RELIEF}'])
+        self.assertEqual((live.host, live.request('GET', 'state', Origin='http://127.0.0.1')[0]), ('127.0.0.1', 200))
+
     def test_server_listens_on_this_machine_alone(self):
         port = int(self.run_of_live.host.split(':')[1])
         with open('/proc/net/tcp') as file:

@@ -50,7 +50,7 @@ class Server(ThreadingHTTPServer):
         super().__init__((HOST, port), Handler)
         self.session, self.token = session, secrets.token_urlsafe(24)
         self.room = threading.BoundedSemaphore(MOST_CONNECTIONS)
-        self.host = f'{HOST}:{self.server_port}'
+        self.host = f'{HOST}:{self.server_port}'.removesuffix(':80')  # which browsers leave out
 
     def address(self):
         return f'http://{self.host}/{self.token}/'
