@@ -187,6 +187,8 @@ class Picture(Case):
         out = 'out.png'
         self.refused('picture', 'none.asc', out, saying='none.asc: No such file')
         self.refused('picture', 'replies', out, saying='replies: there is no grid in it')
+        self.write('replies', 'list -1\n')
+        self.refused('picture', 'replies', out, saying='replies: there is no grid in it')
         for line in ('1 0 0', 'x 0 0 0', 'inf 0 0 0', 'nan% 0 0 0', '1 0 0 0.5'):
             self.write('wrong', line)
             self.refused('picture', 'a.asc', out, '--colours', 'wrong', saying='wrong, line 1: a colour is')

@@ -70,6 +70,8 @@ def split(lines):
     replies, first = [], 0
     while first < len(lines):
         after = first + length(lines, first)
+        if after <= first:
+            raise ValueError
         replies.append(lines[first:after])
         first = after
     return replies
