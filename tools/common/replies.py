@@ -10,6 +10,12 @@ SETTING = re.compile(rb'[ \t]*model[ \t]+\+?0*[12][ \t]*')  # sets the language,
 ASKING = [[word.encode()] for word in REQUESTS]
 COUNTED = {'show': 2, 'legend': 2, 'stamps': 2, 'table': 3, 'list': 1}  # which word of the first line says how many follow
 HEADER = 6  # lines of a printed grid's header
+MARK = b'all_was_answered_up_to_this_line'  # a layer that isn't there: the reply to its request ends the replies before it
+ASK_FOR_MARK = b'value ' + MARK + b' 1 1\n'
+
+
+def is_mark(reply):
+    return reply.startswith((b'undefined ' + MARK + b':', b'value ' + MARK + b' '))
 
 
 def is_answered(line):

@@ -8,12 +8,10 @@ import signal
 import subprocess
 import time
 
-from common.replies import BLANKS, COUNTED, HEADER, WIDEST_LINE, is_answered, length_of_branches, sets_language
+from common.replies import ASK_FOR_MARK, BLANKS, COUNTED, HEADER, WIDEST_LINE, is_answered, is_mark, length_of_branches, sets_language
 
 WIDEST_PIPE = 1 << 20
 PIECE = 1 << 20
-MARK = b'all_was_answered_up_to_this_line'  # a layer that isn't there: the reply to its request ends the replies before it
-ASK_FOR_MARK = b'value ' + MARK + b' 1 1\n'
 
 
 class Ended(Exception):
@@ -34,10 +32,6 @@ class Reply:
 def is_quit(line):
     line = line.removesuffix(b'\r')
     return len(line) <= WIDEST_LINE and line.strip(BLANKS) == b'quit'
-
-
-def is_mark(reply):
-    return reply.startswith((b'undefined ' + MARK, b'value ' + MARK))
 
 
 def lines_after(first, second, line):
