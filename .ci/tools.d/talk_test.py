@@ -153,6 +153,10 @@ class Ends(Talk):
         self.assertRegex(took, '^  # [01]\\.[0-9] s$')
         self.assertEqual(self.begun().line('value Heights 1 1'), ['value Heights 1 1 1'])
 
+    def test_a_program_of_this_folder(self):
+        self.slow()
+        self.assertEqual(self.begun(PILEPUMICE='slow').line('value It 1 1'), ['undefined It: It', '  # there is no layer It'])
+
     def test_refused_words(self):
         self.refused('talk', 'run', '1', '-', 'A=a.asc', saying='none there', calls=process, PILEPUMICE=self.path('none there'))
         self.assertEqual(process('talk')[2], 2)

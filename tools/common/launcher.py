@@ -5,7 +5,7 @@ import os
 from common.refusals import Refused
 
 TOP = os.path.dirname(os.path.dirname(os.path.dirname(os.path.realpath(__file__))))
-PROGRAM = os.environ.get('PILEPUMICE') or os.path.join(TOP, 'pilepumice')
+PROGRAM = os.path.abspath(os.environ.get('PILEPUMICE') or os.path.join(TOP, 'pilepumice'))
 
 
 def must_be_there():
