@@ -416,6 +416,19 @@ class Own(Talk):
         again, _ = program(['run', '1', '-', 'Heights=a.asc'], self.read('it.session') + b'list\n', self.folder)
         self.assertEqual(again.decode().splitlines()[-len(listed):], listed)
 
+    def test_log_of_a_paste(self):
+        """Its lines are taken one by one, those of the talk too."""
+        terminal = self.begun()
+        for end in '\r\n':
+            terminal.press(f'\x1b[200~drop Gone{end}new Mask 1{end}.save Mask mask.asc{end}quit now\x1b[201~\r')
+            terminal.wait_for('> quit now\n')
+            shown = terminal.prompt()
+            self.assertEqual(shown[4:9], ['> drop Gone', 'refused unknown Gone', '  # there is no layer Gone', '> new Mask 1', 'ok 2 changed 1 evaluated 1 worked 0'])
+            self.assertEqual(shown[9:13], ['> .save Mask mask.asc', '  # mask.asc: 2 rows, 2 columns', '> quit now', ' ' * 7 + '^'])
+            self.assertEqual(terminal.line('.log it.session'), ['  # it.session: accepted edits: 1'])
+            self.assertEqual(self.read('it.session'), b'new Mask 1\n')
+            terminal = self.begun()
+
     def test_log_of_edits_that_are_taken_back(self):
         """They stand in it with the undo, so that the numbers are the same again."""
         terminal = self.begun()
