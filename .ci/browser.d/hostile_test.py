@@ -3,6 +3,7 @@
 import http.server
 import json
 import os
+import resource
 import signal
 import socket
 import subprocess
@@ -240,6 +241,15 @@ class Deaths(Case):
         self.replays(live)
         self.assertEqual(live.say([PAINT])[0], 409)
         self.assertEqual(live.lines(), many[:sum(answered)])
+
+    def test_replies_that_have_no_room_end_the_run_and_the_log_is_what_was_kept(self):
+        live = self.live()
+        live.say([PAINT])
+        resource.prlimit(live.process.pid, resource.RLIMIT_FSIZE, (4096, 4096))
+        self.assertEqual(live.say(['new B 1', 'grid Elevation']), (409, "the program was ended, since replies can't be kept: File too large"))
+        wait(lambda: live.state()['ended'], 'the end to be told')
+        self.assertEqual(live.lines(), [PAINT])
+        self.replays(live)
 
     def test_control_c_ends_the_program_and_hands_its_status_on(self):
         live = self.live()

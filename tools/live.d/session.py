@@ -29,10 +29,10 @@ class NotSent(Exception):
 
 
 class Entry:
-    """A line that was sent. `reply` is where its reply lies among all replies; None where it has none."""
+    """A line that was sent, and what pages are shown of its reply."""
 
     def __init__(self, line):
-        self.line, self.reply, self.head, self.cut, self.seconds, self.sentence, self.is_answered = line, None, '', 0, 0.0, None, False
+        self.line, self.head, self.cut, self.seconds, self.sentence, self.is_answered = line, '', 0, 0.0, None, False
 
     def told(self, number):
         first = self.head.partition('\n')[0]
@@ -103,10 +103,11 @@ class Session:
             replies = self.program.ask(lines + questions)
         except Ended as ended:
             replies = ended.replies[:len(sent)]
+        self.keep_or_end(b''.join(reply.text for reply in replies[:len(sent)] if reply))
         for entry, reply in zip(sent, replies):
             entry.is_answered = True
             if reply:
-                self.keep_reply(entry, reply)
+                self.show_reply(entry, reply)
         self.close(sent)
         first = len(self.entries)
         self.entries += sent
@@ -124,12 +125,19 @@ class Session:
         if is_quit(sent[-1].line) or not sent[-1].is_answered:
             self.program.process.wait()
 
-    def keep_reply(self, entry, reply):
+    def show_reply(self, entry, reply):
         head = reply.text[:HEAD_BYTES].decode('latin-1').split('\n')[:HEAD_LINES]
         entry.head = '\n'.join(head).removesuffix('\n')
         entry.cut = max(0, reply.text.count(b'\n') - entry.head.count('\n') - 1)
-        entry.reply, entry.seconds = (self.written, len(reply.text)), reply.seconds
-        self.keep(reply.text)
+        entry.seconds = reply.seconds
+
+    def keep_or_end(self, text):
+        """Keeps the replies to lines; where that can't be, the program ends, since it would go on with lines that the session doesn't have."""
+        try:
+            with self.program.to_the_end([]):
+                self.keep(text)
+        except OSError as error:
+            raise NotSent(f"the program was ended, since replies can't be kept: {error.strerror}") from error
 
     def keep(self, text):
         self.replies.seek(self.written)
