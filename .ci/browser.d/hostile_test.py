@@ -1,5 +1,7 @@
 """Whatever browsers do, the session's state stays what its log says."""
 
+import contextlib
+import http.client
 import http.server
 import json
 import os
@@ -273,6 +275,21 @@ class Deaths(Case):
         os.chmod(launcher, 0o755)
         return mock.patch.dict(os.environ, PILEPUMICE=launcher)
 
+    def test_control_c_comes_through_while_pages_ask(self):
+        live = self.live()
+
+        def ask():
+            with contextlib.suppress(OSError, http.client.HTTPException):
+                while True:
+                    live.request('GET', 'state')
+        threads = [threading.Thread(target=ask) for _ in range(3)]
+        for thread in threads:
+            thread.start()
+        time.sleep(0.5)
+        self.assertEqual(live.end(), (0, 'live: the program ended with status 0\n'))
+        for thread in threads:
+            thread.join()
+
     def test_control_c_over_the_loads_ends_the_program_below_the_launcher(self):
         number = os.path.join(self.folder, 'number')
         with self.launching(f"sh -c 'echo $$ > {number}; exec sleep 1000'"):
@@ -293,7 +310,7 @@ class Deaths(Case):
             live.process.send_signal(signal.SIGINT)
             time.sleep(0.5)
             live.process.send_signal(signal.SIGINT)
-            live.process.wait()
+            self.assertEqual(live.process.wait(), 128 + 15)
         self.is_ended(number)
         self.assertEqual(live.end(), (128 + 15, 'live: the program was ended by signal 15\n'))
 
