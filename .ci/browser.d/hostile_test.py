@@ -12,10 +12,13 @@ import subprocess
 import sys
 import threading
 import time
+import unittest
 from unittest import mock
 
 from chromium import Chromium, wait
 from live_run import LIVE, RELIEF, WATER, Case, Page, heed_control_c
+
+from server import Server
 
 PAINT = 'paint Crater 57 24 60 30 1'
 AT_WORK = b'''import sys, time
@@ -221,6 +224,17 @@ class Requests(Case):
         rows = [line.split()[2] for line in live.lines()]
         self.assertEqual(len(rows), 120)
         self.assertEqual(sum(first != second for first, second in zip(rows, rows[1:])), 5)  # each page's lines stay together
+
+
+class Patience(unittest.TestCase):
+    def test_request_that_dribbles_in_is_cut_off(self):
+        with mock.patch('server.PATIENCE', 0.5), Server(None) as server:
+            threading.Thread(target=server.serve_forever, daemon=True).start()
+            with socket.create_connection(server.server_address) as slow, self.assertRaises(OSError):
+                for _ in range(100):
+                    slow.sendall(b'G')
+                    time.sleep(0.1)
+            server.shutdown()
 
 
 class Deaths(Case):

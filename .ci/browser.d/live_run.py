@@ -14,7 +14,7 @@ from urllib.parse import urlsplit
 from chromium import ENTER, wait
 
 TOP = os.path.dirname(os.path.dirname(os.path.dirname(os.path.realpath(__file__))))
-sys.path.insert(1, os.path.join(TOP, 'tools'))
+sys.path[1:1] = os.path.join(TOP, 'tools'), os.path.join(TOP, 'tools', 'live.d')
 PROGRAM = os.environ.get('PILEPUMICE') or os.path.join(TOP, 'pilepumice')
 LIVE = sys.executable, os.path.join(TOP, 'tools', 'live')
 RELIEF = os.path.join(TOP, 'examples', 'maunga_whau', 'elevation.asc')

@@ -1,5 +1,6 @@
 """The pages' side: a server on 127.0.0.1 that answers those who know its token."""
 
+import contextlib
 import hmac
 import json
 import os
@@ -50,10 +51,18 @@ class Server(ThreadingHTTPServer):
         super().__init__((HOST, port), Handler)
         self.session, self.token = session, secrets.token_urlsafe(24)
         self.room = threading.BoundedSemaphore(MOST_CONNECTIONS)
+        self.awaited = {}  # connections whose next request isn't there yet, and up to when it may come
         self.host = f'{HOST}:{self.server_port}'.removesuffix(':80')  # which browsers leave out
 
     def address(self):
         return f'http://{self.host}/{self.token}/'
+
+    def service_actions(self):
+        """Cuts off those whose request isn't there in time, also where some of it comes again and again."""
+        for connection, limit in list(self.awaited.items()):
+            if time.monotonic() > limit:
+                with contextlib.suppress(OSError):
+                    connection.shutdown(socket.SHUT_RD)
 
     def process_request(self, request, client_address):
         """A thread for each connection, of which there are only so many; one more is closed at once."""
@@ -84,6 +93,13 @@ class Handler(BaseHTTPRequestHandler):
     def log_message(self, *_):
         pass
 
+    def handle_one_request(self):
+        self.server.awaited[self.connection] = time.monotonic() + PATIENCE
+        try:
+            super().handle_one_request()
+        finally:
+            self.server.awaited.pop(self.connection, None)
+
     def do_GET(self):
         self.serve(GETS)
 
@@ -94,6 +110,7 @@ class Handler(BaseHTTPRequestHandler):
         try:
             path, query = self.within()
             body = self.body() if self.command == 'POST' else None
+            self.server.awaited.pop(self.connection)
             if self.command == 'GET' and path in FILES:
                 self.file(FILES[path])
             elif path in actions:
