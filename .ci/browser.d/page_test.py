@@ -290,6 +290,10 @@ class Lines(Browsing):
         self.browser.wait("return live.layers.get('Bands')?.cells && true", 'the new layer')
         self.is_seen(self.grids(['Bands'])['Bands'], 'Bands', [(0, 0), (2, 1)])
 
+    def test_statement_under_the_pointer_is_the_newest(self):
+        self.page.type('Lake = LocalMaximum of Elevation and Crater')
+        self.browser.wait('return document.querySelector(\'input[data-layer="Lake"]\').closest("label").title.includes("LocalMaximum") && true', 'the title')
+
     def test_layer_that_lacks_one_says_so(self):
         self.page.type('drop Crater')
         self.assertIn('undefined Lake: Crater', self.browser.text('#panels'))

@@ -141,13 +141,17 @@ async function watch() {
 
 function useState(told) {
   const before = JSON.stringify(names());
+  const written = JSON.stringify(state.statements);
   const known = new Set(names());
   if (state.marks !== told.marks) askLegendsLater(shown.map((name) => layers.get(name)));
   state = told;
   at('ended').hidden = !state.ended;
   at('ended').textContent = state.ended || '';
   for (const control of [at('line'), at('undo')]) control.disabled = Boolean(state.ended);
-  if (before === JSON.stringify(names())) return;
+  if (before === JSON.stringify(names())) {
+    if (written !== JSON.stringify(state.statements)) listLayers();
+    return;
+  }
   const fresh = names().filter((name) => !known.has(name) && !state.dotted.includes(name));
   show([...shown.filter((name) => names().includes(name)), ...fresh.slice(0, Math.max(0, MOST_SHOWN_UNASKED - shown.length))]);
 }

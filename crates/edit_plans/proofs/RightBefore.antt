@@ -24,6 +24,7 @@ use Rattle.edit_plans.specs.Telling.{fault_told}
 use Rattle.edit_plans.proofs.Before.{stood_on}
 use Rattle.edit_plans.proofs.Counting.{all_each}
 use Rattle.edit_plans.proofs.LayerFaults.{layer_fault}
+use Rattle.map_waves.specs.declared.keeping.Aside.{Aside}
 
 -- none of a list has a fault
 faultless_named : (s : EngineState) (n : Name) (nodes : List Node) → first_some (map (λ (node : Node). fault_of_layer s node.name) nodes) ≡ None → is_named_in n nodes ≡ true → fault_of_layer s n ≡ None
@@ -43,7 +44,7 @@ statement_faultless s n op none fault making =
     let found : find_node (nodes_of s.entries) n ≡ Some (record { name = n; needs = Some (needs_of op) }) = find_node-making (layers s.entries) n ∙ ap (option_map (made_node n)) making in
     faultless_named s n (by_depth (nodes_of s.entries)) fault (all_flats_listed (nodes_of s.entries) none n (record { name = n; needs = Some (needs_of op) }) (needs_of op) found refl)
 
-module _ {B : Type 0} (suits : Size → Op → List Cells → B → Type 0) where
+module _ {B : Type 0} (suits : Size → Op → List Cells → Aside B → Type 0) where
   pub kept_is_right : KeptIsRight suits
   kept_is_right touch s t p sources names k n own plan changes old fault at unwritten was size suit =
       let op = (p.step k).op in

@@ -14,7 +14,7 @@ use layer_tiles::Layer;
 use map_nums::NoMemory;
 use map_waves::{Kept, Step};
 use map_words::Name;
-use op_jobs::Beside;
+use op_jobs::{Beside, copy_aside};
 use procedure_expand::Flat;
 use statement_parser::Op;
 use std::alloc::Global;
@@ -182,7 +182,7 @@ fn copy_kept(alloc: Global, kept: &Kept<Beside>) -> Result<Kept<Beside>, NoMemor
     ensures { IfOk result (λ copy. copy ≡ kept.now) }
 {
     let layer = kept.layer.copy(alloc)?;
-    let beside = kept.beside.copy(alloc)?;
+    let beside = copy_aside(alloc, &kept.beside)?;
     Ok(Kept {
         layer,
         beside,

@@ -4,11 +4,11 @@ use Rattle.std.specs.Prelude.{◌||◌, codes}
 use Rattle.map_words.specs.Bytes.{Text}
 use Rattle.std.specs.List.{list_any}
 use Rattle.map_nums.specs.declared.Stat.TheVariants.{Sum, Product}
-use Rattle.map_defs.specs.Ops.{Head, local_head, sight_head, Op}
+use Rattle.map_defs.specs.Ops.{Head, sight_head, Op}
 use Rattle.map_defs.specs.Statements.{Written, plain, call, Inner, Procedure}
 use Rattle.statement_parser.specs.Formed.{IsOp, IsWritten, AreInner, IsProcedure}
 use Rattle.statement_parser.specs.Operations.{operation_of}
-use Rattle.statement_parser.specs.There.{HasRow, HasCommand, MayBe, IsOpThere, IsWrittenThere, AreInnerThere}
+use Rattle.statement_parser.specs.There.{HasRow, HasCommand, is_ignoring, MayIgnore, MayBe, IsOpThere, IsWrittenThere, AreInnerThere}
 use Rattle.statement_parser.specs.ProcedureTexts.{procedure_text}
 use Rattle.statement_parser.proofs.FormedLines.{IsRow}
 use Rattle.statement_parser.proofs.BackWords.{row_of}
@@ -21,14 +21,18 @@ use Rattle.statement_parser.specs.declared.op.Form.TheVariants.{Linkage}
 use Rattle.statement_parser.specs.declared.operation.Operation.{Operation}
 use Rattle.statement_parser.specs.declared.operation.Operation.TheVariants.{Local, Focal, Zonal, Incremental}
 use Rattle.map_lines.specs.Present.{may_ignore, rows_at}
-use Rattle.map_lines.specs.ReadAgain.{is_ignoring, ignores, ReadsStatements, ReadsProcedures}
+use Rattle.map_lines.specs.ReadAgain.{ignores, ReadsStatements, ReadsProcedures}
 
 module _ (p : Place) where
+  may_ignored : (b : Bool) → (b ≡ true → p.language ≡ Two) → MayIgnore (rows_at p) b
+  unfolding rows_at
+  may_ignored true k = subst (λ l. may_ignore l ≡ true) (sym (k refl)) refl
+  may_ignored false k = tt
+
   may_be : (head : Head) → (is_ignoring head ≡ true → p.language ≡ Two) → MayBe (rows_at p) head
   unfolding rows_at
-  may_be (local_head s true) k = subst (λ l. may_ignore l ≡ true) (sym (k refl)) refl
   may_be (sight_head s) k = refl
-  may_be head k = tt
+  may_be head k = may_ignored (is_ignoring head) k
 
   -- each row is there, computed
   row_there : (o : Operation) → IsRow o → HasRow (rows_at p) o

@@ -2,23 +2,19 @@
 use Rattle.std.specs.Prelude.{◌≡◌, Bool, true, false, IsTrue}
 use Rattle.map_words.specs.Bytes.{Text}
 use Rattle.map_words.specs.Names.{is_plain}
-use Rattle.map_defs.specs.Ops.{Head, local_head}
 use Rattle.map_defs.specs.Statements.{Written, plain, Inner, Procedure}
 use Rattle.std.specs.List.{list_any}
 use Rattle.statement_parser.specs.Lines.{define, define_procedure, edit}
 use Rattle.statement_parser.specs.Formed.{IsWritten, IsProcedure}
 use Rattle.statement_parser.specs.Canonical.{written_text}
 use Rattle.statement_parser.specs.ProcedureTexts.{procedure_text}
+use Rattle.statement_parser.specs.There.{is_ignoring}
 use Rattle.statement_parser.specs.Texts.{is_short, LineText}
 use Rattle.statement_parser.specs.declared.language.Language.TheVariants.{Two}
 use Rattle.statement_parser.specs.declared.language.Place.{Place}
 use Rattle.map_lines.specs.Present.{rows_at}
 
 -- nulls are ignored in it
-abbrev pub is_ignoring : Head → Bool
-is_ignoring (local_head s ignoring) = ignoring
-is_ignoring head = false
-
 abbrev pub ignores : Written → Bool
 ignores (plain o) = is_ignoring o.head
 ignores w = false

@@ -16,6 +16,7 @@ use Rattle.map_waves.specs.Plans.{StepDef, Plan, reckoned, operands_at, damage_a
 use Rattle.map_waves.specs.Bases.{kept_by, step_of, plan_of}
 use Rattle.map_waves.specs.Tasks.{IsTask, reckoned_kept}
 use Rattle.map_waves.specs.Begun.{IsBegun, AreBegun, IsHalted}
+use Rattle.map_waves.specs.declared.keeping.Aside.{Aside}
 use Rattle.map_waves.specs.declared.keeping.Kept.{Kept}
 use Rattle.map_waves.specs.declared.tasks.Task.{Task}
 use Rattle.map_waves.specs.declared.plans.Step.{Step}
@@ -28,7 +29,7 @@ was_reckoned : {B : Type 0} (b : Bool) (o : Option (Kept B)) → was_of (if b th
 was_reckoned true o = refl
 was_reckoned false o = refl
 
-module _ {O B W R : Type 0} (means : O → Op) (formed : O → Type 0) (suits : Size → Op → List Cells → B → Type 0) (sound : JobsState O B W → Type 0) (first : JobsState O B W → ℕ) (looks picks : JobsState O B W → ℕ → ℕ) (pieces : JobsState O B W → ℕ → Result R KernelRefusal → Type 0)
+module _ {O B W R : Type 0} (means : O → Op) (formed : O → Type 0) (suits : Size → Op → List Cells → Aside B → Type 0) (sound : JobsState O B W → Type 0) (first : JobsState O B W → ℕ) (looks picks : JobsState O B W → ℕ → ℕ) (pieces : JobsState O B W → ℕ → Result R KernelRefusal → Type 0)
     (base : Base B) (steps : List (Step O)) where
   abbrev plan : Plan
   plan = plan_of means base steps

@@ -22,8 +22,8 @@ quiet_picks n x a b r =
     let none = none_in (range_with_len 0 n) in
     rises_within x (sum_by (λ (k : ℕ). 0) (range_with_len 0 n)) x 0 a b (omega arith) (omega (arith, none)) r
 
-module _ {G P E F : Type 0} (grounded : Size → Op → List ChangeState → ℕ → G → Type 0) (part : Size → Op → List ChangeState → ℕ → ℕ → P → Type 0) (s : Size) (op : Op) (operands : List ChangeState) (ground : G) (count : ℕ) (answers : List (Result P E)) where
-  pub all_are_found : (r : Result (Vec P Global) F) → grounded s op operands count ground → length answers ≡ count → ((k : ℕ) (d : Result P E) → k < count → IfOk (get_or answers k d) (part s op operands count k)) → IfOk r (λ parts. length parts.items ≡ length answers)
+module _ {G P E F : Type 0} (grounded : Size → Op → List ChangeState → ℕ → G → Type 0) (part : Size → Op → List ChangeState → G → ℕ → ℕ → P → Type 0) (s : Size) (op : Op) (operands : List ChangeState) (ground : G) (count : ℕ) (answers : List (Result P E)) where
+  pub all_are_found : (r : Result (Vec P Global) F) → grounded s op operands count ground → length answers ≡ count → ((k : ℕ) (d : Result P E) → k < count → IfOk (get_or answers k d) (part s op operands ground count k)) → IfOk r (λ parts. length parts.items ≡ length answers)
       → IfOk r (λ parts. (k : ℕ) (p : P) → slice_get parts.items k ≡ Some p → slice_get answers k ≡ Some (Ok p)) → IfOk r (λ parts. AreFound grounded part s op operands ground parts.items)
   all_are_found (Err e) is all each many from = tt
   all_are_found (Ok parts) is all each many from =
@@ -31,8 +31,8 @@ module _ {G P E F : Type 0} (grounded : Size → Op → List ChangeState → ℕ
         from = subst (λ m. grounded s op operands m ground) n is;
         each = λ k p e.
             (let at = from k p e in
-            let one = subst (λ (x : Result P E). IfOk x (part s op operands count k)) (get_or_from_slice_get answers k (Ok p) (Ok p) at) (each k (Ok p) (omega (arith, all, slice_get_within answers k (Ok p) at))) in
-            subst (λ m. part s op operands m k p) n one);
+            let one = subst (λ (x : Result P E). IfOk x (part s op operands ground count k)) (get_or_from_slice_get answers k (Ok p) (Ok p) at) (each k (Ok p) (omega (arith, all, slice_get_within answers k (Ok p) at))) in
+            subst (λ m. part s op operands ground m k p) n one);
       }
 
 -- what holds of all that may be found holds of this

@@ -12,14 +12,15 @@ use Rattle.layer_tiles.specs.Patches.{IsPatch}
 use Rattle.layer_tiles.specs.Tallies.{TallyState, looked, RisesBy}
 use Rattle.layer_tiles.proofs.Rising.{rises_none, rises_looked, rises_within}
 use Rattle.map_waves.specs.Statements.{damage_by, fault_in}
-use Rattle.map_waves.specs.Keeping.{was_of}
+use Rattle.map_waves.specs.Keeping.{was_of, aside_of}
 use Rattle.map_waves.specs.Gathered.{IsRepaired}
-use Rattle.map_waves.specs.Jobs.{JobsState, AreOver, was_in}
+use Rattle.map_waves.specs.Jobs.{JobsState, AreOver, was_in, aside_in}
 use Rattle.map_waves.specs.Plans.{StepDef, reckoned, operands_at, damage_at}
 use Rattle.map_waves.specs.Bases.{IsBase, kept_by, step_of, plan_of}
 use Rattle.map_waves.specs.Prepared.{IsMade, IsPrepared, ArePrepared}
 use Rattle.map_waves.specs.Filled.{IsFilled}
 use Rattle.map_waves.specs.Tasks.{StaysAt, IsTask, reckoned_kept}
+use Rattle.map_waves.specs.declared.keeping.Aside.{Aside}
 use Rattle.map_waves.specs.declared.keeping.Kept.{Kept}
 use Rattle.map_waves.specs.declared.keeping.Made.{Made}
 use Rattle.map_waves.specs.declared.tasks.Task.{Task}
@@ -30,25 +31,22 @@ use Rattle.map_waves.proofs.Operating.{step_is}
 
 -- ---- one statement
 
-module _ {O B W : Type 0} (means : O → Op) (suits : Size → Op → List Cells → B → Type 0) (base : Base B) (x : Step O) (j : JobsState O B W) (m : Made B)
-    (over : AreOver j base.extent x.op j.operands (reckoned_kept base x)) (repaired : IsRepaired suits j.size (means j.op) j.operands (was_in j) m) where
-  was_from : (w : Option (Kept B)) → reckoned_kept base x ≡ w → was_in j ≡ was_of w
-  was_from w e = ap (λ o. was_of o) (over.kept ∙ e)
-
-  pub repaired_from : (w : Option (Kept B)) → reckoned_kept base x ≡ w → IsRepaired suits base.extent (means x.op) j.operands (was_of w) m
+module _ {O B W : Type 0} (means : O → Op) (suits : Size → Op → List Cells → Aside B → Type 0) (base : Base B) (x : Step O) (j : JobsState O B W) (m : Made B)
+    (over : AreOver j base.extent x.op j.operands (reckoned_kept base x)) (repaired : IsRepaired suits j.size (means j.op) j.operands (was_in j) (aside_in j) m) where
+  pub repaired_from : (w : Option (Kept B)) → reckoned_kept base x ≡ w → IsRepaired suits base.extent (means x.op) j.operands (was_of w) (aside_of w) m
   repaired_from w e =
-      subst (λ o. IsRepaired suits base.extent (means x.op) j.operands o m) (was_from w e)
-      (subst (λ o. IsRepaired suits base.extent (means o) j.operands (was_in j) m) over.op
-      (subst (λ s. IsRepaired suits s (means j.op) j.operands (was_in j) m) over.size repaired))
+      subst (λ (w : Option (Kept B)). IsRepaired suits base.extent (means x.op) j.operands (was_of w) (aside_of w) m) (over.kept ∙ e)
+      (subst (λ o. IsRepaired suits base.extent (means o) j.operands (was_in j) (aside_in j) m) over.op
+      (subst (λ s. IsRepaired suits s (means j.op) j.operands (was_in j) (aside_in j) m) over.size repaired))
 
-  pub repaired_written : x.written ≡ true → IsRepaired suits base.extent (means x.op) j.operands None m
+  pub repaired_written : x.written ≡ true → IsRepaired suits base.extent (means x.op) j.operands None None m
   repaired_written written = repaired_from None (from x.written written)
     where
       from : (b : Bool) → b ≡ true → ◌≡◌ {A = Option (Kept B)} (if b then None else kept_by base x.kept) None
       from true e = refl
       from false e = absurd (true≢false (sym e))
 
-  pub repaired_left : x.written ≡ false → (o : Option (Kept B)) → kept_by base x.kept ≡ o → IsRepaired suits base.extent (means x.op) j.operands (was_of o) m
+  pub repaired_left : x.written ≡ false → (o : Option (Kept B)) → kept_by base x.kept ≡ o → IsRepaired suits base.extent (means x.op) j.operands (was_of o) (aside_of o) m
   repaired_left left o e = repaired_from o (from x.written left)
     where
       from : (b : Bool) → b ≡ false → ◌≡◌ {A = Option (Kept B)} (if b then None else kept_by base x.kept) o
@@ -92,7 +90,7 @@ module _ {O B W : Type 0} (means : O → Op) (suits : Size → Op → List Cells
 
 -- ---- among the others
 
-module _ {O B : Type 0} (means : O → Op) (formed : O → Type 0) (suits : Size → Op → List Cells → B → Type 0) (base : Base B) (steps : List (Step O)) where
+module _ {O B : Type 0} (means : O → Op) (formed : O → Type 0) (suits : Size → Op → List Cells → Aside B → Type 0) (base : Base B) (steps : List (Step O)) where
   -- a list that is made longer with statements that stay
   pub prepared_filled : (first n : ℕ) (old new : List (Option (Made B))) → ArePrepared means suits base steps first old → IsFilled n old new → ((k : ℕ) → first + length old ≤ k → k < first + n → StaysAt means suits base steps k)
       → ArePrepared means suits base steps first new

@@ -14,6 +14,7 @@ use Rattle.map_waves.specs.Bases.{kept_by, step_of}
 use Rattle.map_waves.specs.Prepared.{IsMade, ArePrepared}
 use Rattle.map_waves.specs.Filled.{IsFilled}
 use Rattle.map_waves.specs.Tasks.{AreBetween, StaysAt, AreTasks, IsTask, places_of}
+use Rattle.map_waves.specs.declared.keeping.Aside.{Aside}
 use Rattle.map_waves.specs.declared.keeping.Made.{Made}
 use Rattle.map_waves.specs.declared.tasks.Task.{Task}
 use Rattle.map_waves.specs.declared.plans.Step.{Step}
@@ -35,7 +36,7 @@ places_more f ts i t e =
     let one = sum_by-cons f t.place [] in
     ap (sum_by f) pushed ∙ omega (arith, split, one)
 
-module _ {O B : Type 0} (means : O → Op) (formed : O → Type 0) (suits : Size → Op → List Cells → B → Type 0) (base : Base B) (steps : List (Step O)) (first end : ℕ) (ts : List Task) where
+module _ {O B : Type 0} (means : O → Op) (formed : O → Type 0) (suits : Size → Op → List Cells → Aside B → Type 0) (base : Base B) (steps : List (Step O)) (first end : ℕ) (ts : List Task) where
   -- the first i tasks are in the list, with all that stay before the next one
   pub record IsFinished (i : ℕ) (more : List (Option (Made B))) : Type 0 where
     pub between : AreBetween (StaysAt means suits base steps) (first + length more) end (places_of (drop i ts))

@@ -18,11 +18,14 @@ use Rattle.layer_tiles.proofs.Found.{HoldsAll-from_numbers}
 use Rattle.layer_tiles.proofs.Patching.{length-patched}
 use Rattle.map_waves.specs.Statements.{made, cells_were, damage_by, work_by, fault_in}
 use Rattle.map_waves.specs.Operands.{IsOperand}
-use Rattle.map_waves.specs.Keeping.{IsRightOver}
+use Rattle.map_waves.specs.Keeping.{IsRightOver, CanPut, IsPut}
 use Rattle.map_waves.specs.Gathered.{IsRepaired}
 use Rattle.map_waves.specs.Plans.{StepDef, change_by, reckoned}
 use Rattle.map_waves.specs.Bases.{IsBase, kept_by}
 use Rattle.map_waves.specs.Prepared.{IsMade}
+use Rattle.map_waves.specs.declared.keeping.Aside.{Aside}
+use Rattle.map_waves.specs.declared.keeping.Renewal.{Renewal}
+use Rattle.map_waves.specs.declared.keeping.Renewal.TheVariants.{Anew, Patched}
 use Rattle.map_waves.specs.declared.keeping.Kept.{Kept}
 use Rattle.map_waves.specs.declared.keeping.Made.{Made}
 use Rattle.map_waves.specs.declared.plans.Base.{Base}
@@ -65,27 +68,35 @@ reckoned_new x e = ap (λ w. if x.written then None else w) e ∙ go x.written
     go true = refl
     go false = refl
 
-module _ {B : Type 0} (suits : Size → Op → List Cells → B → Type 0) (s : Size) (x : StepDef) (operands : List ChangeState) where
+-- ---- what is made all anew can be put beside any layer, as beside none
+
+module _ {B : Type 0} where
+  put_anywhere : (r : Renewal B) → CanPut None r → (beside : Option (Aside B)) → CanPut beside r
+  put_anywhere (Anew new) can beside = tt
+  put_anywhere (Patched patch) can beside = absurd can
+
+  put_nowhere : (r : Renewal B) → CanPut None r → (beside : Option (Aside B)) (b : Aside B) → IsPut beside r b → IsPut None r b
+  put_nowhere (Anew new) can beside b is = is
+  put_nowhere (Patched patch) can beside b is = absurd can
+
+module _ {B : Type 0} (suits : Size → Op → List Cells → Aside B → Type 0) (s : Size) (x : StepDef) (operands : List ChangeState) where
   abbrev now : Cells
   now = made s x.op (cells_after operands)
 
   counted : (cells : Cells) (p : PatchState) → patched s cells p.tiles ≡ now → length now ≡ cells_in s
   counted cells p is = ap length (sym is) ∙ length-patched s cells p.tiles
 
-  beside_is : (m : Made B) → suits s x.op (cells_after operands) m.beside → (b : B) → ◌≡◌ {A = Option B} (Some m.beside) (Some b) → suits s x.op (cells_after operands) b
-  beside_is m right b e = let same : m.beside ≡ b = cc in subst (λ (b : B). suits s x.op (cells_after operands) b) same right
-
   -- a statement that was undefined
-  pub made_fresh : (m : Made B) → x.was ≡ None → IsRepaired suits s x.op operands None m → fault_in s x.op (cells_after operands) ≡ None → IsMade suits s x operands None (Some m)
+  pub made_fresh : (m : Made B) → x.was ≡ None → IsRepaired suits s x.op operands None None m → fault_in s x.op (cells_after operands) ≡ None → IsMade suits s x operands None (Some m)
   made_fresh m was repaired faultless = record {
-    ready = (repaired.size, all_numbers s m.patch now repaired.size repaired.exact);
+    ready = (repaired.size, all_numbers s m.patch now repaired.size repaired.exact, repaired.can_put);
     count = counted [] m.patch repaired.cells;
     change =
         ap (λ z. shape z None (patched z [] m.patch.tiles) (numbers_of m.patch.tiles)) repaired.size
         ∙ ap (λ cells. shape s None cells (numbers_of m.patch.tiles)) repaired.cells
         ∙ ap (λ touched. shape s None now touched) repaired.exact
         ∙ ap (λ w. shape s w now (changed_tiles s w now)) (sym was);
-    beside = beside_is m repaired.beside;
+    beside = repaired.beside;
     evaluated = repaired.evaluated ∙ ap (λ w. length (damage_by s x.op w operands)) (sym (reckoned_new x was));
     worked = repaired.worked ∙ ap (λ w. work_by s x.op w operands) (sym (reckoned_new x was));
     little = repaired.little;
@@ -101,7 +112,7 @@ module _ {B : Type 0} (suits : Size → Op → List Cells → B → Type 0) (s :
         ∙ ap (λ w. shape s w now (changed_tiles s w now)) (sym was)
 
     -- one that the edit wrote: as if it had been undefined, and then narrowed
-    pub made_written : (m : Made B) (p : PatchState) → x.written ≡ true → IsPatch m.patch → IsRepaired suits s x.op operands None m → fault_in s x.op (cells_after operands) ≡ None
+    pub made_written : (m : Made B) (p : PatchState) → x.written ≡ true → IsPatch m.patch → IsRepaired suits s x.op operands None None m → fault_in s x.op (cells_after operands) ≡ None
         → p ≡ record m.patch { tiles = narrowed own.layer.size own.layer.cells m.patch.tiles } → IsMade suits s x operands (Some own) (Some (record m { patch = p }))
     made_written m p written patch repaired faultless narrow =
         let numbers : numbers_of m.patch.tiles ≡ tiles s = repaired.exact ∙ changed_all s now in
@@ -112,10 +123,10 @@ module _ {B : Type 0} (suits : Size → Op → List Cells → B → Type 0) (s :
         let exact : numbers_of p.tiles ≡ changed_tiles s (Some own.layer.cells) now =
         ap numbers_of held ∙ narrowed_exact s own.layer.cells m.patch.tiles is numbers all ∙ ap (λ c. changed_tiles s (Some own.layer.cells) c) repaired.cells in
         record {
-          ready = (ap (λ (p : PatchState). p.size) narrow ∙ repaired.size, size);
+          ready = (ap (λ (p : PatchState). p.size) narrow ∙ repaired.size, size, put_anywhere m.beside repaired.can_put (Some own.beside));
           count = counted own.layer.cells p cells;
           change = changed_from p cells exact;
-          beside = beside_is m repaired.beside;
+          beside = λ b is. repaired.beside b (put_nowhere m.beside repaired.can_put (Some own.beside) b is);
           evaluated = repaired.evaluated ∙ ap (λ w. length (damage_by s x.op w operands)) (sym (reckoned_written x written));
           worked = repaired.worked ∙ ap (λ w. work_by s x.op w operands) (sym (reckoned_written x written));
           little = repaired.little;
@@ -124,12 +135,12 @@ module _ {B : Type 0} (suits : Size → Op → List Cells → B → Type 0) (s :
 
     module _ (left : x.written ≡ false) where
       -- one with an operand that changed
-      pub made_changed : (m : Made B) → IsRepaired suits s x.op operands (Some own.layer.cells) m → fault_in s x.op (cells_after operands) ≡ None → IsMade suits s x operands (Some own) (Some m)
+      pub made_changed : (m : Made B) → IsRepaired suits s x.op operands (Some own.layer.cells) (Some own.beside) m → fault_in s x.op (cells_after operands) ≡ None → IsMade suits s x operands (Some own) (Some m)
       made_changed m repaired faultless = record {
-        ready = (repaired.size, size);
+        ready = (repaired.size, size, repaired.can_put);
         count = counted own.layer.cells m.patch repaired.cells;
         change = changed_from m.patch repaired.cells repaired.exact;
-        beside = beside_is m repaired.beside;
+        beside = repaired.beside;
         evaluated = repaired.evaluated ∙ ap (λ w. length (damage_by s x.op w operands)) (sym (reckoned_was x left ∙ was));
         worked = repaired.worked ∙ ap (λ w. work_by s x.op w operands) (sym (reckoned_was x left ∙ was));
         little = repaired.little;
@@ -157,9 +168,7 @@ module _ {B : Type 0} (suits : Size → Op → List Cells → B → Type 0) (s :
                 ∙ ap (λ c. shape s (Some w) c []) kept
                 ∙ ap (λ touched. shape s (Some w) now touched) (sym none)
                 ∙ ap (λ w. shape s w now (changed_tiles s w now)) (sym was);
-            beside = λ b e.
-                let is : own.beside ≡ b = cc in
-                subst (λ (b : B). suits s x.op (cells_after operands) b) is (subst (λ (os : List Cells). suits s x.op os own.beside) (sym same) right.beside);
+            beside = λ b is. subst (λ (b : Aside B). suits s x.op (cells_after operands) b) (sym is) (subst (λ (os : List Cells). suits s x.op os own.beside) (sym same) right.beside);
             evaluated = sym (ap (λ w. length (damage_by s x.op w operands)) from ∙ ap (λ (ts : List ℕ). length ts) damage);
             worked = sym (ap (λ w. work_by s x.op w operands) from ∙ work);
             little = omega arith;
@@ -181,7 +190,7 @@ unchanged_operands s (c ∷ os) all there none =
 
 -- ---- the looks at one that the edit wrote
 
-pub narrow_looks : {B : Type 0} (suits : Size → Op → List Cells → B → Type 0) (s : Size) (x : StepDef) (operands : List ChangeState) (m : Made B) → x.written ≡ true → IsRepaired suits s x.op operands None m
+pub narrow_looks : {B : Type 0} (suits : Size → Op → List Cells → Aside B → Type 0) (s : Size) (x : StepDef) (operands : List ChangeState) (m : Made B) → x.written ≡ true → IsRepaired suits s x.op operands None None m
     → 2 * length m.patch.tiles ≤ 2 * length (damage_by s x.op (reckoned x) operands)
 narrow_looks suits s x operands m written repaired =
     let now : Cells = made s x.op (cells_after operands) in

@@ -14,6 +14,7 @@ use Rattle.map_waves.specs.Keeping.{was_of}
 use Rattle.map_waves.specs.Plans.{StepDef, Plan, operand_in, changes_to, change_by, change_at, operands_at}
 use Rattle.map_waves.specs.Bases.{IsBase, kept_by, step_of, step_by, plan_of, IsRef}
 use Rattle.map_waves.specs.Prepared.{shown, IsMade, ArePrepared}
+use Rattle.map_waves.specs.declared.keeping.Aside.{Aside}
 use Rattle.map_waves.specs.declared.keeping.Kept.{Kept}
 use Rattle.map_waves.specs.declared.keeping.Made.{Made}
 use Rattle.map_waves.specs.declared.plans.Ref.{Ref}
@@ -43,7 +44,7 @@ some_past [] i e = omega arith
 some_past (x ∷ xs) zero e = absurd (none-some x (sym e))
 some_past (x ∷ xs) (suc i) e = let rest : length xs ≤ i = some_past xs i e in omega arith
 
-module _ {B : Type 0} (suits : Size → Op → List Cells → B → Type 0) (base : Base B) (is : IsBase base) where
+module _ {B : Type 0} (suits : Size → Op → List Cells → Aside B → Type 0) (base : Base B) (is : IsBase base) where
   kept_cells : (k : Option ℕ) (w : Cells) (o : Option (Kept B)) → kept_by base k ≡ o → was_of o ≡ Some w → (own : Kept B) × (kept_by base k ≡ Some own) × (own.layer.cells ≡ w)
   kept_cells k w None e h = absurd (none-some w h)
   kept_cells k w (Some own) e h = let same : own.layer.cells ≡ w = cc in (own, e, same)
@@ -90,7 +91,7 @@ module _ {B : Type 0} (suits : Size → Op → List Cells → B → Type 0) (bas
         subst (λ c. IsOperand base.extent c) (sym (get_or-map (operand_in plan (changes_to plan k)) refs i (Number None) d less)) (operand_is k (get_or refs i (Number None)) h (all i (Number None) less))
 
 -- a statement that is prepared, and of which no reader is shown a tile
-pub quiet_step : {O B : Type 0} (means : O → Op) (suits : Size → Op → List Cells → B → Type 0) (base : Base B) (steps : List (Step O)) (rs : List (Option (Made B))) → ArePrepared means suits base steps 0 rs → length rs ≤ length steps
+pub quiet_step : {O B : Type 0} (means : O → Op) (suits : Size → Op → List Cells → Aside B → Type 0) (base : Base B) (steps : List (Step O)) (rs : List (Option (Made B))) → ArePrepared means suits base steps 0 rs → length rs ≤ length steps
     → (j : ℕ) (r : Option (Made B)) → slice_get rs j ≡ Some r → ((s : Size) (own : Option (Kept B)) → (shown s own r).touched ≡ []) → (change_at (plan_of means base steps) j).touched ≡ []
 quiet_step {O} {B} means suits base steps rs prepared few j r e quiet = go (slice_get steps j) refl
   where

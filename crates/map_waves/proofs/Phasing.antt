@@ -13,6 +13,7 @@ use Rattle.map_waves.specs.Plans.{Plan, fault_at, change_at, damage_at, work_at}
 use Rattle.map_waves.specs.Phases.{AreFaultless}
 use Rattle.map_waves.specs.Bases.{kept_by, plan_of}
 use Rattle.map_waves.specs.Prepared.{shown, IsPrepared, ArePrepared, changed_in, evaluated_in, worked_in}
+use Rattle.map_waves.specs.declared.keeping.Aside.{Aside}
 use Rattle.map_waves.specs.declared.keeping.Kept.{Kept}
 use Rattle.map_waves.specs.declared.keeping.Made.{Made}
 use Rattle.map_waves.specs.declared.plans.Step.{Step}
@@ -56,7 +57,7 @@ each_pushed {X} P xs y n count each here k d e = go (cases_lt k (length xs))
     go (inl less) = each k d (get_left xs (y ∷ []) k d less e)
     go (inr more) = last (k - length xs) (omega arith) (get_right xs (y ∷ []) k d more e)
 
-module _ {O B : Type 0} (means : O → Op) (suits : Size → Op → List Cells → B → Type 0) (base : Base B) (steps : List (Step O)) where
+module _ {O B : Type 0} (means : O → Op) (suits : Size → Op → List Cells → Aside B → Type 0) (base : Base B) (steps : List (Step O)) where
   -- a list and one that follows it
   pub prepared_then : (first mid : ℕ) (rs more : List (Option (Made B))) → ArePrepared means suits base steps first rs → ArePrepared means suits base steps mid more → first + length rs ≡ mid
       → ArePrepared means suits base steps first (rs ++ more)
@@ -103,7 +104,7 @@ touched_count s (Some own) None = refl
 touched_count s None (Some m) = sym (length-map m.patch.tiles (λ e. e.0))
 touched_count s (Some own) (Some m) = sym (length-map m.patch.tiles (λ e. e.0))
 
-pub numbers_at : {O B : Type 0} (means : O → Op) (suits : Size → Op → List Cells → B → Type 0) (base : Base B) (steps : List (Step O)) (rs : List (Option (Made B))) → ArePrepared means suits base steps 0 rs → length rs ≡ length steps
+pub numbers_at : {O B : Type 0} (means : O → Op) (suits : Size → Op → List Cells → Aside B → Type 0) (base : Base B) (steps : List (Step O)) (rs : List (Option (Made B))) → ArePrepared means suits base steps 0 rs → length rs ≡ length steps
     → (k : ℕ) (r : Option (Made B)) → k < length rs → r ≡ get_or rs k r → AreNumbers (plan_of means base steps) k r
 numbers_at {O} {B} means suits base steps rs prepared all k r within read = go (slice_get steps k) refl
   where

@@ -12,6 +12,7 @@ use Rattle.map_waves.specs.Plans.{Plan, operand_in, changes_to, operands_at}
 use Rattle.map_waves.specs.Values.{all_some, term_cells, operand_cells, IsRefBefore, AreRefsBefore}
 use Rattle.map_waves.specs.Prepared.{IsPrepared, shown}
 use Rattle.map_waves.specs.Placing.{IsRightFor, IsPlaced, IsPlacedLayer}
+use Rattle.map_waves.specs.declared.keeping.Aside.{Aside}
 use Rattle.map_waves.specs.declared.keeping.Kept.{Kept}
 use Rattle.map_waves.specs.declared.keeping.Made.{Made}
 use Rattle.map_waves.specs.declared.plans.Ref.{Ref}
@@ -63,7 +64,7 @@ module _ (p : Plan) (value : Name → Option Cells) (k : ℕ) where
             before = ap (λ o. unwrap_or o [] ∷ cells_were (map operand_for rs)) here ∙ ap (λ cs. own ∷ cs) others.before ∙ same;
           }
 
-module _ {B : Type 0} (suits : Size → Op → List Cells → B → Type 0) (p : Plan) (k : ℕ) where
+module _ {B : Type 0} (suits : Size → Op → List Cells → Aside B → Type 0) (p : Plan) (k : ℕ) where
   pub right_before : (value : Name → Option Cells) (operands : List Cells) (own : Kept B) → AreRefsBefore p value k (p.step k).op.terms (p.step k).refs
       → operand_cells p.size value (p.step k).op ≡ Some operands → IsRightFor suits p.size (p.step k).op operands own → IsRightOver suits p.size (p.step k).op (operands_at p k) own
   right_before value operands own refs are right =

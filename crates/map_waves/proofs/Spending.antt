@@ -24,8 +24,9 @@ use Rattle.map_waves.specs.declared.plans.Base.{Base}
 use Rattle.map_waves.proofs.Making.{all_get, all_first, all_rest}
 use Rattle.map_waves.proofs.Totals.{places_within}
 use Rattle.map_waves.proofs.Beginning.{step_as, begun_damage, begun_work}
+use Rattle.map_waves.specs.declared.keeping.Aside.{Aside}
 
-module _ {O B W R : Type 0} (means : O → Op) (formed : O → Type 0) (suits : Size → Op → List Cells → B → Type 0) (sound : JobsState O B W → Type 0) (first : JobsState O B W → ℕ) (looks picks : JobsState O B W → ℕ → ℕ) (pieces : JobsState O B W → ℕ → Result R KernelRefusal → Type 0)
+module _ {O B W R : Type 0} (means : O → Op) (formed : O → Type 0) (suits : Size → Op → List Cells → Aside B → Type 0) (sound : JobsState O B W → Type 0) (first : JobsState O B W → ℕ) (looks picks : JobsState O B W → ℕ → ℕ) (pieces : JobsState O B W → ℕ → Result R KernelRefusal → Type 0)
     (base : Base B) (steps : List (Step O)) where
   abbrev plan : Plan
   plan = plan_of means base steps

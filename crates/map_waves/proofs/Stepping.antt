@@ -15,6 +15,7 @@ use Rattle.map_waves.specs.Bases.{IsBase, IsStep, ArePlanned, AreRight, kept_by,
 use Rattle.map_waves.specs.Prepared.{IsMade}
 use Rattle.map_waves.specs.Phases.{AreAlike}
 use Rattle.map_waves.specs.Tasks.{AreBetween, StaysAt, IsFit, IsTask}
+use Rattle.map_waves.specs.declared.keeping.Aside.{Aside}
 use Rattle.map_waves.specs.declared.keeping.Kept.{Kept}
 use Rattle.map_waves.specs.declared.plans.Step.{Step}
 use Rattle.map_waves.specs.declared.plans.Base.{Base}
@@ -41,7 +42,7 @@ between_push stays low k (x ∷ xs) between from =
 
 -- ---- a statement and its operands
 
-module _ {O B : Type 0} (means : O → Op) (formed : O → Type 0) (suits : Size → Op → List Cells → B → Type 0) (base : Base B) (steps : List (Step O)) where
+module _ {O B : Type 0} (means : O → Op) (formed : O → Type 0) (suits : Size → Op → List Cells → Aside B → Type 0) (base : Base B) (steps : List (Step O)) where
   abbrev plan : Plan
   plan = plan_of means base steps
 

@@ -24,6 +24,7 @@ use Rattle.map_waves.specs.declared.plans.Base.{Base}
 use Rattle.map_waves.proofs.Making.{all_get}
 use Rattle.map_waves.proofs.Beginning.{begun_get, begun_fault}
 use Rattle.map_waves.proofs.Rowing.{some_at, map_get, row_answers}
+use Rattle.map_waves.specs.declared.keeping.Aside.{Aside}
 
 -- a place, and what is before it
 record IsPlaceOf (p : Plan) (low end x : ℕ) : Type 0 where
@@ -51,7 +52,7 @@ place_of p stays low end (y ∷ xs) (suc i) x between e quiet none =
     go k low_k below later (inr at) (inl more) = later k (omega arith) below
     go k low_k below later (inr at) (inr most) = let same : k ≡ y = omega arith in ap (fault_at p) same ∙ none 0 y (omega arith) refl
 
-module _ {O B W R : Type 0} (means : O → Op) (formed : O → Type 0) (suits : Size → Op → List Cells → B → Type 0) (sound : JobsState O B W → Type 0) (first : JobsState O B W → ℕ) (looks picks : JobsState O B W → ℕ → ℕ) (pieces : JobsState O B W → ℕ → Result R KernelRefusal → Type 0)
+module _ {O B W R : Type 0} (means : O → Op) (formed : O → Type 0) (suits : Size → Op → List Cells → Aside B → Type 0) (sound : JobsState O B W → Type 0) (first : JobsState O B W → ℕ) (looks picks : JobsState O B W → ℕ → ℕ) (pieces : JobsState O B W → ℕ → Result R KernelRefusal → Type 0)
     (base : Base B) (steps : List (Step O)) (low end : ℕ) (ts : List Task) (js : List (JobsState O B W)) (rs : List (Result R KernelRefusal))
     (tasks : AreTasks means formed suits base steps low end ts) (are : AreBegun means sound first looks picks pieces base steps ts js) (answered : AreAnswered pieces js rs) where
   abbrev plan : Plan

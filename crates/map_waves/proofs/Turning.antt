@@ -19,6 +19,7 @@ use Rattle.map_waves.proofs.Looking.{left_first}
 use Rattle.map_waves.proofs.Beginning.{begun_get}
 use Rattle.map_waves.proofs.Rowing.{row_is, row_answers, answer_at}
 use Rattle.map_waves.proofs.Seats.{jobs_more, jobs_within}
+use Rattle.map_waves.specs.declared.keeping.Aside.{Aside}
 
 abbrev nothing : {X : Type 0} → List X
 nothing {X} = []
@@ -43,18 +44,18 @@ next_of js queue later i j e f =
     let first = left_first i js later j (sym e ∙ f) in
     record { within = slice_get_within js i j first.0; here = first.0; rest = sym first.1 }
 
-pub record IsTurn {O B : Type 0} (means : O → Op) (formed : O → Type 0) (suits : Size → Op → List Cells → B → Type 0) (base : Base B) (steps : List (Step O)) (ts : List Task) (i : ℕ) (t : Task) : Type 0 where
+pub record IsTurn {O B : Type 0} (means : O → Op) (formed : O → Type 0) (suits : Size → Op → List Cells → Aside B → Type 0) (base : Base B) (steps : List (Step O)) (ts : List Task) (i : ℕ) (t : Task) : Type 0 where
   pub at : slice_get ts i ≡ Some t
   pub task : IsTask means formed suits base steps t
 
-pub turn_of : {O B W : Type 0} (means : O → Op) (formed : O → Type 0) (suits : Size → Op → List Cells → B → Type 0) (base : Base B) (steps : List (Step O)) (low end : ℕ) (ts : List Task) (js later : List (JobsState O B W)) (i : ℕ) (t : Task) (j : JobsState O B W)
+pub turn_of : {O B W : Type 0} (means : O → Op) (formed : O → Type 0) (suits : Size → Op → List Cells → Aside B → Type 0) (base : Base B) (steps : List (Step O)) (low end : ℕ) (ts : List Task) (js later : List (JobsState O B W)) (i : ℕ) (t : Task) (j : JobsState O B W)
     → AreTasks means formed suits base steps low end ts → length js ≡ length ts → IsNext js later i j → t ≡ get_or ts i t → IsTurn means formed suits base steps ts i t
 turn_of means formed suits base steps low end ts js later i t j tasks all next read =
     let within = next.within in
     let at = slice_get_read ts (length ts) i t refl (omega (arith, within, all)) read in
     record { at = at; task = all_get (IsTask means formed suits base steps) ts tasks.each i t at }
 
-module _ {O B W R : Type 0} (means : O → Op) (formed : O → Type 0) (suits : Size → Op → List Cells → B → Type 0) (sound : JobsState O B W → Type 0) (first : JobsState O B W → ℕ) (looks picks : JobsState O B W → ℕ → ℕ) (pieces : JobsState O B W → ℕ → Result R KernelRefusal → Type 0)
+module _ {O B W R : Type 0} (means : O → Op) (formed : O → Type 0) (suits : Size → Op → List Cells → Aside B → Type 0) (sound : JobsState O B W → Type 0) (first : JobsState O B W → ℕ) (looks picks : JobsState O B W → ℕ → ℕ) (pieces : JobsState O B W → ℕ → Result R KernelRefusal → Type 0)
     (base : Base B) (steps : List (Step O)) (ts : List Task) (js : List (JobsState O B W)) (rs : List (Result R KernelRefusal)) (are : AreBegun means sound first looks picks pieces base steps ts js) (answered : AreAnswered pieces js rs)
     (i : ℕ) (t : Task) (j : JobsState O B W) (at : slice_get ts i ≡ Some t) (here : slice_get js i ≡ Some j) where
   begun : IsBegun means sound first looks picks pieces base steps t j

@@ -8,6 +8,7 @@ use Rattle.layer_tiles.specs.Layers.{LayerState, IsLayer}
 use Rattle.map_waves.specs.Operands.{IsOperand}
 use Rattle.map_waves.specs.Keeping.{was_of, IsRightOver}
 use Rattle.map_waves.specs.Plans.{StepDef, Plan, operands_at}
+use Rattle.map_waves.specs.declared.keeping.Aside.{Aside}
 use Rattle.map_waves.specs.declared.keeping.Kept.{Kept}
 use Rattle.map_waves.specs.declared.plans.Ref.{Ref}
 use Rattle.map_waves.specs.declared.plans.Ref.TheVariants.{Source, Statement, Number}
@@ -85,6 +86,6 @@ abbrev pub ArePlanned : {O B : Type 0} → (O → Op) → (O → Type 0) → Bas
 ArePlanned {O} {B} means formed base steps = (first k : ℕ) (x y : Step O) → first ≤ k → slice_get steps first ≡ Some y → slice_get steps k ≡ Some x → x.depth ≡ y.depth → IsStep means formed base first x
 
 -- what is kept of each statement that the edit didn't write is right for its operands before
-abbrev pub AreRight : {O B : Type 0} → (O → Op) → (Size → Op → List Cells → B → Type 0) → Base B → List (Step O) → Type 0
+abbrev pub AreRight : {O B : Type 0} → (O → Op) → (Size → Op → List Cells → Aside B → Type 0) → Base B → List (Step O) → Type 0
 AreRight {O} {B} means suits base steps = (k : ℕ) (x : Step O) (own : Kept B) → slice_get steps k ≡ Some x → kept_by base x.kept ≡ Some own → x.written ≡ false
     → IsRightOver suits base.extent (means x.op) (operands_at (plan_of means base steps) k) own

@@ -8,6 +8,7 @@ use Rattle.map_waves.specs.Plans.{Plan, change_at, operands_at}
 use Rattle.map_waves.specs.Values.{operand_cells, IsPlanOf, Unfolds, AreRefsBefore}
 use Rattle.map_waves.specs.Prepared.{IsPrepared}
 use Rattle.map_waves.specs.Placing.{IsRightFor, IsPlaced}
+use Rattle.map_waves.specs.declared.keeping.Aside.{Aside}
 use Rattle.map_waves.specs.declared.keeping.Kept.{Kept}
 use Rattle.map_waves.specs.declared.keeping.Made.{Made}
 
@@ -21,7 +22,7 @@ abbrev pub OperandsAreValues : Type 0
 OperandsAreValues = (p : Plan) (op_of : Name → Option Op) (value : Name → Option Cells) (name : ℕ → Name) (n : ℕ) → IsPlanOf op_of value name p n → Unfolds p.size op_of value
     → (k : ℕ) → k < n → operand_cells p.size value (p.step k).op ≡ Some (cells_after (operands_at p k))
 
-module _ {B : Type 0} (suits : Size → Op → List Cells → B → Type 0) where
+module _ {B : Type 0} (suits : Size → Op → List Cells → Aside B → Type 0) where
   -- what is kept, and is right for the values before the edit, is right over the operands of the plan
   abbrev pub KeptWasRight : Type 0
   KeptWasRight = (p : Plan) (value : Name → Option Cells) (k : ℕ) (operands : List Cells) (own : Kept B) → AreRefsBefore p value k (p.step k).op.terms (p.step k).refs

@@ -7,6 +7,7 @@ use Rattle.map_waves.specs.Statements.{Fault, too_many, wide_at}
 use Rattle.map_waves.specs.Plans.{Plan, fault_at}
 use Rattle.map_waves.specs.Bases.{plan_of}
 use Rattle.map_waves.specs.Prepared.{ArePrepared}
+use Rattle.map_waves.specs.declared.keeping.Aside.{Aside}
 use Rattle.map_waves.specs.declared.keeping.Made.{Made}
 use Rattle.map_waves.specs.declared.halts.Stop.{Stop}
 use Rattle.map_waves.specs.declared.halts.Stop.TheVariants.{Viewers, Overflow, NoMemory}
@@ -48,7 +49,7 @@ module _ {O : Type 0} where
 
 module _ {O B : Type 0} where
   -- what becomes of the statements from place `first` to before `end`
-  abbrev pub IsPhase : (O → Op) → (Size → Op → List Cells → B → Type 0) → Base B → List (Step O) → ℕ → ℕ → Result (Vec (Option (Made B)) Global) Stop → Type 0
+  abbrev pub IsPhase : (O → Op) → (Size → Op → List Cells → Aside B → Type 0) → Base B → List (Step O) → ℕ → ℕ → Result (Vec (Option (Made B)) Global) Stop → Type 0
   IsPhase means suits base steps first end (Ok rs) = (length rs.items ≡ end - first) × ArePrepared means suits base steps first rs.items
   IsPhase means suits base steps first end (Err stop) = IsStop (plan_of means base steps) first end stop
 

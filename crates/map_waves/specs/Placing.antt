@@ -5,13 +5,14 @@ use Rattle.map_defs.specs.Ops.{Op}
 use Rattle.layer_tiles.specs.Changes.{ChangeState}
 use Rattle.layer_tiles.specs.Layers.{LayerState, IsStamped, layer_of}
 use Rattle.map_waves.specs.Statements.{made, fault_in}
-use Rattle.map_waves.specs.Prepared.{shown, IsReady, beside_after}
+use Rattle.map_waves.specs.Prepared.{shown, IsReady, IsBesideAfter}
+use Rattle.map_waves.specs.declared.keeping.Aside.{Aside}
 use Rattle.map_waves.specs.declared.keeping.Kept.{Kept}
 use Rattle.map_waves.specs.declared.keeping.Made.{Made}
 use Rattle.map_waves.specs.declared.plans.Step.{Step}
 
 -- what is kept is right for operands with these cells
-pub record IsRightFor {B : Type 0} (suits : Size → Op → List Cells → B → Type 0) (s : Size) (op : Op) (operands : List Cells) (k : Kept B) : Type 0 where
+pub record IsRightFor {B : Type 0} (suits : Size → Op → List Cells → Aside B → Type 0) (s : Size) (op : Op) (operands : List Cells) (k : Kept B) : Type 0 where
   pub size : k.layer.size ≡ s
   pub right : k.layer.cells ≡ made s op operands
   pub faultless : fault_in s op operands ≡ None
@@ -26,7 +27,7 @@ module _ {B : Type 0} where
   -- what was kept, with what was made of it in place
   pub record IsPlaced (s : Size) (own : Option (Kept B)) (r : Option (Made B)) (stamp : ℕ) (new : Kept B) : Type 0 where
     pub layer : IsPlacedLayer own (shown s own r) stamp new.layer
-    pub beside : beside_after own r ≡ Some new.beside
+    pub beside : IsBesideAfter own r new.beside
 
   -- what is kept in a slot
   abbrev pub slot_of : List (Option (Kept B)) → Option ℕ → Option (Kept B)

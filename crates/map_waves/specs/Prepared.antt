@@ -7,7 +7,9 @@ use Rattle.layer_tiles.specs.Operands.{cells_after}
 use Rattle.layer_tiles.specs.Patches.{HoldsAll}
 use Rattle.map_waves.specs.Statements.{made, damage_by, work_by, fault_in}
 use Rattle.map_waves.specs.Plans.{StepDef, Plan, change_by, reckoned, operands_at}
+use Rattle.map_waves.specs.Keeping.{aside_of, CanPut, IsPut}
 use Rattle.map_waves.specs.Bases.{kept_by, plan_of}
+use Rattle.map_waves.specs.declared.keeping.Aside.{Aside}
 use Rattle.map_waves.specs.declared.keeping.Kept.{Kept}
 use Rattle.map_waves.specs.declared.keeping.Made.{Made}
 use Rattle.map_waves.specs.declared.plans.Step.{Step}
@@ -24,15 +26,15 @@ module _ {B : Type 0} where
   -- it can be shown
   abbrev pub IsReady : Size → Option (Kept B) → Option (Made B) → Type 0
   IsReady s None None = ⊥
-  IsReady s None (Some m) = (m.patch.size ≡ s) × HoldsAll m.patch
+  IsReady s None (Some m) = (m.patch.size ≡ s) × HoldsAll m.patch × CanPut None m.beside
   IsReady s (Some k) None = Unit {0}
-  IsReady s (Some k) (Some m) = (m.patch.size ≡ s) × (k.layer.size ≡ s)
+  IsReady s (Some k) (Some m) = (m.patch.size ≡ s) × (k.layer.size ≡ s) × CanPut (Some k.beside) m.beside
 
-  -- what is to stand beside the layer: what was made, else what was kept
-  abbrev pub beside_after : Option (Kept B) → Option (Made B) → Option B
-  beside_after own (Some m) = Some m.beside
-  beside_after (Some k) None = Some k.beside
-  beside_after None None = None
+  -- what stands beside the layer then: what comes of what was made, else what was kept
+  abbrev pub IsBesideAfter : Option (Kept B) → Option (Made B) → Aside B → Type 0
+  IsBesideAfter own (Some m) now = IsPut (aside_of own) m.beside now
+  IsBesideAfter (Some k) None now = now ≡ k.beside
+  IsBesideAfter None None now = ⊥
 
   -- the numbers of a statement that is left as it was are 0
   abbrev pub changed_in : Option (Made B) → ℕ
@@ -48,20 +50,20 @@ module _ {B : Type 0} where
   worked_in (Some m) = m.worked
 
   -- what is prepared of one statement
-  pub record IsMade (suits : Size → Op → List Cells → B → Type 0) (s : Size) (x : StepDef) (operands : List ChangeState) (own : Option (Kept B)) (r : Option (Made B)) : Type 0 where
+  pub record IsMade (suits : Size → Op → List Cells → Aside B → Type 0) (s : Size) (x : StepDef) (operands : List ChangeState) (own : Option (Kept B)) (r : Option (Made B)) : Type 0 where
     pub ready : IsReady s own r
     pub count : length (made s x.op (cells_after operands)) ≡ cells_in s
     pub change : shown s own r ≡ change_by s x operands
-    pub beside : (b : B) → beside_after own r ≡ Some b → suits s x.op (cells_after operands) b
+    pub beside : (b : Aside B) → IsBesideAfter own r b → suits s x.op (cells_after operands) b
     pub evaluated : evaluated_in r ≡ length (damage_by s x.op (reckoned x) operands)
     pub worked : worked_in r ≡ work_by s x.op (reckoned x) operands
     pub little : worked_in r < 2 ^ 32
     pub faultless : fault_in s x.op (cells_after operands) ≡ None
 
-  abbrev pub IsPrepared : (Size → Op → List Cells → B → Type 0) → Plan → ℕ → Option (Kept B) → Option (Made B) → Type 0
+  abbrev pub IsPrepared : (Size → Op → List Cells → Aside B → Type 0) → Plan → ℕ → Option (Kept B) → Option (Made B) → Type 0
   IsPrepared suits p k own r = IsMade suits p.size (p.step k) (operands_at p k) own r
 
 -- what is prepared of the statements from place `first` on
-abbrev pub ArePrepared : {O B : Type 0} → (O → Op) → (Size → Op → List Cells → B → Type 0) → Base B → List (Step O) → ℕ → List (Option (Made B)) → Type 0
+abbrev pub ArePrepared : {O B : Type 0} → (O → Op) → (Size → Op → List Cells → Aside B → Type 0) → Base B → List (Step O) → ℕ → List (Option (Made B)) → Type 0
 ArePrepared {O} {B} means suits base steps first rs = (i : ℕ) (x : Step O) (r : Option (Made B)) → slice_get steps (first + i) ≡ Some x → slice_get rs i ≡ Some r
     → IsPrepared suits (plan_of means base steps) (first + i) (kept_by base x.kept) r

@@ -41,15 +41,16 @@ pub trait Maker {
     ghost use Rattle.map_waves.specs.Statements.{damage_by, work_by};
     ghost use Rattle.map_waves.specs.Operands.{IsOperand};
     ghost use Rattle.map_waves.specs.Keeping.{kept_now, was_of, IsRightKept};
-    ghost use Rattle.map_waves.specs.Jobs.{JobsState, AreOver, was_in};
+    ghost use Rattle.map_waves.specs.Jobs.{JobsState, AreOver, was_in, aside_in};
     ghost use Rattle.map_waves.specs.Answers.{AreJobs, LacksJobs};
     ghost use Rattle.map_waves.specs.Gathered.{IsRepaired};
     ghost use Rattle.map_waves.specs.Found.{AreFound};
+    ghost use Rattle.map_waves.specs.declared.keeping.Aside.{Aside};
 
     /// An operation as it is written.
     type Op: Sync;
 
-    /// What is kept beside a layer.
+    /// What is kept beside a layer, where it is no layer.
     type Beside: Drop + Sync;
 
     /// What the jobs of one statement share.
@@ -71,13 +72,13 @@ pub trait Maker {
     ghost formed: { Self.Op → Type 0 };
 
     /// What is kept beside the layer of an operation is right for operands with these cells.
-    ghost suits: { Size → Op → List Cells → Self.Beside → Type 0 };
+    ghost suits: { Size → Op → List Cells → Aside Self.Beside → Type 0 };
 
     /// So many parts can be found from a ground.
     ghost grounded: { Size → Op → List ChangeState → ℕ → Self.Ground → Type 0 };
 
-    /// What may be found of a part: of so many, by its number.
-    ghost part: { Size → Op → List ChangeState → ℕ → ℕ → Self.Part → Type 0 };
+    /// What may be found of a part from a ground: of so many, by its number.
+    ghost part: { Size → Op → List ChangeState → Self.Ground → ℕ → ℕ → Self.Part → Type 0 };
 
     /// The looks that a ground and finding all its parts take at most.
     ghost grounding: { Size → Op → Option Cells → List ChangeState → ℕ };
@@ -134,7 +135,7 @@ pub trait Maker {
     ) -> Result<Self::Part, NoMemory>
         requires ground { ∥ grounded extent (means op.now) operands.now count ground.now ∥₁ }
         requires below { k < count }
-        ensures part { IfOk result (part extent (means op.now) operands.now count k) }
+        ensures part { IfOk result (part extent (means op.now) operands.now ground.now count k) }
         ensures looks { RisesBy (finding extent (means op.now) operands.now count k) 0 (M.counts tally.old) (M.counts tally.new) };
 
     /// The jobs of a statement: those of its whole damage, from what is kept, or of all tiles where nothing is; of the parts that were
@@ -185,5 +186,5 @@ pub trait Maker {
         requires jobs { AreJobs means sound first looks picks pieces jobs }
         requires count { length pieces_made.items ≡ jobs.count }
         requires each { (k : ℕ) (p : Self.Piece) → slice_get pieces_made.items k ≡ Some p → pieces jobs k (Ok p) }
-        ensures { IfOk result (IsRepaired suits jobs.entry.size (means jobs.entry.op) jobs.entry.operands (was_in jobs.entry)) };
+        ensures { IfOk result (IsRepaired suits jobs.entry.size (means jobs.entry.op) jobs.entry.operands (was_in jobs.entry) (aside_in jobs.entry)) };
 }

@@ -27,7 +27,7 @@ mod tickets;
 pub use counting::{Counts, count_all};
 pub use halts::{NoJobs, Stop};
 pub use jobs::{Jobs, Maker};
-pub use keeping::{Kept, Made};
+pub use keeping::{Aside, Kept, Made, Renewal};
 pub use laws::{kept_law, placed_law, values_law};
 pub use parts::all_found;
 pub use phases::repair_all;

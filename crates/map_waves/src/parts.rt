@@ -1,5 +1,5 @@
 //! Parts of layers that were not there, found by workers side by side.
-ghost use Rattle.std.specs.Prelude.{◌≡◌, ℕ, ◌*◌, ◌^◌, ◌<◌, ◌≤◌, false, length, Some, Ok, slice_get, IfOk, IfSome, sum_by};
+ghost use Rattle.std.specs.Prelude.{◌≡◌, ℕ, ◌*◌, ◌^◌, ◌<◌, ◌≤◌, length, Some, Ok, slice_get, IfOk, IfSome, sum_by};
 ghost use Rattle.std.specs.List.{All, range_with_len};
 ghost use Rattle.layer_tiles.specs.Tallies.{RisesBy, IsUndivided};
 ghost use Rattle.map_waves.specs.Operands.{IsOperand};
@@ -40,7 +40,7 @@ impl<'p, 'a, K: Maker> Work for Parts<'p, 'a, K> {
 
     ghost picks = { λ w k. 0 };
 
-    ghost answers = { λ w k d. IfOk d (K.part w.extent (K.means w.op.now) w.operands.now w.count k) };
+    ghost answers = { λ w k d. IfOk d (K.part w.extent (K.means w.op.now) w.operands.now w.ground.now w.count k) };
 
     fn job<M: Tally + Send>(
         &self,

@@ -1,11 +1,26 @@
 //! What was made of statements is put in place, without memory.
 ghost use Rattle.std.specs.Prelude.{◌≡◌, ◌≢◌, ◌<◌, ◌≤◌, ◌++◌, ◌∷◌, [], ℕ, length, Option, Some, None, IfSome, slice_get, slice_index_or, vec_len, vec_capacity};
+ghost use Rattle.map_waves.specs.Keeping.{CanPut, IsPut};
 ghost use Rattle.map_waves.specs.Prepared.{IsReady};
 ghost use Rattle.map_waves.specs.Placing.{IsPlaced, slot_of, HaveOwnSlots, AreReady, ArePlaced};
 
-use crate::keeping::{Kept, Made};
+use crate::keeping::{Aside, Kept, Made, Renewal};
 use crate::plans::Step;
 use layer_tiles::{Extent, Layer};
+
+/// Puts what was made in place of what stood beside a layer.
+fn renew<B: Drop>(beside: &mut Aside<B>, made: Renewal<B>, stamp: u64)
+    requires { CanPut (Some beside.old) made }
+    ensures { IsPut (Some beside.old) made beside.new }
+{
+    match made {
+        Renewal::Anew(new) => *beside = new,
+        Renewal::Patched(patch) => match beside {
+            Aside::Layer(layer) => layer.commit(patch, stamp),
+            Aside::Other(_) => unreachable!(),
+        },
+    }
+}
 
 /// Puts what was made in place of what was kept.
 fn put<B: Drop>(kept: &mut Kept<B>, made: Option<Made<B>>, extent: Extent, stamp: u64)
@@ -23,8 +38,24 @@ fn put<B: Drop>(kept: &mut Kept<B>, made: Option<Made<B>>, extent: Extent, stamp
     ) = made
     {
         kept.layer.commit(patch, stamp);
-        kept.beside = beside;
+        renew(&mut kept.beside, beside, stamp);
         kept.repaired = Some(worked);
+    }
+}
+
+/// What is kept of a statement of which nothing was.
+fn fresh<B: Drop>(made: Made<B>, extent: Extent, stamp: u64) -> Kept<B>
+    requires { IsReady extent None (Some made) }
+    ensures { IsPlaced extent None (Some made) stamp result }
+{
+    let Made { patch, beside, .. } = made;
+    let Renewal::Anew(beside) = beside else {
+        unreachable!();
+    };
+    Kept {
+        layer: Layer::fresh(patch, stamp),
+        beside,
+        repaired: None,
     }
 }
 
@@ -48,11 +79,7 @@ pub fn place<B: Drop>(
             kept
         }
         None => match made {
-            Some(Made { patch, beside, .. }) => Kept {
-                layer: Layer::fresh(patch, stamp),
-                beside,
-                repaired: None,
-            },
+            Some(made) => fresh(made, extent, stamp),
             None => unreachable!(),
         },
     }

@@ -20,7 +20,7 @@ use Rattle.layer_tiles.specs.declared.kernels.KernelRefusal.TheVariants.{Overflo
 use Rattle.statement_parser.specs.Views.{op_view}
 use Rattle.map_waves.specs.Statements.{work_by, fault_in, wide_at}
 use Rattle.map_waves.specs.Answers.{AreJobs, AreAnswers, AllOk, IsLeastOverflow, total_of}
-use Rattle.map_waves.specs.Jobs.{was_in}
+use Rattle.map_waves.specs.Jobs.{was_in, aside_in}
 use Rattle.op_jobs.specs.Owning.{IsOwn, AreTileJobs, count_of}
 use Rattle.op_jobs.specs.Pieces.{IsTilePiece, IsWholePiece}
 use Rattle.op_jobs.specs.Sound.{StatementJobs, IsSound, IsPiece, IsPieceOf, now_in, damage_in, first, looks, picks, first_by, looks_by, picks_by}
@@ -130,7 +130,7 @@ module _ (j : StatementJobs) (is : IsSound j) where
 
   -- ---- one job
 
-  whole_piece : (set : _) → an_own.Whole set ≡ j.own → (k : ℕ) (r : Result Piece KernelRefusal) → IsPiece j k r → IsWholePiece j.size op (was_in j) j.operands r
+  whole_piece : (set : _) → an_own.Whole set ≡ j.own → (k : ℕ) (r : Result Piece KernelRefusal) → IsPiece j k r → IsWholePiece j.size op (was_in j) (aside_in j) j.operands r
   unfolding IsPiece
   whole_piece set own k r p = let P : Own → Type 0 = λ o. IsPieceOf o j k r in subst P (sym own) p
 
@@ -143,7 +143,7 @@ module _ (j : StatementJobs) (is : IsSound j) where
       fault_is j.size op (cells_after j.operands) (viewers_none (class_of op) (cells_after j.operands) class)
       ∙ ap (option_map (λ at. wide_at at)) (narrow r (whole_piece set own 0 r (answers.each 0 r there)) (ok 0 r there))
     where
-      narrow : (r : Result Piece KernelRefusal) → IsWholePiece j.size op (was_in j) j.operands r → IsOk r → position is_wide (now_in j) ≡ None
+      narrow : (r : Result Piece KernelRefusal) → IsWholePiece j.size op (was_in j) (aside_in j) j.operands r → IsOk r → position is_wide (now_in j) ≡ None
       narrow (Ok (Tile o)) p e = absurd p
       narrow (Ok (Whole made)) p e = p.narrow
       narrow (Err x) p e = absurd cc

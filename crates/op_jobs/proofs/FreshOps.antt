@@ -1,5 +1,5 @@
 -- Layers that were not there, in the words of operations.
-use Rattle.std.proofs.Common.{◌≡◌, ℕ, ◌+◌, ◌*◌, ◌≤◌, Bool, false, true, List, [], ◌∷◌, length, Option, Some, None, refl, sym, ap, subst, ◌∙◌, arith, IsTrue}
+use Rattle.std.proofs.Common.{◌≡◌, ℕ, ◌+◌, ◌*◌, ◌≤◌, List, [], ◌∷◌, length, Option, Some, None, sym, ap, subst, ◌∙◌, arith}
 use Rattle.std.specs.List.{All}
 use Rattle.std.proofs.lemmas.List.FromFn.{length-range_with_len}
 use Rattle.map_nums.specs.Grids.{Size, Cells, cells_in}
@@ -7,7 +7,7 @@ use Rattle.map_nums.specs.Numbers.{greatest_value}
 use Rattle.map_nums.specs.Tiles.{tiles_in}
 use Rattle.map_defs.specs.Damage.{op_damage}
 use Rattle.map_defs.specs.Operate.{operand}
-use Rattle.map_defs.specs.Ops.{Head, flow_head, spread_head, nearest_head, region_head, Op}
+use Rattle.map_defs.specs.Ops.{Op}
 use Rattle.layer_tiles.specs.Changes.{ChangeState}
 use Rattle.layer_tiles.specs.Operands.{cells_after}
 use Rattle.layer_tiles.specs.Tallies.{TallyState, RisesBy}
@@ -15,7 +15,7 @@ use Rattle.layer_tiles.proofs.Rising.{rises_then, rises_within}
 use Rattle.map_waves.specs.Found.{AreFound}
 use Rattle.map_waves.specs.Operands.{IsOperand}
 use Rattle.map_waves.specs.Statements.{damage_by}
-use Rattle.op_jobs.specs.Grounds.{ArePathCells, AreFlowCells, IsBand, IsPart, IsGround, IsGroundOf, IsGrounded, IsGroundPart, AreGrounded, grounding}
+use Rattle.op_jobs.specs.Grounds.{ArePathCells, AreFlowCells, IsPart, IsGroundOf, IsGrounded, IsGroundPart, AreGrounded, grounding}
 use Rattle.op_jobs.specs.Sound.{first_by}
 use Rattle.op_jobs.specs.declared.ground.FlowCells.{FlowCells}
 use Rattle.op_jobs.specs.declared.ground.PathCells.{PathCells}
@@ -24,7 +24,6 @@ use Rattle.op_jobs.specs.declared.ground.Ground.TheVariants as a_ground
 use Rattle.op_jobs.specs.declared.ground.Part.{Part}
 use Rattle.op_jobs.specs.declared.own.Own.{Own}
 use Rattle.op_jobs.specs.declared.own.Own.TheVariants as an_own
-use Rattle.op_jobs.proofs.Repairing.{flow_head_is, spread_head_is, nearest_head_is, region_head_is}
 
 -- ---- reads
 
@@ -79,40 +78,13 @@ lists_rise s xs x y a b c both are r q =
     let other = ap (λ (z : Size). tiles_in z) (these 1 x (omega arith)).size in
     rises_within (tiles_in x.size + tiles_in y.size) (0 + 0) (2 * tiles_in s) 0 a c (omega (arith, one, other)) (omega arith) (rises_then (tiles_in x.size) 0 (tiles_in y.size) 0 a b c r q)
 
--- ---- from an operation's own parts to those of its ground, and back
-
-band_is : (s : Size) (op : Op) (operands : List ChangeState) (one other : Cells) (head : Head) → one ≡ operand (cells_after operands) 0 → other ≡ operand (cells_after operands) 1 → op.head ≡ head → (n k : ℕ) (p : Part) → IsPart s op operands n k p → IsBand head s one other n k p
-band_is s op operands one other head e f is n k p h =
-    subst (λ (x : Head). IsBand x s one other n k p) is
-    (subst (λ (xs : Cells). IsBand op.head s xs other n k p) (sym e) (subst (λ (xs : Cells). IsBand op.head s (operand (cells_after operands) 0) xs n k p) (sym f) h))
-
-part_is : (s : Size) (op : Op) (operands : List ChangeState) (one other : Cells) (head : Head) → one ≡ operand (cells_after operands) 0 → other ≡ operand (cells_after operands) 1 → op.head ≡ head → (n k : ℕ) (p : Part) → IsBand head s one other n k p → IsPart s op operands n k p
-part_is s op operands one other head e f is n k p h =
-    subst (λ (ys : Cells). IsBand op.head s (operand (cells_after operands) 0) ys n k p) f (subst (λ (xs : Cells). IsBand op.head s xs other n k p) e (subst (λ (x : Head). IsBand x s one other n k p) (sym is) h))
-
-no : false ≡ true → ⊥
-no e = cc
-
--- its cells are laid out
-abbrev pub is_laid : Ground → Bool
-is_laid a_ground.Zones = false
-is_laid from = true
+-- ---- parts
 
 module _ (s : Size) (op : Op) (operands : List ChangeState) where
-  pub ground_part : (ground : Ground) → IsGroundOf op ground → IsGround s operands ground → (n k : ℕ) (p : Part) → IsPart s op operands n k p → IsGroundPart s ground n k p
-  ground_part (a_ground.Costs g) of is = band_is s op operands g.sources.items g.friction.items (spread_head g.limit) is.sources_are is.friction_are (spread_head_is g.limit op.head of)
-  ground_part (a_ground.Nearest g) of is = band_is s op operands g.sources.items g.friction.items (nearest_head g.limit) is.sources_are is.friction_are (nearest_head_is g.limit op.head of)
-  ground_part (a_ground.Flow g) of is = band_is s op operands g.surface.items g.weights.items flow_head is.surface_is is.weights_are (flow_head_is op.head of)
-  ground_part (a_ground.Regions cells) of is = band_is s op operands cells.items (operand (cells_after operands) 1) region_head is.cells_are refl (region_head_is op.head of)
-  ground_part a_ground.Zones of is = λ n k p h. tt
-
-  pub part_of_ground : (ground : Ground) → IsGroundOf op ground → IsGround s operands ground → (n k : ℕ) (p : Part) → IsTrue (is_laid ground) → IsGroundPart s ground n k p → IsPart s op operands n k p
-  part_of_ground (a_ground.Costs g) of is n k p laid = part_is s op operands g.sources.items g.friction.items (spread_head g.limit) is.sources_are is.friction_are (spread_head_is g.limit op.head of) n k p
-  part_of_ground (a_ground.Nearest g) of is n k p laid = part_is s op operands g.sources.items g.friction.items (nearest_head g.limit) is.sources_are is.friction_are (nearest_head_is g.limit op.head of) n k p
-  part_of_ground (a_ground.Flow g) of is n k p laid = part_is s op operands g.surface.items g.weights.items flow_head is.surface_is is.weights_are (flow_head_is op.head of) n k p
-  part_of_ground (a_ground.Regions cells) of is n k p laid = part_is s op operands cells.items (operand (cells_after operands) 1) region_head is.cells_are refl (region_head_is op.head of) n k p
-  part_of_ground a_ground.Zones of is n k p laid = absurd (no laid)
+  ground_part : (ground : Ground) (n k : ℕ) (p : Part) → IsPart s op operands ground n k p → IsGroundPart s ground n k p
+  ground_part a_ground.Zones n k p h = tt
+  ground_part ground n k p h = h
 
   -- all parts that were found
   pub grounded : (ground : Ground) (parts : List Part) → AreFound IsGrounded IsPart s op operands ground parts → IsGroundOf op ground × AreGrounded s operands ground parts
-  grounded ground parts found = (found.from.of, record { from = found.from.is; some = found.from.some; each = λ k p e. ground_part ground found.from.of found.from.is (length parts) k p (found.each k p e) })
+  grounded ground parts found = (found.from.of, record { from = found.from.is; some = found.from.some; each = λ k p e. ground_part ground (length parts) k p (found.each k p e) })

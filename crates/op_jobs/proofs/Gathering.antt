@@ -20,10 +20,13 @@ use Rattle.layer_tiles.specs.declared.kernels.KernelRefusal.{KernelRefusal}
 use Rattle.layer_tiles.proofs.Whole.{tile_block_is}
 use Rattle.statement_parser.specs.Views.{op_view}
 use Rattle.map_waves.specs.Statements.{damage_by}
-use Rattle.map_waves.specs.Jobs.{was_in}
+use Rattle.map_waves.specs.Jobs.{was_in, aside_in}
+use Rattle.map_waves.specs.Keeping.{CanPut, IsPut}
 use Rattle.map_waves.specs.Gathered.{IsRepaired}
 use Rattle.map_waves.specs.declared.keeping.Made.{Made}
+use Rattle.map_waves.specs.declared.keeping.Renewal.{Renewal}
 use Rattle.op_jobs.specs.Beside.{suits}
+use Rattle.op_jobs.specs.Kernels.{beside_by}
 use Rattle.op_jobs.specs.Changed.{is_changed}
 use Rattle.op_jobs.specs.Pieces.{IsTilePiece, FitsTile, FitTiles, tiles_at, tiles_of}
 use Rattle.op_jobs.specs.Sound.{StatementJobs, IsSound, IsPiece, IsPieceOf, ArePieces, IsMadeOf, now_in}
@@ -156,7 +159,7 @@ module _ (j : StatementJobs) (jobs : TileJobs) (pieces : List Piece) (is : IsSou
       ∙ ap (numbered f) (sym (changed_within j.size (op_view j.op) j.operands (was_in j) is.size right is.edited.operands_are.formed.1 is.edited.operands_are.count))
 
   -- the repaired layer
-  pub made_repaired : (m : Made Beside) → IsMadeOf j.size jobs pieces m → IsRepaired suits j.size (op_view j.op) j.operands (was_in j) m
+  pub made_repaired : (m : Made Beside) → IsMadeOf j.size jobs pieces m → IsRepaired suits j.size (op_view j.op) j.operands (was_in j) (aside_in j) m
   made_repaired m made =
       let tiles_own = tile_own j jobs is own in
       let f = tile_block j.size (now_in j) in
@@ -166,7 +169,10 @@ module _ (j : StatementJobs) (jobs : TileJobs) (pieces : List Piece) (is : IsSou
         size = made.size;
         cells = ap (patched j.size (unwrap_or (was_in j) [])) numbers ∙ changed_makes j.size (was_in j) (now_in j) is.size (made_count j.size (op_view j.op) (cells_after j.operands));
         exact = ap numbers_of tiles_are ∙ numbers_are f (changed_tiles j.size (was_in j) (now_in j));
-        beside = subst (suits j.size (op_view j.op) (cells_after j.operands)) (sym made.beside_is) tiles_own.beside_is;
+        can_put = subst (CanPut (aside_in j)) (sym made.beside_is) tt;
+        beside = λ b put.
+            let is : b ≡ beside_by jobs.kernel = subst (λ (r : Renewal Beside). IsPut (aside_in j) r b) made.beside_is put in
+            subst (suits j.size (op_view j.op) (cells_after j.operands)) (sym is) tiles_own.beside_is;
         evaluated = made.evaluated ∙ ap length tiles_own.tiles;
         worked = made.worked ∙ tiles_own.work_is;
         little = subst (λ n. n < 2 ^ 32) (sym made.worked) tiles_own.little;

@@ -21,9 +21,12 @@ use Rattle.tile_work.specs.Working.{before_of}
 use Rattle.zonal_totals.specs.Books.{BookState}
 use Rattle.statement_parser.specs.Views.{op_view}
 use Rattle.map_waves.specs.Statements.{cells_were, damage_by, work_by}
-use Rattle.map_waves.specs.Jobs.{was_in}
+use Rattle.map_waves.specs.Jobs.{was_in, aside_in}
 use Rattle.map_waves.specs.Keeping.{was_of, IsRightKept}
 use Rattle.map_waves.specs.declared.keeping.Kept.{Kept}
+use Rattle.map_waves.specs.declared.keeping.Aside.{Aside}
+use Rattle.map_waves.specs.declared.keeping.Aside.TheVariants.{Other}
+use Rattle.map_waves.specs.declared.keeping.Renewal.TheVariants.{Anew}
 use Rattle.op_jobs.specs.Beside.{suits, suits_in, IsBook, AreViewers, book_at, book_in, viewers_at, kept_viewers, layer_in}
 use Rattle.op_jobs.specs.Classes.{is_nearest_in}
 use Rattle.op_jobs.specs.Owning.{IsOwn, IsWholeJob, reached}
@@ -48,8 +51,6 @@ use Rattle.op_jobs.proofs.Repairing.{alone_other}
 use Rattle.op_jobs.proofs.WholeDamage.{alone_damaged, damage_counted}
 use Rattle.op_jobs.proofs.ZonalStays.{range_from_faultless}
 
--- ---- reads
-
 -- ---- the book
 
 pub right_book : (s : Size) (stat : Stat) (t u : Term) (operands : List ChangeState) (kept : Option (Kept Beside)) (r : Option (Bor BookState)) → option_copied r ≡ book_in kept → IsRightKept suits s (zonal_op stat t u) operands kept → IfSome r (λ book. IsRightBook stat s operands book.now)
@@ -57,8 +58,8 @@ right_book s stat t u operands kept None e is = tt
 right_book s stat t u operands None (Some b) e is = absurd cc
 right_book s stat t u operands (Some k) (Some b) e is = at k.beside e is.beside
   where
-    at : (x : Beside) → Some b.now ≡ book_at x → IsBook s (operand (cells_were operands) 0) (operand (cells_were operands) 1) x → IsRightBook stat s operands b.now
-    at (Book c) f q =
+    at : (x : Aside Beside) → Some b.now ≡ book_at x → IsBook s (operand (cells_were operands) 0) (operand (cells_were operands) 1) x → IsRightBook stat s operands b.now
+    at (Other (Book c)) f q =
         let same : b.now ≡ c = cc in
         subst (IsRightBook stat s operands) (sym same) (record { there = is.there; size = q.0; book = q.1; in_range = range_from_faultless stat t u s (cells_were operands) is.faultless })
     at x f q = absurd q
@@ -72,8 +73,8 @@ book_there s stat t u operands None None e is = refl
 book_there s stat t u operands None (Some b) e is = absurd cc
 book_there s stat t u operands (Some k) r e is = at k.beside e is.beside
   where
-    at : (x : Beside) → option_copied r ≡ book_at x → IsBook s (operand (cells_were operands) 0) (operand (cells_were operands) 1) x → true ≡ is_some r
-    at (Book c) f q = some_of c r f
+    at : (x : Aside Beside) → option_copied r ≡ book_at x → IsBook s (operand (cells_were operands) 0) (operand (cells_were operands) 1) x → true ≡ is_some r
+    at (Other (Book c)) f q = some_of c r f
     at x f q = absurd q
 
 -- ---- the viewers
@@ -83,8 +84,8 @@ viewers_there s sight t u operands None None e is = refl
 viewers_there s sight t u operands None (Some b) e is = absurd cc
 viewers_there s sight t u operands (Some k) r e is = at k.beside e is.beside
   where
-    at : (x : Beside) → option_copied r ≡ viewers_at x → AreViewers s (operand (cells_were operands) 0) x → true ≡ is_some r
-    at (Viewers v) f q = some_of v r f
+    at : (x : Aside Beside) → option_copied r ≡ viewers_at x → AreViewers s (operand (cells_were operands) 0) x → true ≡ is_some r
+    at (Other (Viewers v)) f q = some_of v r f
     at x f q = absurd q
 
 -- ---- the layer
@@ -111,13 +112,13 @@ rises_at_size z s op b was operands x y e f is =
     let P : Size → Option Cells → Type 0 = λ v o. RisesBy (32 * length (damage_by v op o operands)) (1000 * work_by v op o operands) x y in
     subst (λ v. P v was) e (subst (P z) f is)
 
-pub whole_refusal : (s : Size) (op : Op) (was : Option Cells) (operands : List ChangeState) (e : KernelRefusal) → IsWholeAnswer s op was operands (Err e) → IsWholePiece s op was operands (Err e)
-whole_refusal s op was operands (Overflow at) is = is
-whole_refusal s op was operands NoMemory is = tt
+pub whole_refusal : (s : Size) (op : Op) (was : Option Cells) (operands : List ChangeState) (e : KernelRefusal) → IsWholeAnswer s op was operands (Err e) → (aside : Option (Aside Beside)) → IsWholePiece s op was aside operands (Err e)
+whole_refusal s op was operands (Overflow at) is aside = is
+whole_refusal s op was operands NoMemory is aside = tt
 
 -- ---- one job for all
 
-pub piece_whole : (j : StatementJobs) (job : WholeJob) (k : ℕ) (r : Result Piece KernelRefusal) → j.own ≡ an_own.Whole job → IsWholePiece j.size (op_view j.op) (was_in j) j.operands r → IsPiece j k r
+pub piece_whole : (j : StatementJobs) (job : WholeJob) (k : ℕ) (r : Result Piece KernelRefusal) → j.own ≡ an_own.Whole job → IsWholePiece j.size (op_view j.op) (was_in j) (aside_in j) j.operands r → IsPiece j k r
 unfolding IsPiece
 piece_whole j job k r own p = let P : Own → Type 0 = λ o. IsPieceOf o j k r in subst P (sym own) p
 
@@ -128,7 +129,7 @@ pub reached_size : (s : Size) (was : Option Cells) (operands : List ChangeState)
 reached_size s None operands set e = ap (λ (d : TileSetState). d.size) e
 reached_size s (Some w) operands set e = ap (λ (d : TileSetState). d.size) e
 
-pub work_beside : (class : Class) (s : Size) (cells : List Cells) → IsTrue (is_repaired class) → IsFalse (is_nearest_in class) → suits_in class s cells Nothing
+pub work_beside : (class : Class) (s : Size) (cells : List Cells) → IsTrue (is_repaired class) → IsFalse (is_nearest_in class) → suits_in class s cells (Other Nothing)
 work_beside (zonal_class stat) s cells e f = absurd cc
 work_beside (sight_class r) s cells e f = absurd cc
 work_beside (nearest_class limit) s cells e f = absurd cc
@@ -140,7 +141,7 @@ module _ (j : StatementJobs) (job : WholeJob) (is : IsSound j) (own : j.own ≡ 
 
   -- where nothing stands beside the layer
   pub alone_repaired : (lone : Lone) (patch : PatchState) (work : ℕ) → job.repair ≡ Alone lone → IsWholeMade j.size (op_view j.op) (was_in j) j.operands patch work
-      → IsWholeRepaired j.size (op_view j.op) (was_in j) j.operands (record { patch = patch; beside = Nothing; evaluated = count_any job.touched patch None; worked = work })
+      → IsWholeRepaired j.size (op_view j.op) (was_in j) (aside_in j) j.operands (record { patch = patch; beside = Anew (Other Nothing); evaluated = count_any job.touched patch None; worked = work })
   alone_repaired lone patch work repair made =
       let whole = whole_own j job is own in
       let class = class_of (op_view j.op) in
@@ -150,7 +151,8 @@ module _ (j : StatementJobs) (job : WholeJob) (is : IsSound j) (own : j.own ≡ 
           size = made.size;
           cells = made.cells;
           exact = made.exact;
-          beside = work_beside class j.size (cells_after j.operands) whole.class alone;
+          can_put = tt;
+          beside = λ b e. subst (λ (b : Aside Beside). suits j.size (op_view j.op) (cells_after j.operands) b) (sym e) (work_beside class j.size (cells_after j.operands) whole.class alone);
           evaluated = damage_counted j.size (op_view j.op) j.operands job.touched patch None (was_in j) whole.class made.size whole.set_is made.exact (λ w e t l. alone_damaged class j.size (cells_were j.operands) (cells_after j.operands) w (now_in j) t whole.class alone);
           worked = made.work_is;
           little = made.little;
@@ -159,12 +161,12 @@ module _ (j : StatementJobs) (job : WholeJob) (is : IsSound j) (own : j.own ≡ 
       }
 
   -- the piece of the one job
-  pub whole_pieces : (pieces : List Piece) → length pieces ≡ 1 → ArePieces j pieces → (m : Made Beside) × (pieces ≡ Whole m ∷ []) × IsWholeRepaired j.size (op_view j.op) (was_in j) j.operands m
+  pub whole_pieces : (pieces : List Piece) → length pieces ≡ 1 → ArePieces j pieces → (m : Made Beside) × (pieces ≡ Whole m ∷ []) × IsWholeRepaired j.size (op_view j.op) (was_in j) (aside_in j) j.operands m
   unfolding IsPiece
   whole_pieces [] n are = absurd (omega (arith, n))
   whole_pieces (p ∷ []) n are = at p (let P : Own → Type 0 = λ o. IsPieceOf o j 0 (Ok p) in subst P own (are 0 p refl))
     where
-      at : (p : Piece) → IsWholePiece j.size (op_view j.op) (was_in j) j.operands (Ok p) → (m : Made Beside) × (p ∷ [] ≡ Whole m ∷ []) × IsWholeRepaired j.size (op_view j.op) (was_in j) j.operands m
+      at : (p : Piece) → IsWholePiece j.size (op_view j.op) (was_in j) (aside_in j) j.operands (Ok p) → (m : Made Beside) × (p ∷ [] ≡ Whole m ∷ []) × IsWholeRepaired j.size (op_view j.op) (was_in j) (aside_in j) j.operands m
       at (Whole m) is = (m, refl, is)
       at (Tile made) is = absurd is
   whole_pieces (p ∷ q ∷ pieces) n are = absurd (omega (arith, n))

@@ -25,6 +25,7 @@ use Rattle.friction_neighbor.specs.Bands.{list_cells as value_cells}
 use Rattle.region_labels.specs.Provisional.{IsLabelList}
 use Rattle.region_labels.specs.declared.shows.ProvisionalLabels.{ProvisionalLabels}
 use Rattle.map_waves.specs.Statements.{made, damage_by, work_by, cells_were}
+use Rattle.map_waves.specs.declared.keeping.Aside.TheVariants.{Other}
 use Rattle.op_jobs.specs.Beside.{AreCosts}
 use Rattle.op_jobs.specs.Classes.{is_nearest}
 use Rattle.op_jobs.specs.Lists.{IsList, list_cells, IsListMade, IsFreshMade}
@@ -59,7 +60,7 @@ listed s op operands list n h works is cells work =
 
 -- a layer beside which nothing stands
 abbrev pub alone : LayerList → ℕ → FreshLayer
-alone list n = record { list = list; beside = Nothing; worked = n }
+alone list n = record { list = list; beside = Other Nothing; worked = n }
 
 alone_listed : (s : Size) (op : Op) (operands : List ChangeState) (list : LayerList) (n : ℕ) → IsSize s → IsTrue (has_work op) → IsFalse (is_nearest op) → IsList s list → list_cells s list ≡ made s op (cells_after operands) → n ≡ first_work s (list_cells s list) → IsFreshMade s op operands (alone list n)
 alone_listed s op operands list n h works none is cells work = record {

@@ -18,20 +18,21 @@ use Rattle.tile_work.specs.Working.{before_of}
 use Rattle.friction_neighbor.specs.Results.{costs_of, values_of, AreRightBefore, AreOldFor}
 use Rattle.friction_neighbor.specs.declared.repair.Nearest.{Nearest}
 use Rattle.statement_parser.specs.Views.{op_view}
-use Rattle.map_waves.specs.Jobs.{was_in}
-use Rattle.map_waves.specs.Keeping.{IsRightKept}
+use Rattle.map_waves.specs.Jobs.{was_in, aside_in}
+use Rattle.map_waves.specs.Keeping.{IsRightKept, aside_of}
 use Rattle.map_waves.specs.Operands.{IsOperand}
 use Rattle.map_waves.specs.Statements.{cells_were, damage_by, work_by}
 use Rattle.map_waves.specs.declared.keeping.Kept.{Kept}
 use Rattle.map_waves.specs.declared.keeping.Made.{Made}
-use Rattle.op_jobs.specs.Beside.{suits, AreCosts, costs_at, costs_in, layer_in}
+use Rattle.map_waves.specs.declared.keeping.Aside.{Aside}
+use Rattle.map_waves.specs.declared.keeping.Aside.TheVariants.{Layer, Other}
+use Rattle.op_jobs.specs.Beside.{suits, AreCosts, costs_at, costs_in, costs_aside, layer_in}
 use Rattle.op_jobs.specs.Nearest.{HasCosts, AreHanded}
 use Rattle.op_jobs.specs.Owning.{reached}
 use Rattle.op_jobs.specs.Pieces.{IsWholeRepaired}
 use Rattle.op_jobs.specs.Ranges.{HasRanges}
 use Rattle.op_jobs.specs.Sound.{StatementJobs, IsSound, damage_in}
 use Rattle.op_jobs.specs.declared.beside.Beside.{Beside}
-use Rattle.op_jobs.specs.declared.beside.Beside.TheVariants.{Costs}
 use Rattle.op_jobs.specs.declared.own.Own.TheVariants as an_own
 use Rattle.op_jobs.specs.declared.own.WholeJob.{WholeJob}
 use Rattle.op_jobs.proofs.Kept.{before_is, whole_own}
@@ -39,8 +40,8 @@ use Rattle.op_jobs.proofs.Sharing.{extent_is}
 
 -- ---- what is kept
 
-costs_there : (limit : ℕ) (s : Size) (cells : List Cells) (b : Beside) → AreCosts s (costs_by limit s cells) b → IsSome (costs_at b)
-costs_there limit s cells (Costs l) is = refl
+costs_there : (limit : ℕ) (s : Size) (cells : List Cells) (b : Aside Beside) → AreCosts s (costs_by limit s cells) b → IsSome (costs_at b)
+costs_there limit s cells (Layer l) is = refl
 costs_there limit s cells b is = absurd is
 
 pub has_costs : (s : Size) (op : Op) (operands : List ChangeState) (kept : Option (Kept Beside)) (limit : ℕ) (t u : Term) → op ≡ nearest_op limit t u → IsRightKept suits s op operands kept → HasCosts kept
@@ -53,8 +54,8 @@ right_before sources friction limit t u kept None e f is = tt
 right_before sources friction limit t u None (Some n) e f is = absurd cc
 right_before sources friction limit t u (Some k) (Some n) e f is = at k.beside e is.beside
   where
-    at : (b : Beside) → costs_of (Some n) ≡ costs_at b → AreCosts sources.size (costs_by limit sources.size (cells_were (sources ∷ friction ∷ []))) b → AreRightBefore sources friction limit n
-    at (Costs l) g q =
+    at : (b : Aside Beside) → costs_of (Some n) ≡ costs_at b → AreCosts sources.size (costs_by limit sources.size (cells_were (sources ∷ friction ∷ []))) b → AreRightBefore sources friction limit n
+    at (Layer l) g q =
         let cost : l ≡ n.cost.now = cc in
         let value : k.layer ≡ n.value.now = cc in
         record {
@@ -68,6 +69,15 @@ right_before sources friction limit t u (Some k) (Some n) e f is = at k.beside e
           values = subst (λ (xs : Cells). AreNearest sources.size (cells_before sources) (cells_before friction) limit xs) (sym is.right ∙ ap (λ (x : LayerState). x.cells) value) (nearest_is sources.size (cells_before sources) (cells_before friction) limit);
         }
     at b g q = absurd q
+
+-- the costs are what stands beside the layer
+costs_are_aside : (kept : Option (Kept Beside)) → HasCosts kept → costs_aside (costs_in kept) ≡ aside_of kept
+costs_are_aside None has = refl
+costs_are_aside (Some k) has = at k.beside has
+  where
+    at : (b : Aside Beside) → IsSome (costs_at b) → costs_aside (costs_at b) ≡ Some b
+    at (Layer l) is = refl
+    at (Other b) is = absurd cc
 
 -- ---- the job
 
@@ -112,8 +122,11 @@ module _ (j : StatementJobs) (is : IsSound j) (x : StatementJobs) (seen : x ≡ 
         tiles = to_kernel (λ s o w xs. job.touched ≡ reached 0 s w xs) (whole_own j job is own).set_is;
       }
 
-  pub nearest_piece : (m : Made Beside) → ((v w : Term) → IsWholeRepaired a.size (nearest_op limit v w) (before_of (values_of old)) (a ∷ b ∷ []) m) → IsWholeRepaired j.size (op_view j.op) (was_in j) j.operands m
-  nearest_piece m h = from_kernel (λ s o w xs. IsWholeRepaired s o w xs m) (h t u)
+  aside : costs_aside (costs_of old) ≡ aside_in j
+  aside = ap costs_aside (costs ∙ ap (λ (y : StatementJobs). costs_in y.kept) seen) ∙ costs_are_aside j.kept (has_costs j.size (op_view j.op) j.operands j.kept limit t u view is.edited.right)
+
+  pub nearest_piece : (m : Made Beside) → ((v w : Term) → IsWholeRepaired a.size (nearest_op limit v w) (before_of (values_of old)) (costs_aside (costs_of old)) (a ∷ b ∷ []) m) → IsWholeRepaired j.size (op_view j.op) (was_in j) (aside_in j) j.operands m
+  nearest_piece m h = from_kernel (λ s o w xs. IsWholeRepaired s o w (aside_in j) xs m) (subst (λ (x : Option (Aside Beside)). IsWholeRepaired a.size op (before_of (values_of old)) x (a ∷ b ∷ []) m) aside (h t u))
 
   pub nearest_tally : (from to : TallyState) → ((v w : Term) → RisesBy (32 * length (damage_by a.size (nearest_op limit v w) (before_of (values_of old)) (a ∷ b ∷ []))) (1000 * work_by a.size (nearest_op limit v w) (before_of (values_of old)) (a ∷ b ∷ [])) from to) → RisesBy (32 * damage_in j) (1000 * work_by j.size (op_view j.op) (was_in j) j.operands) from to
   nearest_tally from to h = from_kernel (λ s o w xs. RisesBy (32 * length (damage_by s o w xs)) (1000 * work_by s o w xs) from to) (h t u)

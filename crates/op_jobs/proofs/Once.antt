@@ -25,6 +25,8 @@ use Rattle.map_waves.specs.Statements.{cells_were}
 use Rattle.map_waves.specs.Jobs.{was_in}
 use Rattle.map_waves.specs.Keeping.{IsRightKept}
 use Rattle.map_waves.specs.declared.keeping.Kept.{Kept}
+use Rattle.map_waves.specs.declared.keeping.Aside.{Aside}
+use Rattle.map_waves.specs.declared.keeping.Aside.TheVariants.{Layer, Other}
 use Rattle.op_jobs.specs.Beside.{IsNothing, IsBook, AreViewers, AreCosts, suits, suits_in}
 use Rattle.op_jobs.specs.Grounds.{IsGround, IsGroundOf, IsGrounded}
 use Rattle.op_jobs.specs.Kernels.{CanMake, beside_by}
@@ -82,23 +84,23 @@ op_once op =
 
 -- ---- what is kept is right
 
-nothing_once : (b : Beside) → IsProp (IsNothing b)
-nothing_once a_beside.Nothing = Unit-prop
+nothing_once : (b : Aside Beside) → IsProp (IsNothing b)
+nothing_once (Other a_beside.Nothing) = Unit-prop
 nothing_once b = hlevel
 
-book_once : (s : Size) (values zones : Cells) (b : Beside) → IsProp (IsBook s values zones b)
-book_once s values zones (a_beside.Book b) = hlevel props
+book_once : (s : Size) (values zones : Cells) (b : Aside Beside) → IsProp (IsBook s values zones b)
+book_once s values zones (Other (a_beside.Book b)) = hlevel props
 book_once s values zones b = hlevel
 
-viewers_once : (s : Size) (cells : Cells) (b : Beside) → IsProp (AreViewers s cells b)
-viewers_once s cells (a_beside.Viewers v) = hlevel props
+viewers_once : (s : Size) (cells : Cells) (b : Aside Beside) → IsProp (AreViewers s cells b)
+viewers_once s cells (Other (a_beside.Viewers v)) = hlevel props
 viewers_once s cells b = hlevel
 
-costs_once : (s : Size) (cells : Cells) (b : Beside) → IsProp (AreCosts s cells b)
-costs_once s cells (a_beside.Costs l) = hlevel props
+costs_once : (s : Size) (cells : Cells) (b : Aside Beside) → IsProp (AreCosts s cells b)
+costs_once s cells (Layer l) = hlevel props
 costs_once s cells b = hlevel
 
-suits_once : (class : Class) (s : Size) (operands : List Cells) (b : Beside) → IsProp (suits_in class s operands b)
+suits_once : (class : Class) (s : Size) (operands : List Cells) (b : Aside Beside) → IsProp (suits_in class s operands b)
 suits_once (zonal_class stat) s operands b = book_once s (operand operands 0) (operand operands 1) b
 suits_once (sight_class r) s operands b = viewers_once s (operand operands 0) b
 suits_once (nearest_class limit) s operands b = costs_once s (costs_by limit s operands) b

@@ -1,5 +1,5 @@
 -- The damage of a statement that its reach tells, and what changed lies in it.
-use Rattle.std.proofs.Common.{◌≡◌, ℕ, ◌<◌, Bool, true, false, List, [], ◌∷◌, length, get_or, replicate, Some, None, refl, sym, ◌∙◌, ap, subst, arith}
+use Rattle.std.proofs.Common.{◌≡◌, ℕ, ◌<◌, Bool, true, false, List, [], ◌∷◌, length, get_or, replicate, Some, None, refl, sym, ◌∙◌, ap, arith}
 use Rattle.std.specs.Prelude.{◌==◌, ◌||◌}
 use Rattle.std.specs.List.{filter, list_any}
 use Rattle.std.proofs.Math.Bool.{or-false}
@@ -125,19 +125,16 @@ zonal_in stat (u ∷ v ∷ []) s (a ∷ b ∷ []) (c ∷ d ∷ []) t two n m e =
     zonal_damage stat s a b c d u v t ∙ or_right (tile_has s (has_changed (a ∷ b ∷ []) (c ∷ d ∷ [])) t) (tile_has s (differs (zonal_grid stat s a b).cells (zonal_grid stat s c d).cells) t) e
 zonal_in stat ts s before after t two n m e = absurd (omega arith)
 
-zonal_is : (head : Head) (stat : Stat) → (facts head).class ≡ zonal_class stat → head ≡ zonal_head stat
-zonal_is (zonal_head other) stat e = cc
-zonal_is head stat e = absurd cc
+felt_zonal : (head : Head) (stat : Stat) (ts : List Term) (s : Size) (before after : List Cells) (t : ℕ) → (facts head).class ≡ zonal_class stat → HasTerms (record { head = head; terms = ts }) → length before ≡ length ts → length after ≡ length ts → IsFeltIn head ts s before after t
+felt_zonal (zonal_head other) stat ts s before after t e two n m = zonal_in other ts s before after t (omega (arith, two.0, two.1)) n m
+felt_zonal head stat ts s before after t e two n m = absurd cc
 
 -- the changed tiles of a statement are damaged
 pub felt_there : (s : Size) (op : Op) (before after : List Cells) → IsSize s → HasTerms op → length before ≡ length op.terms → length after ≡ length op.terms → (t : ℕ) → t < tiles_in s → tile_has s (differs (made s op before) (made s op after)) t ≡ true → is_damaged op s before after (made s op before) (made s op after) t ≡ true
 felt_there s op before after size terms n m t l = by (class_of op) refl
   where
-    zonal : (head : Head) (stat : Stat) → head ≡ zonal_head stat → HasTerms (record { head = head; terms = op.terms }) → IsFeltIn head op.terms s before after t
-    zonal head stat z = subst (λ h. HasTerms (record { head = h; terms = op.terms }) → IsFeltIn h op.terms s before after t) (sym z) (λ two. zonal_in stat op.terms s before after t (omega (arith, two.0, two.1)) n m)
-
     by : (class : Class) → class_of op ≡ class → IsFeltIn op.head op.terms s before after t
-    by (zonal_class stat) e = zonal op.head stat (zonal_is op.head stat e) terms
+    by (zonal_class stat) e = felt_zonal op.head stat op.terms s before after t e terms n m
     by path_class e = worked_in s before after (made s op before) (made s op after) t (class_of op) (ap is_repaired e)
     by (nearest_class limit) e = worked_in s before after (made s op before) (made s op after) t (class_of op) (ap is_repaired e)
     by region_class e = worked_in s before after (made s op before) (made s op after) t (class_of op) (ap is_repaired e)

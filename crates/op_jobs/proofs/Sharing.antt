@@ -19,6 +19,7 @@ use Rattle.map_waves.specs.Statements.{damage_by}
 use Rattle.map_waves.specs.Operands.{IsOperand}
 use Rattle.map_waves.specs.Keeping.{kept_now, was_of, IsRightKept}
 use Rattle.map_waves.specs.Jobs.{was_in}
+use Rattle.map_waves.specs.declared.keeping.Aside.TheVariants.{Other}
 use Rattle.map_waves.specs.declared.keeping.Kept.{Kept}
 use Rattle.op_jobs.specs.Beside.{suits, suits_in}
 use Rattle.op_jobs.specs.Classes.{by_reach, by_reach_in, is_plain_in}
@@ -74,7 +75,7 @@ listed_is s op (Some w) operands r set list by e is items =
 pub record IsPlain (s : Size) (c : Class) (cells : List Cells) : Type 0 where
   pub by : by_reach_in c ≡ true
   pub class : IsFalse (is_repaired c)
-  pub beside_is : suits_in c s cells Nothing
+  pub beside_is : suits_in c s cells (Other Nothing)
   pub viewers : IsFalse (nat_lt most_viewers (viewers_by c cells))
 
 pub plain_is : (s : Size) (class : Class) (cells : List Cells) → IsTrue (is_plain_in class) → IsPlain s class cells

@@ -25,8 +25,11 @@ use Rattle.friction_neighbor.specs.declared.repair.NearestRepair.{NearestRepair}
 use Rattle.map_waves.specs.Operands.{IsOperand}
 use Rattle.map_waves.specs.Statements.{damage_by, work_by}
 use Rattle.map_waves.specs.declared.keeping.Made.{Made}
-use Rattle.op_jobs.specs.Beside.{AreCosts}
-use Rattle.op_jobs.specs.Nearest.{CanTake, IsNearestMade}
+use Rattle.map_waves.specs.Keeping.{CanPut, IsPut}
+use Rattle.map_waves.specs.declared.keeping.Renewal.{Renewal}
+use Rattle.map_waves.specs.declared.keeping.Aside.{Aside}
+use Rattle.op_jobs.specs.Beside.{AreCosts, costs_aside}
+use Rattle.op_jobs.specs.Nearest.{CanTake, costs_made, IsNearestMade}
 use Rattle.op_jobs.specs.Owning.{reached}
 use Rattle.op_jobs.specs.Pieces.{IsWholeRepaired}
 use Rattle.op_jobs.specs.declared.beside.Beside.{Beside}
@@ -39,6 +42,18 @@ use Rattle.op_jobs.proofs.WholeTiles.{numbers_exact, patch_of}
 pub can_take : (s : Size) (old : Option LayerState) (patch : PatchState) → patch.size ≡ s → ((l : LayerState) → old ≡ Some l → l.size ≡ s) → IsPatchFor s old patch.tiles → CanTake old patch
 can_take s None patch size is all = subst (λ (z : Size). HoldsAll (record { size = z; tiles = patch.tiles })) (sym size) all
 can_take s (Some l) patch size is exact = size ∙ sym (is l refl)
+
+-- what comes of the costs' tiles are the costs
+can_put_costs : (old : Option LayerState) (patch : PatchState) → CanTake old patch → CanPut (costs_aside old) (costs_made old patch)
+can_put_costs None patch can = tt
+can_put_costs (Some l) patch can = can
+
+put_costs : (old : Option LayerState) (patch : PatchState) → CanTake old patch → (b : Aside Beside) → IsPut (costs_aside old) (costs_made old patch) b → AreCosts patch.size (patched patch.size (base_of (before_of old)) patch.tiles) b
+put_costs None patch can b is = subst (AreCosts patch.size (patched patch.size [] patch.tiles)) (sym is) (refl, refl)
+put_costs (Some l) patch can b put =
+    let n : LayerState = put.0 in
+    let cells : n.cells ≡ patched patch.size l.cells patch.tiles = put.3 ∙ ap (λ (z : Size). patched z l.cells patch.tiles) (sym can) in
+    subst (AreCosts patch.size (patched patch.size l.cells patch.tiles)) (sym put.1) (put.2 ∙ sym can, cells)
 
 pub nearest_rises : (sources friction : ChangeState) (k limit : ℕ) (was : Option Cells) (t u : Term) (a b : TallyState) → k ≡ limit → IsSize sources.size → IsOperand sources.size sources → IsOperand sources.size friction → NearestReadsWithin 32 1000 sources friction k was a b
     → RisesBy (32 * length (damage_by sources.size (nearest_op limit t u) was (sources ∷ friction ∷ []))) (1000 * work_by sources.size (nearest_op limit t u) was (sources ∷ friction ∷ [])) a b
@@ -93,9 +108,10 @@ module _ (sources friction : ChangeState) (limit : ℕ) (old : Option Nearest) (
               ∙ tile_either s (differs (costs_by limit s (befores sources friction)) costs) (differs w values) k
 
       pub nearest_repaired : (touched : TileSetState) (m : Made Beside) → AreCells sources.cells → r.worked ≡ op_work op s (befores sources friction) (afters sources friction) was (patched s (base_of was) r.value.tiles)
-          → touched ≡ reached 0 s was (sources ∷ friction ∷ []) → IsNearestMade touched (costs_of old) r m → IsWholeRepaired s op was (sources ∷ friction ∷ []) m
+          → touched ≡ reached 0 s was (sources ∷ friction ∷ []) → IsNearestMade touched (costs_of old) r m → IsWholeRepaired s op was (costs_aside (costs_of old)) (sources ∷ friction ∷ []) m
       unfolding operate
       nearest_repaired touched m cells work set made =
+          let can : CanTake (costs_of old) r.cost = can_take s (costs_of old) r.cost sizes.0 costs_size exact.0 in
           let worked : m.worked ≡ op_work op s (befores sources friction) (afters sources friction) was values = made.worked ∙ work ∙ ap (λ (xs : Cells). op_work op s (befores sources friction) (afters sources friction) was xs) values_are in
           let numbers = numbers_exact s was values r.value.tiles (patch_of s r.value sizes.1 value_patch) (patch_to s (values_of old) values r.value.tiles values_are exact.1) in
           record {
@@ -103,7 +119,10 @@ module _ (sources friction : ChangeState) (limit : ℕ) (old : Option Nearest) (
               size = ap (λ (p : PatchState). p.size) made.patch ∙ sizes.1;
               cells = ap (λ (p : PatchState). patched s (base_of was) p.tiles) made.patch ∙ values_are;
               exact = ap (λ (p : PatchState). numbers_of p.tiles) made.patch ∙ numbers;
-              beside = subst (λ (xs : Cells). AreCosts s xs m.beside) costs_are (subst (λ (z : Size). AreCosts z (patched z (base_of (before_of (costs_of old))) r.cost.tiles) m.beside) sizes.0 made.beside);
+              can_put = subst (CanPut (costs_aside (costs_of old))) (sym made.beside) (can_put_costs (costs_of old) r.cost can);
+              beside = λ b put.
+                  let is : AreCosts r.cost.size (patched r.cost.size (base_of (before_of (costs_of old))) r.cost.tiles) b = put_costs (costs_of old) r.cost can b (subst (λ (x : Renewal Beside). IsPut (costs_aside (costs_of old)) x b) made.beside put) in
+                  subst (λ (xs : Cells). AreCosts s xs b) costs_are (subst (λ (z : Size). AreCosts z (patched z (base_of (before_of (costs_of old))) r.cost.tiles) b) sizes.0 is);
               evaluated = made.evaluated ∙ damage_counted s op (sources ∷ friction ∷ []) touched r.value (Some r.cost) was refl sizes.1 set numbers beside_damaged;
               worked = worked;
               little = subst (λ k. k < 2 ^ 32) (sym worked) (work_little s (befores sources friction) (afters sources friction) op was values h);

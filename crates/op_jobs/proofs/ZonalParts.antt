@@ -1,5 +1,5 @@
 -- What parts of a map's tiles count, and the looks that it takes.
-use Rattle.std.proofs.Common.{◌≡◌, ℕ, zero, suc, ◌+◌, ◌-◌, ◌*◌, ◌<◌, Bool, true, false, List, [], ◌∷◌, length, Option, Some, None, slice_get, refl, sym, ap, subst, ◌∙◌, arith, IsTrue, cond, Result, Ok, Err, IfOk}
+use Rattle.std.proofs.Common.{◌≡◌, ℕ, zero, suc, ◌+◌, ◌-◌, ◌*◌, ◌<◌, Bool, true, false, List, [], ◌∷◌, length, Option, Some, None, slice_get, refl, sym, ap, subst, ◌∙◌, arith, IsTrue, cond}
 use Rattle.std.specs.Prelude.{IfSome, Vec, is_some, option_map}
 use Rattle.std.specs.Borrow.{Bor}
 use Rattle.std.specs.List.{All, sum_by, range_with_len}
@@ -9,8 +9,7 @@ use Rattle.map_nums.specs.declared.Stat.{Stat}
 use Rattle.map_nums.specs.Grids.{Size, Cells}
 use Rattle.map_nums.specs.Tiles.{tiles_in}
 use Rattle.map_defs.specs.Operate.{operand}
-use Rattle.map_defs.specs.Facts.{facts}
-use Rattle.map_defs.specs.Ops.{Head, zonal_head, Op, Term, zonal_op}
+use Rattle.map_defs.specs.Ops.{Op, Term, zonal_op}
 use Rattle.layer_tiles.specs.Changes.{ChangeState}
 use Rattle.layer_tiles.specs.Operands.{cells_after}
 use Rattle.layer_tiles.specs.Tallies.{TallyState, RisesBy}
@@ -21,14 +20,20 @@ use Rattle.map_waves.specs.Operands.{IsOperand}
 use Rattle.map_waves.specs.Keeping.{kept_now, was_of}
 use Rattle.map_waves.specs.declared.keeping.Kept.{Kept}
 use Rattle.map_waves.proofs.Totals.{sum_next}
-use Rattle.op_jobs.specs.Classes.{is_zonal, is_zonal_in}
-use Rattle.op_jobs.specs.Grounds.{IsCounts, AreAllCounts, IsGrounded, IsBand, IsPart, laying, grounding, finding}
+use Rattle.op_jobs.specs.Classes.{is_zonal}
+use Rattle.op_jobs.specs.Grounds.{IsCounts, AreAllCounts, IsGroundOf, IsGrounded, IsPart, laying, grounding, finding}
 use Rattle.op_jobs.specs.Parts.{part_start}
 use Rattle.op_jobs.specs.declared.beside.Beside.{Beside}
+use Rattle.op_jobs.specs.Repairs.{head_of}
 use Rattle.op_jobs.specs.declared.ground.Ground.{Ground}
+use Rattle.op_jobs.specs.declared.ground.Ground.TheVariants as a_ground
+use Rattle.op_jobs.specs.declared.own.Lone.TheVariants.{Flow, Spread, Regions}
+use Rattle.op_jobs.specs.declared.own.Repair.{Repair}
+use Rattle.op_jobs.specs.declared.own.Repair.TheVariants.{Alone, Nearest}
 use Rattle.op_jobs.specs.declared.ground.Part.{Part}
 use Rattle.op_jobs.specs.declared.ground.Part.TheVariants.{Counts}
 use Rattle.op_jobs.proofs.Starts.{part_first, part_last, part_rises, parts_all}
+use Rattle.op_jobs.proofs.Repairing.{not_zonal}
 use Rattle.op_jobs.proofs.ZonalBook.{values_are, zones_are, second_in}
 
 no : false ≡ true → ⊥
@@ -80,14 +85,6 @@ all_found s op was operands n a b c none some r q =
 
 -- ---- what is found
 
-counted_in : (head : Head) (s : Size) (values zones : Cells) (n k : ℕ) (p : Part) → IsTrue (is_zonal_in (facts head).class) → IsCounts s values zones n k p → IsBand head s values zones n k p
-counted_in (zonal_head stat) s values zones n k p z h = h
-counted_in head s values zones n k p z h = absurd (no z)
-
-pub part_counted : {E : Type 0} (s : Size) (op : Op) (operands : List ChangeState) (n k : ℕ) (r : Result Part E) → IsTrue (is_zonal op) → IfOk r (IsCounts s (operand (cells_after operands) 0) (operand (cells_after operands) 1) n k) → IfOk r (IsPart s op operands n k)
-part_counted s op operands n k (Ok p) z h = counted_in op.head s (operand (cells_after operands) 0) (operand (cells_after operands) 1) n k p z h
-part_counted s op operands n k (Err e) z h = tt
-
 pub part_rises_by : (s : Size) (op : Op) (operands : List ChangeState) (n k : ℕ) (a b : TallyState) → IsTrue (is_zonal op) → RisesBy (2 * (part_start (tiles_in s) n (suc k) - part_start (tiles_in s) n k)) 0 a b → RisesBy (finding s op operands n k) 0 a b
 part_rises_by s op operands n k a b z = subst (λ zonal. RisesBy (finding_if zonal s n k) 0 a b) (sym z)
 
@@ -107,8 +104,18 @@ counts_are s xs v z n m k all first end c both are ea en ef ee h =
 pub all_counts : (s : Size) (op : Op) (operands : List ChangeState) (ground : Ground) (parts : List Part) (stat : Stat) (t u : Term) → op ≡ zonal_op stat t u → AreFound IsGrounded IsPart s op operands ground parts → AreAllCounts s (operand (cells_after operands) 0) (operand (cells_after operands) 1) parts
 all_counts s op operands ground parts stat t u is found = record {
   some = found.from.some;
-  each = λ k p e. subst (λ (o : Op). IsBand o.head s (operand (cells_after operands) 0) (operand (cells_after operands) 1) (length parts) k p) is (found.each k p e);
+  each = λ k p e. counts ground found.from.of (length parts) k p (found.each k p e);
 }
+  where
+    other : (repair : Repair) → op.head ≡ head_of repair → ⊥
+    other repair of = no (sym (not_zonal repair op.head of) ∙ ap (λ (o : Op). is_zonal o) is)
+
+    counts : (ground : Ground) → IsGroundOf op ground → (n k : ℕ) (p : Part) → IsPart s op operands ground n k p → IsCounts s (operand (cells_after operands) 0) (operand (cells_after operands) 1) n k p
+    counts a_ground.Zones of n k p h = h
+    counts (a_ground.Costs g) of n k p h = absurd (other (Alone (Spread g.limit)) of)
+    counts (a_ground.Nearest g) of n k p h = absurd (other (Nearest g.limit) of)
+    counts (a_ground.Flow g) of n k p h = absurd (other (Alone Flow) of)
+    counts (a_ground.Regions cells) of n k p h = absurd (other (Alone Regions) of)
 
 pub counts_found : (s : Size) (op : Op) (operands : List ChangeState) (found : Option (Ground × Vec Part Global)) (stat : Stat) (t u : Term) → op ≡ zonal_op stat t u → IfSome found (λ q. AreFound IsGrounded IsPart s op operands q.0 q.1.items)
     → IfSome (option_map (λ (q : Ground × Vec Part Global). q.1) found) (λ parts. AreAllCounts s (operand (cells_after operands) 0) (operand (cells_after operands) 1) parts.items)

@@ -3,7 +3,7 @@ use Rattle.std.specs.Prelude.{◌≡◌, ℕ, suc, ◌-◌, ◌*◌, ◌<◌, �
 use Rattle.map_nums.specs.Grids.{Size, Cells, cells_in}
 use Rattle.map_nums.specs.Numbers.{greatest_value}
 use Rattle.map_nums.specs.Tiles.{tiles_in}
-use Rattle.map_defs.specs.Ops.{Head, zonal_head, flow_head, spread_head, nearest_head, region_head, Op}
+use Rattle.map_defs.specs.Ops.{Op}
 use Rattle.map_defs.specs.Operate.{operand}
 use Rattle.layer_tiles.specs.Changes.{ChangeState}
 use Rattle.layer_tiles.specs.Operands.{cells_after}
@@ -130,25 +130,17 @@ pub record AreAllCounts (s : Size) (values zones : Cells) (parts : List Part) : 
   pub some : 0 < length parts
   pub each : (k : ℕ) (p : Part) → slice_get parts k ≡ Some p → IsCounts s values zones (length parts) k p
 
-abbrev pub IsBand : Head → Size → Cells → Cells → ℕ → ℕ → Part → Type 0
-IsBand (spread_head limit) s sources friction n k part = IsCosts (ground_of s sources friction limit) n k part
-IsBand (nearest_head limit) s sources friction n k part = IsNearest (ground_of s sources friction limit) n k part
-IsBand flow_head s surface weights n k part = IsFlows s surface weights n k part
-IsBand region_head s first second n k part = IsLabels s first n k part
-IsBand (zonal_head stat) s values zones n k part = IsCounts s values zones n k part
-IsBand head s first second n k part = ⊥
-
-abbrev pub IsPart : Size → Op → List ChangeState → ℕ → ℕ → Part → Type 0
-IsPart s op operands n k part = IsBand op.head s (operand (cells_after operands) 0) (operand (cells_after operands) 1) n k part
-
--- ---- in the words of what it was found from
-
+-- of what is laid out for a repair
 abbrev pub IsGroundPart : Size → Ground → ℕ → ℕ → Part → Type 0
 IsGroundPart s (a_ground.Costs g) n k part = IsCosts (path_ground s g) n k part
 IsGroundPart s (a_ground.Nearest g) n k part = IsNearest (path_ground s g) n k part
 IsGroundPart s (a_ground.Flow g) n k part = IsFlows s g.surface.items g.weights.items n k part
 IsGroundPart s (a_ground.Regions cells) n k part = IsLabels s cells.items n k part
 IsGroundPart s a_ground.Zones n k part = ⊤
+
+abbrev pub IsPart : Size → Op → List ChangeState → Ground → ℕ → ℕ → Part → Type 0
+IsPart s op operands a_ground.Zones n k part = IsCounts s (operand (cells_after operands) 0) (operand (cells_after operands) 1) n k part
+IsPart s op operands ground n k part = IsGroundPart s ground n k part
 
 -- all parts, in order, and what they were found from
 pub record AreGrounded (s : Size) (operands : List ChangeState) (ground : Ground) (parts : List Part) : Type 0 where

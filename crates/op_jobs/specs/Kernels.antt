@@ -19,6 +19,8 @@ use Rattle.sight_lines.specs.Puts.{sighting_of}
 use Rattle.sight_lines.specs.Viewed.{viewers_of}
 use Rattle.zonal_totals.specs.Books.{IsBookOf}
 use Rattle.statement_parser.specs.Formed.{IsRadius}
+use Rattle.map_waves.specs.declared.keeping.Aside.{Aside}
+use Rattle.map_waves.specs.declared.keeping.Aside.TheVariants.{Other}
 use Rattle.op_jobs.specs.Lists.{IsList, list_cells}
 use Rattle.op_jobs.specs.Operands.{AreBoth}
 use Rattle.op_jobs.specs.declared.beside.Beside as besides
@@ -54,11 +56,11 @@ kernel_reach Direction = 1
 kernel_reach kernel = 0
 
 -- what is to stand beside the layer
-abbrev pub beside_by : Kernel → besides.Beside
-beside_by (Zonal stat book) = a_beside.Book book
-beside_by (Sight sight viewers) = a_beside.Viewers viewers
+abbrev pub beside_by : Kernel → Aside besides.Beside
+beside_by (Zonal stat book) = Other (a_beside.Book book)
+beside_by (Sight sight viewers) = Other (a_beside.Viewers viewers)
 beside_by (Fresh fresh) = fresh.beside
-beside_by kernel = a_beside.Nothing
+beside_by kernel = Other a_beside.Nothing
 
 -- the units of work
 abbrev pub worked_by : Kernel → ℕ

@@ -2,9 +2,9 @@
 use Rattle.std.specs.Prelude.{◌≡◌, ℕ, ◌≤◌, [], ◌∷◌, Option, Some, None, IsSome}
 use Rattle.map_nums.specs.Numbers.{greatest_value}
 use Rattle.layer_tiles.specs.Changes.{ChangeState}
-use Rattle.layer_tiles.specs.Layers.{LayerState}
+use Rattle.layer_tiles.specs.Layers.{LayerState, layer_of}
 use Rattle.layer_tiles.specs.Patches.{PatchState, HoldsAll, patched}
-use Rattle.tile_work.specs.Working.{base_of, before_of}
+use Rattle.tile_work.specs.Working.{before_of}
 use Rattle.damage_sets.specs.Sets.{TileSetState}
 use Rattle.friction_spread.specs.Costs.{GroundState}
 use Rattle.friction_spread.specs.Lists.{list_cells as cost_cells}
@@ -14,6 +14,9 @@ use Rattle.friction_neighbor.specs.declared.lists.NearestList.{NearestList}
 use Rattle.friction_neighbor.specs.declared.repair.Nearest.{Nearest}
 use Rattle.friction_neighbor.specs.declared.repair.NearestRepair.{NearestRepair}
 use Rattle.map_waves.specs.Operands.{IsOperand}
+use Rattle.map_waves.specs.declared.keeping.Aside.TheVariants.{Layer}
+use Rattle.map_waves.specs.declared.keeping.Renewal.{Renewal}
+use Rattle.map_waves.specs.declared.keeping.Renewal.TheVariants.{Anew, Patched}
 use Rattle.map_waves.specs.declared.keeping.Kept.{Kept}
 use Rattle.map_waves.specs.declared.keeping.Made.{Made}
 use Rattle.op_jobs.specs.Beside.{AreCosts, costs_at}
@@ -41,15 +44,15 @@ abbrev pub CanTake : Option LayerState → PatchState → Type 0
 CanTake None patch = HoldsAll patch
 CanTake (Some l) patch = patch.size ≡ l.size
 
--- the tiles of a patch were put in
-pub record AreCommitted (old : Option LayerState) (patch : PatchState) (new : LayerState) : Type 0 where
-  pub size : new.size ≡ patch.size
-  pub cells : new.cells ≡ patched patch.size (base_of (before_of old)) patch.tiles
+-- the tiles of a patch are to be put into the layer that is there; where there is none, they are one
+abbrev pub costs_made : Option LayerState → PatchState → Renewal Beside
+costs_made None patch = Anew (Layer (layer_of patch.size (patched patch.size [] patch.tiles) 0))
+costs_made (Some l) patch = Patched patch
 
--- the numbers of nearest sources that changed, the costs after the edit, and the tiles that an operand, a number or a cost changed in
+-- the numbers of nearest sources that changed, the costs that did, and the tiles that an operand, a number or a cost changed in
 pub record IsNearestMade (touched : TileSetState) (old : Option LayerState) (repair : NearestRepair) (m : Made Beside) : Type 0 where
   pub patch : m.patch ≡ repair.value
-  pub beside : AreCosts repair.cost.size (patched repair.cost.size (base_of (before_of old)) repair.cost.tiles) m.beside
+  pub beside : m.beside ≡ costs_made old repair.cost
   pub evaluated : m.evaluated ≡ count_any touched repair.value (Some repair.cost)
   pub worked : m.worked ≡ repair.worked
 

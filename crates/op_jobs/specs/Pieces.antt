@@ -14,6 +14,7 @@ use Rattle.layer_tiles.specs.declared.kernels.KernelRefusal.{KernelRefusal}
 use Rattle.layer_tiles.specs.declared.kernels.KernelRefusal.TheVariants.{Overflow, NoMemory}
 use Rattle.map_waves.specs.Gathered.{IsRepaired}
 use Rattle.map_waves.specs.Statements.{made, work_by}
+use Rattle.map_waves.specs.declared.keeping.Aside.{Aside}
 use Rattle.map_waves.specs.declared.keeping.Made.{Made}
 use Rattle.op_jobs.specs.Beside.{suits}
 use Rattle.op_jobs.specs.Changed.{is_changed}
@@ -67,12 +68,12 @@ pub record IsWholeMade (s : Size) (op : Op) (was : Option Cells) (operands : Lis
   pub narrow : position is_wide (made s op (cells_after operands)) ≡ None
 
 -- the repaired layer with what stands beside it, all in range
-pub record IsWholeRepaired (s : Size) (op : Op) (was : Option Cells) (operands : List ChangeState) (m : Made Beside) : Type 0 where
-  pub repaired : IsRepaired suits s op operands was m
+pub record IsWholeRepaired (s : Size) (op : Op) (was : Option Cells) (aside : Option (Aside Beside)) (operands : List ChangeState) (m : Made Beside) : Type 0 where
+  pub repaired : IsRepaired suits s op operands was aside m
   pub narrow : position is_wide (made s op (cells_after operands)) ≡ None
 
-abbrev pub IsWholePiece : Size → Op → Option Cells → List ChangeState → Result Piece KernelRefusal → Type 0
-IsWholePiece s op was operands (Ok (Tile tile)) = ⊥
-IsWholePiece s op was operands (Ok (Whole m)) = IsWholeRepaired s op was operands m
-IsWholePiece s op was operands (Err (Overflow at)) = position is_wide (made s op (cells_after operands)) ≡ Some at
-IsWholePiece s op was operands (Err NoMemory) = Unit {0}
+abbrev pub IsWholePiece : Size → Op → Option Cells → Option (Aside Beside) → List ChangeState → Result Piece KernelRefusal → Type 0
+IsWholePiece s op was aside operands (Ok (Tile tile)) = ⊥
+IsWholePiece s op was aside operands (Ok (Whole m)) = IsWholeRepaired s op was aside operands m
+IsWholePiece s op was aside operands (Err (Overflow at)) = position is_wide (made s op (cells_after operands)) ≡ Some at
+IsWholePiece s op was aside operands (Err NoMemory) = Unit {0}

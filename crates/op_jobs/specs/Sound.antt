@@ -6,8 +6,9 @@ use Rattle.layer_tiles.specs.declared.kernels.KernelRefusal.{KernelRefusal}
 use Rattle.statement_parser.specs.Views.{op_view}
 use Rattle.statement_parser.specs.declared.op.Op.{Op}
 use Rattle.map_waves.specs.Statements.{made, damage_by, work_by}
-use Rattle.map_waves.specs.Jobs.{JobsState, was_in}
+use Rattle.map_waves.specs.Jobs.{JobsState, was_in, aside_in}
 use Rattle.map_waves.specs.declared.keeping.Made.{Made}
+use Rattle.map_waves.specs.declared.keeping.Renewal.TheVariants.{Anew}
 use Rattle.op_jobs.specs.Operands.{IsEdited}
 use Rattle.op_jobs.specs.Owning.{IsOwn, count_of}
 use Rattle.op_jobs.specs.Kernels.{beside_by, worked_by}
@@ -61,7 +62,7 @@ picks j k = picks_by j.own (work_by j.size (op_view j.op) (was_in j) j.operands)
 
 abbrev pub IsPieceOf : Own → StatementJobs → ℕ → Result Piece KernelRefusal → Type 0
 IsPieceOf (an_own.Tiles jobs) j k answer = IsTilePiece j.size (was_in j) (now_in j) (slice_index jobs.tiles.items k) answer
-IsPieceOf (an_own.Whole job) j k answer = IsWholePiece j.size (op_view j.op) (was_in j) j.operands answer
+IsPieceOf (an_own.Whole job) j k answer = IsWholePiece j.size (op_view j.op) (was_in j) (aside_in j) j.operands answer
 
 -- what job k may answer
 unfoldable pub IsPiece : StatementJobs → ℕ → Result Piece KernelRefusal → Type 0
@@ -75,6 +76,6 @@ ArePieces j pieces = (k : ℕ) (p : Piece) → slice_get pieces k ≡ Some p →
 pub record IsMadeOf (s : Size) (jobs : TileJobs) (pieces : List Piece) (m : Made Beside) : Type 0 where
   pub size : m.patch.size ≡ s
   pub tiles : m.patch.tiles ≡ tiles_of jobs.tiles.items pieces
-  pub beside_is : m.beside ≡ beside_by jobs.kernel
+  pub beside_is : m.beside ≡ Anew (beside_by jobs.kernel)
   pub evaluated : m.evaluated ≡ length jobs.tiles.items
   pub worked : m.worked ≡ worked_by jobs.kernel

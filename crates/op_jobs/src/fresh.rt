@@ -6,6 +6,7 @@ ghost use Rattle.map_defs.specs.Ops.{Op as Operation};
 ghost use Rattle.layer_tiles.specs.Changes.{ChangeState};
 ghost use Rattle.layer_tiles.specs.Tallies.{RisesBy};
 ghost use Rattle.statement_parser.specs.Views.{op_view};
+ghost use Rattle.map_waves.specs.declared.keeping.Aside.TheVariants.{Other};
 ghost use Rattle.op_jobs.specs.Grounds.{laying, AreZones, ArePathCells, AreFlowCells, IsGround, IsGroundOf, IsGroundPart};
 ghost use Rattle.op_jobs.specs.Lists.{IsFreshMade};
 ghost use Rattle.op_jobs.specs.Operands.{AreBoth, AreOperandsOf};
@@ -24,6 +25,7 @@ use crate::spread_bands::spread_by;
 use flat_cells::cells_of;
 use layer_tiles::{Extent, Operands, Tally};
 use map_nums::NoMemory;
+use map_waves::Aside;
 use statement_parser::Op;
 use std::alloc::Global;
 
@@ -106,11 +108,11 @@ pub(crate) fn ground_by<M: Tally>(
 
 /// A layer that was not there, beside which nothing stands.
 fn alone(list: LayerList, worked: u64) -> FreshLayer
-    ensures { result ≡ record { list = list; beside = Beside.Nothing; worked = worked } }
+    ensures { result ≡ record { list = list; beside = Other Beside.Nothing; worked = worked } }
 {
     FreshLayer {
         list,
-        beside: Beside::Nothing,
+        beside: Aside::Other(Beside::Nothing),
         worked,
     }
 }

@@ -1,5 +1,5 @@
 //! A tile of a statement, by the kernel of its class.
-ghost use Rattle.std.specs.Prelude.{◌≡◌, ◌<◌, ◌≤◌, length};
+ghost use Rattle.std.specs.Prelude.{◌≡◌, ◌<◌, length};
 ghost use Rattle.std.specs.List.{All};
 ghost use Rattle.map_defs.specs.Drainage.{direction_grid};
 ghost use Rattle.map_defs.specs.Focal.{focal_grid, offsets_of};
@@ -26,6 +26,7 @@ use incremental_ops::{Shape, shape_tile};
 use layer_tiles::{Extent, KernelRefusal, Operands, Tally, Tile};
 use local_ops::{LocalOp, local_tile};
 use map_nums::{NoMemory, Stat};
+use map_waves::Aside;
 use sight_lines::{Sight, Viewers};
 use std::alloc::Global;
 use zonal_totals::Book;
@@ -59,15 +60,15 @@ impl Kernel {
     }
 
     /// What is to stand beside the layer, and the units of work.
-    pub(crate) fn left(self) -> (Beside, u64)
+    pub(crate) fn left(self) -> (Aside<Beside>, u64)
         ensures beside { result.0 ≡ beside_by self }
         ensures work { result.1 ≡ worked_by self }
     {
         match self {
-            Kernel::Zonal(_, book) => (Beside::Book(book), 0),
-            Kernel::Sight(_, viewers) => (Beside::Viewers(viewers), 0),
+            Kernel::Zonal(_, book) => (Aside::Other(Beside::Book(book)), 0),
+            Kernel::Sight(_, viewers) => (Aside::Other(Beside::Viewers(viewers)), 0),
             Kernel::Fresh(fresh) => (fresh.beside, fresh.worked),
-            _ => (Beside::Nothing, 0),
+            _ => (Aside::Other(Beside::Nothing), 0),
         }
     }
 }

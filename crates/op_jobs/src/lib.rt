@@ -35,7 +35,7 @@ mod zonal_kernel;
 mod zonal_parts;
 mod zonal_zones;
 
-pub use beside::Beside;
+pub use beside::{Beside, copy_aside};
 pub use ground::{FlowCells, Ground, Part, PathCells};
 pub use kernels::Kernel;
 pub use own::{Own, Repair, TileJobs, WholeJob};

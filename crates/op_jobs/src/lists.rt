@@ -9,6 +9,7 @@ use drainage_flow::{FlowBand, flow_tile};
 use friction_neighbor::NearestList;
 use friction_spread::CostList;
 use layer_tiles::{Cell, Extent, KernelRefusal, Tile};
+use map_waves::Aside;
 use region_labels::ProvisionalLabels;
 use std::alloc::Global;
 
@@ -32,7 +33,7 @@ pub struct FlowList {
 #[derive(Drop)]
 pub struct FreshLayer {
     pub list: LayerList,
-    pub beside: Beside,
+    pub beside: Aside<Beside>,
     pub worked: u64,
 }
 

@@ -8,7 +8,6 @@ ghost use Rattle.op_jobs.specs.Parts.{part_start};
 ghost use Rattle.op_jobs.specs.declared.ground.Part.{Part};
 ghost use Rattle.op_jobs.specs.declared.ground.Part.TheVariants.{Nearest};
 
-use crate::beside::Beside;
 use crate::ground::{Part, PathCells};
 use crate::kinds::all_of;
 use crate::lists::{FreshLayer, LayerList};
@@ -17,6 +16,7 @@ use crate::whole_nearest::NO_STAMP;
 use friction_neighbor::{NearestBand, nearest_of_band, nearest_of_bands};
 use layer_tiles::{Extent, Layer, Value};
 use map_nums::NoMemory;
+use map_waves::Aside;
 use std::alloc::Global;
 
 /// The nearest sources within one of so many bands.
@@ -74,7 +74,7 @@ pub(crate) fn nearest_by(
     let worked = list.worked();
     Ok(FreshLayer {
         list: LayerList::Nearest(list),
-        beside: Beside::Costs(Layer::fresh(costs, NO_STAMP)),
+        beside: Aside::Layer(Layer::fresh(costs, NO_STAMP)),
         worked,
     })
 }

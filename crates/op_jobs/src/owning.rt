@@ -30,7 +30,7 @@ use crate::sight::sight_begin;
 use crate::zonal::zonal_begin;
 use layer_tiles::{Extent, Operands, Tally};
 use map_nums::{NoMemory, Stat};
-use map_waves::{Kept, NoJobs};
+use map_waves::{Aside, Kept, NoJobs};
 use sight_lines::{Sight, Viewers};
 use statement_parser::Op;
 use std::alloc::Global;
@@ -44,7 +44,7 @@ fn book_of(kept: Option<&Kept<Beside>>) -> Option<&Book>
         return None;
     };
     match &kept.beside {
-        Beside::Book(book) => Some(book),
+        Aside::Other(Beside::Book(book)) => Some(book),
         _ => None,
     }
 }
@@ -57,7 +57,7 @@ fn viewers_of(kept: Option<&Kept<Beside>>) -> Option<&Viewers>
         return None;
     };
     match &kept.beside {
-        Beside::Viewers(viewers) => Some(viewers),
+        Aside::Other(Beside::Viewers(viewers)) => Some(viewers),
         _ => None,
     }
 }

@@ -49,7 +49,7 @@ impl Maker for Statements {
     ghost use Rattle.map_waves.specs.Operands.{IsOperand};
     ghost use Rattle.map_waves.specs.Statements.{damage_by, work_by};
     ghost use Rattle.map_waves.specs.Gathered.{IsRepaired};
-    ghost use Rattle.map_waves.specs.Jobs.{was_in, AreOver};
+    ghost use Rattle.map_waves.specs.Jobs.{was_in, aside_in, AreOver};
     ghost use Rattle.statement_parser.specs.Views.{op_view};
     ghost use Rattle.op_jobs.specs.Beside.{suits as what_suits};
     ghost use Rattle.op_jobs.specs.Grounds.{IsGrounded, IsPart, grounding, finding};
@@ -193,7 +193,7 @@ impl Maker for Statements {
         requires jobs { AreJobs op_view IsSound first_looks job_looks job_picks IsPiece jobs }
         requires count { length pieces_made.items ≡ jobs.count }
         requires each { ArePieces jobs pieces_made.items }
-        ensures { IfOk result (IsRepaired what_suits jobs.entry.size (op_view jobs.entry.op) jobs.entry.operands (was_in jobs.entry)) }
+        ensures { IfOk result (IsRepaired what_suits jobs.entry.size (op_view jobs.entry.op) jobs.entry.operands (was_in jobs.entry) (aside_in jobs.entry)) }
     {
         let Jobs { extent, own, .. } = jobs;
         match own {

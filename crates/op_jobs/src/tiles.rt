@@ -18,7 +18,7 @@ use crate::own::{Own, TileJobs};
 use crate::pieces::Piece;
 use layer_tiles::{Extent, KernelRefusal, Patch, Tally, Tile};
 use map_nums::NoMemory;
-use map_waves::{Jobs, Kept, Made};
+use map_waves::{Jobs, Kept, Made, Renewal};
 use statement_parser::Op;
 use std::alloc::Global;
 
@@ -116,7 +116,7 @@ pub(crate) fn gather_tiles(
     let (beside, worked) = own.kernel.left();
     Ok(Made {
         patch,
-        beside,
+        beside: Renewal::Anew(beside),
         evaluated,
         worked,
     })

@@ -3,10 +3,12 @@ ghost use Rattle.std.specs.Prelude.{◌≡◌, ◌*◌, ◌∷◌, [], None};
 ghost use Rattle.std.specs.Option.{option_copied};
 ghost use Rattle.layer_tiles.specs.Tallies.{RisesBy};
 ghost use Rattle.statement_parser.specs.Views.{op_view};
-ghost use Rattle.map_waves.specs.Jobs.{was_in};
+ghost use Rattle.map_waves.specs.Jobs.{was_in, aside_in};
 ghost use Rattle.map_waves.specs.Keeping.{kept_now};
 ghost use Rattle.map_waves.specs.Statements.{work_by};
 ghost use Rattle.map_waves.specs.declared.keeping.Made.{Made};
+ghost use Rattle.map_waves.specs.declared.keeping.Aside.TheVariants.{Other};
+ghost use Rattle.map_waves.specs.declared.keeping.Renewal.TheVariants.{Anew};
 ghost use Rattle.op_jobs.specs.Beside.{layer_in};
 ghost use Rattle.op_jobs.specs.Pieces.{IsWholePiece};
 ghost use Rattle.op_jobs.specs.Sound.{IsSound, damage_in};
@@ -25,7 +27,7 @@ use crate::whole_nearest::{nearest_of, repair_nearest};
 use damage_sets::{TileSet, count_any};
 use layer_tiles::{Extent, KernelRefusal, Layer, Patch, Tally};
 use map_nums::NoMemory;
-use map_waves::{Jobs, Kept, Made};
+use map_waves::{Aside, Jobs, Kept, Made, Renewal};
 use statement_parser::Op;
 use std::alloc::Global;
 
@@ -42,12 +44,12 @@ fn layer_of(kept: Option<&Kept<Beside>>) -> Option<&Layer>
 /// What is made of the tiles that changed, where nothing stands beside the layer.
 fn made_alone(touched: &TileSet, patch: Patch, worked: u64) -> Made<Beside>
     requires { touched.now.size ≡ patch.size }
-    ensures { result ≡ record { patch = patch; beside = Beside.Nothing; evaluated = count_any touched.now patch None; worked = worked } }
+    ensures { result ≡ record { patch = patch; beside = Anew (Other Beside.Nothing); evaluated = count_any touched.now patch None; worked = worked } }
 {
     let evaluated = count_any(touched, &patch, None);
     Made {
         patch,
-        beside: Beside::Nothing,
+        beside: Renewal::Anew(Aside::Other(Beside::Nothing)),
         evaluated,
         worked,
     }
@@ -64,7 +66,7 @@ fn do_alone<M: Tally>(
     requires sound { IsSound jobs.now }
     requires own { jobs.now.own ≡ Whole job.now }
     requires repair { job.now.repair ≡ Alone lone }
-    ensures piece { IsWholePiece jobs.now.size (op_view jobs.now.op) (was_in jobs.now) jobs.now.operands result }
+    ensures piece { IsWholePiece jobs.now.size (op_view jobs.now.op) (was_in jobs.now) (aside_in jobs.now) jobs.now.operands result }
     ensures tally { RisesBy (32 * damage_in jobs.now) (1000 * work_by jobs.now.size (op_view jobs.now.op) (was_in jobs.now) jobs.now.operands) (M.counts tally.old) (M.counts tally.new) }
 {
     let old = layer_of(jobs.kept);
@@ -83,7 +85,7 @@ fn do_nearest<M: Tally>(
     requires sound { IsSound jobs.now }
     requires own { jobs.now.own ≡ Whole job.now }
     requires repair { job.now.repair ≡ Nearest limit }
-    ensures piece { IsWholePiece jobs.now.size (op_view jobs.now.op) (was_in jobs.now) jobs.now.operands result }
+    ensures piece { IsWholePiece jobs.now.size (op_view jobs.now.op) (was_in jobs.now) (aside_in jobs.now) jobs.now.operands result }
     ensures tally { RisesBy (32 * damage_in jobs.now) (1000 * work_by jobs.now.size (op_view jobs.now.op) (was_in jobs.now) jobs.now.operands) (M.counts tally.old) (M.counts tally.new) }
 {
     let (sources, friction) = both_of(jobs.operands);
@@ -103,7 +105,7 @@ pub(crate) fn do_whole<M: Tally>(
 ) -> Result<Piece, KernelRefusal>
     requires sound { IsSound jobs.now }
     requires own { jobs.now.own ≡ Whole job.now }
-    ensures piece { IsWholePiece jobs.now.size (op_view jobs.now.op) (was_in jobs.now) jobs.now.operands result }
+    ensures piece { IsWholePiece jobs.now.size (op_view jobs.now.op) (was_in jobs.now) (aside_in jobs.now) jobs.now.operands result }
     ensures tally { RisesBy (32 * damage_in jobs.now) (1000 * work_by jobs.now.size (op_view jobs.now.op) (was_in jobs.now) jobs.now.operands) (M.counts tally.old) (M.counts tally.new) }
 {
     match job.repair {
@@ -122,7 +124,7 @@ pub(crate) fn gather_whole(alloc: Global, extent: Extent, pieces: Vec<Piece>) ->
         Some(Piece::Whole(made)) => made,
         _ => Made {
             patch: Patch::new(alloc, extent),
-            beside: Beside::Nothing,
+            beside: Renewal::Anew(Aside::Other(Beside::Nothing)),
             evaluated: 0,
             worked: 0,
         },

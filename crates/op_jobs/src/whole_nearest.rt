@@ -7,8 +7,8 @@ ghost use Rattle.tile_work.specs.Working.{before_of};
 ghost use Rattle.friction_neighbor.specs.Results.{costs_of, values_of};
 ghost use Rattle.map_waves.specs.Keeping.{kept_now};
 ghost use Rattle.map_waves.specs.Statements.{damage_by, work_by};
-ghost use Rattle.op_jobs.specs.Beside.{costs_in, layer_in};
-ghost use Rattle.op_jobs.specs.Nearest.{HasCosts, AreHanded, CanTake, AreCommitted, IsNearestMade};
+ghost use Rattle.op_jobs.specs.Beside.{costs_in, costs_aside, layer_in};
+ghost use Rattle.op_jobs.specs.Nearest.{HasCosts, AreHanded, CanTake, costs_made, IsNearestMade};
 ghost use Rattle.op_jobs.specs.Pieces.{IsWholeRepaired};
 
 use crate::beside::Beside;
@@ -16,7 +16,7 @@ use damage_sets::{TileSet, count_any};
 use friction_neighbor::{Nearest, NearestRepair, neighbor_repair};
 use layer_tiles::{Change, Layer, Patch, Tally, Value};
 use map_nums::NoMemory;
-use map_waves::{Kept, Made};
+use map_waves::{Aside, Kept, Made, Renewal};
 use std::alloc::Global;
 
 /// The stamps of what stands beside a layer are asked by no one.
@@ -32,11 +32,11 @@ pub(crate) fn nearest_of(kept: Option<&Kept<Beside>>) -> Option<Nearest<'_>>
         return None;
     };
     match &kept.beside {
-        Beside::Costs(cost) => Some(Nearest {
+        Aside::Layer(cost) => Some(Nearest {
             cost,
             value: &kept.layer,
         }),
-        _ => None,
+        Aside::Other(_) => None,
     }
 }
 
@@ -50,39 +50,31 @@ fn costs_before<'a>(old: &Option<Nearest<'a>>) -> Option<&'a Layer>
     }
 }
 
-/// A copy of the old costs with the changed tiles put in; all tiles are new where there were none.
-fn costs_after(alloc: Global, old: Option<&Layer>, patch: Patch) -> Result<Layer, NoMemory>
+/// What the tiles of the costs that changed make of those that stand beside the layer; all tiles are new where there are none.
+fn costs_made(old: Option<&Layer>, patch: Patch) -> Renewal<Beside>
     requires { CanTake (option_copied old) patch }
-    ensures { IfOk result (AreCommitted (option_copied old.entry) patch) }
+    ensures { result ≡ costs_made (option_copied old.entry) patch }
 {
-    let Some(old) = old else {
-        return Ok(Layer::fresh(patch, NO_STAMP));
-    };
-    let mut costs = old.copy(alloc)?;
-    costs.commit(patch, NO_STAMP);
-    Ok(costs)
+    match old {
+        Some(_) => Renewal::Patched(patch),
+        None => Renewal::Anew(Aside::Layer(Layer::fresh(patch, NO_STAMP))),
+    }
 }
 
 /// What is made of the tiles that changed.
-fn made_nearest(
-    alloc: Global,
-    old: Option<&Layer>,
-    touched: &TileSet,
-    repair: NearestRepair,
-) -> Result<Made<Beside>, NoMemory>
+fn made_nearest(old: Option<&Layer>, touched: &TileSet, repair: NearestRepair) -> Made<Beside>
     requires size { touched.now.size ≡ repair.value.size }
     requires cost { touched.now.size ≡ repair.cost.size }
     requires old { CanTake (option_copied old) repair.cost }
-    ensures { IfOk result (IsNearestMade touched.now (option_copied old.entry) repair) }
+    ensures { IsNearestMade touched.now (option_copied old.entry) repair result }
 {
     let evaluated = count_any(touched, &repair.value, Some(&repair.cost));
-    let costs = costs_after(alloc, old, repair.cost)?;
-    Ok(Made {
+    Made {
         patch: repair.value,
-        beside: Beside::Costs(costs),
+        beside: costs_made(old, repair.cost),
         evaluated,
         worked: repair.worked,
-    })
+    }
 }
 
 /// Repairs the numbers of the nearest sources, and the least costs that stand beside them. `touched` are the tiles in which an
@@ -101,7 +93,7 @@ pub(crate) fn repair_nearest<M: Tally>(
     tally: &mut M,
 ) -> Result<Made<Beside>, NoMemory>
     requires { AreHanded sources.now friction.now limit old touched.now }
-    ensures made { IfOk result (λ m. (t u : Term) → IsWholeRepaired sources.now.size (nearest_op limit t u) (before_of (values_of old.entry)) (sources.now ∷ friction.now ∷ []) m) }
+    ensures made { IfOk result (λ m. (t u : Term) → IsWholeRepaired sources.now.size (nearest_op limit t u) (before_of (values_of old.entry)) (costs_aside (costs_of old.entry)) (sources.now ∷ friction.now ∷ []) m) }
     ensures tally { (t u : Term) → RisesBy (32 * length (damage_by sources.now.size (nearest_op limit t u) (before_of (values_of old.entry)) (sources.now ∷ friction.now ∷ []))) (1000 * work_by sources.now.size (nearest_op limit t u) (before_of (values_of old.entry)) (sources.now ∷ friction.now ∷ [])) (M.counts tally.old) (M.counts tally.new) }
 {
     let _sources = sources.extent();
@@ -110,6 +102,5 @@ pub(crate) fn repair_nearest<M: Tally>(
     let repair = neighbor_repair(alloc, old, sources, friction, limit as Value, tally)?;
     let _cost = repair.cost.extent();
     let _value = repair.value.extent();
-    let made = made_nearest(alloc, costs, touched, repair)?;
-    Ok(made)
+    Ok(made_nearest(costs, touched, repair))
 }

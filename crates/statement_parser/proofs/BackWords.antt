@@ -33,7 +33,7 @@ use Rattle.statement_parser.specs.Commands.{command_text, commands, find_command
 use Rattle.statement_parser.specs.Grammar.{define_rule, command_rule, IsLine}
 use Rattle.layer_tiles.specs.Cells.{IsCell}
 use Rattle.statement_parser.specs.Formed.{Each, InScope, AreInScope, IsTerm, IsRate, IsBetween, IsRadius, IsSighting, IsHead, IsOp, IsWritten}
-use Rattle.statement_parser.specs.There.{HasRow, MayBe, IsOpThere, IsWrittenThere}
+use Rattle.statement_parser.specs.There.{HasRow, MayIgnore, MayBe, IsOpThere, IsWrittenThere}
 use Rattle.statement_parser.specs.Canonical.{cell_text, optional_texts, rates_texts, radius_texts, sight_texts, friction_texts, ignoring_texts, head_texts, op_texts}
 use Rattle.statement_parser.specs.TermTexts.{term_text, terms_after, terms_texts}
 use Rattle.statement_parser.specs.declared.operation.Operation.{Operation}
@@ -293,18 +293,18 @@ module _ (scope : Scope) where
     maybe_there true word e same = same
     maybe_there false word e same = absurd cc
 
-    ignoring_back : (s : Stat) (ignoring : Bool) (g : Bool → Rule Text Line) (x : Line) → MayBe m (local_head s ignoring) → Derives (g ignoring) [] x → Derives (ignoring_part m g) (ignoring_texts ignoring) x
-    ignoring_back s true g x there d =
+    ignoring_back : (ignoring : Bool) (g : Bool → Rule Text Line) (x : Line) → MayIgnore m ignoring → Derives (g ignoring) [] x → Derives (ignoring_part m g) (ignoring_texts ignoring) x
+    ignoring_back true g x there d =
         also_derives (maybe m.ignoring (the (codes "ignoring"))) (λ _. next (the (codes "nulls")) (λ _. g true)) (g false) (codes "ignoring") tt (codes "nulls" ∷ []) x (maybe_there m.ignoring (codes "ignoring") there refl)
         (next_derives (the (codes "nulls")) (λ _. g true) (codes "nulls") tt [] x refl d)
-    ignoring_back s false g x there d =
+    ignoring_back false g x there d =
         rest_derives (maybe m.ignoring (the (codes "ignoring"))) (λ _. next (the (codes "nulls")) (λ _. g true)) (g false) [] x (λ w us e. absurd cc) d
 
     no_and : (ignoring : Bool) → Without (codes "and") (ignoring_texts ignoring)
     no_and true w us e = let same : codes "ignoring" ≡ w = cc in ap (the (codes "and")) (sym same)
     no_and false w us e = absurd cc
 
-    statistic_back : (s : Stat) (ignoring : Bool) (ts : List Term) → IsBetween 2 8 (length ts) → MayBe m (local_head s ignoring) → Each IsIn ts
+    statistic_back : (s : Stat) (ignoring : Bool) (ts : List Term) → IsBetween 2 8 (length ts) → MayIgnore m ignoring → Each IsIn ts
         → Derives (statistic_body scope m s ended) (codes "of" ∷ (terms_texts (codes "and") ts ++ ignoring_texts ignoring)) (mk (local_op s ignoring ts))
     statistic_back s ignoring [] n there h = absurd (let l = n.0 in omega arith)
     statistic_back s ignoring (a ∷ []) n there h = absurd (let l = n.0 in omega arith)
@@ -316,7 +316,7 @@ module _ (scope : Scope) where
         next_derives (term_of scope) _ (term_text a) a (codes "and" ∷ term_text b ∷ rest) x (term_back scope a h.0)
         (next_derives (term_of scope) (λ b. further_terms scope (codes "and") f 6 (a ∷ b ∷ [])) (term_text b) b rest x (term_back scope b h.1.0)
         (further_back (codes "and") f (ignoring_texts ignoring) x refl (no_and ignoring) 6 us (a ∷ b ∷ []) (omega arith) h.1.1
-        (ignoring_back s ignoring (λ i. ended (local_op s i (a ∷ b ∷ us))) x there refl)))
+        (ignoring_back ignoring (λ i. ended (local_op s i (a ∷ b ∷ us))) x there refl)))
 
     no_radiating : (b : Bool) (r : Option ℕ) (w : Text) (us : List Text) → radius_texts r ≡ w ∷ us → maybe b (the (codes "radiating")) w ≡ None
     no_radiating b None w us e = absurd cc

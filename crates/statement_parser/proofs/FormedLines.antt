@@ -13,7 +13,7 @@ use Rattle.map_words.specs.Names.{is_plain, is_dotted}
 use Rattle.map_words.specs.Numbers.{number_text, if_between}
 use Rattle.grammar_core.specs.Rules.{Rule, ends, on, next, also}
 use Rattle.grammar_core.proofs.Ends.{AllEnds, each_end, ends_on, ends_next, ends_or, ends_also}
-use Rattle.map_defs.specs.Ops.{Term, layer_term, number_term, Head, local_head, Op, of_one, of_two, local_op, rating_op, focal_op, direction_op, flow_op, sight_op}
+use Rattle.map_defs.specs.Ops.{Term, layer_term, number_term, Head, Op, of_one, of_two, local_op, rating_op, focal_op, direction_op, flow_op, sight_op}
 use Rattle.map_defs.specs.Facts.{facts}
 use Rattle.map_defs.specs.Sight.{Sighting}
 use Rattle.map_defs.specs.Statements.{Written, plain, call, Inner}
@@ -37,7 +37,7 @@ use Rattle.statement_parser.specs.Texts.{seen, LineText, silent, worded}
 use Rattle.statement_parser.specs.Parsed.{IsParsed}
 use Rattle.layer_tiles.specs.Cells.{IsCell}
 use Rattle.statement_parser.specs.Formed.{Each, InScope, AreInScope, IsFresh, AreFresh, IsInner, AreInner, IsBody, IsTerm, IsRate, IsNoProduct, IsBetween, IsRadius, IsSighting, IsHead, IsOp, IsWritten, IsSide, IsAny, IsItem, IsBranch, IsFormed}
-use Rattle.statement_parser.specs.There.{HasRow, HasCommand, MayBe, IsOpThere, IsWrittenThere, AreInnerThere, IsItemThere, IsThere}
+use Rattle.statement_parser.specs.There.{HasRow, HasCommand, MayIgnore, MayBe, IsOpThere, IsWrittenThere, AreInnerThere, IsItemThere, IsThere}
 use Rattle.statement_parser.proofs.LabelRules.{text_ends, sign_ends}
 use Rattle.std.proofs.lemmas.Slice.Eq.{bytes_eq-Decides}
 use Rattle.statement_parser.specs.declared.op.Form.{Form}
@@ -284,8 +284,8 @@ module _ (m : Manner) where
     optional_formed : {A : Type 0} (word : Text) (place : Text → Option A) (default : A) (f : A → Rule Text Line) → Formed (next place f) → Formed (f default) → Formed (optional_part word place default f)
     optional_formed word place default f there left_out = ends_also IsGood (the word) (λ _. next place f) (f default) (λ w v e. there) left_out
 
-    ignoring_formed : (s : Stat) (f : Bool → Rule Text Line) → Keeps (λ ignoring. MayBe m (local_head s ignoring)) f → Formed (ignoring_part m f)
-    ignoring_formed s f h =
+    ignoring_formed : (f : Bool → Rule Text Line) → Keeps (MayIgnore m) f → Formed (ignoring_part m f)
+    ignoring_formed f h =
         ends_also IsGood (maybe m.ignoring (the (codes "ignoring"))) (λ _. next (the (codes "nulls")) (λ _. f true)) (f false)
         (λ w v e. then_the (codes "nulls") (λ _. f true) (h true (maybe_some m.ignoring (the (codes "ignoring")) w v e).0)) (h false tt)
 
@@ -293,7 +293,7 @@ module _ (m : Manner) where
     statistic_formed s f there h =
         after_formed (codes "of") _ (λ a p. after_formed (codes "and") _ (λ b q.
         further_formed (codes "and") 2 8 (λ ts. ignoring_part m (λ ignoring. f (local_op s ignoring ts))) (λ ts r.
-        ignoring_formed s (λ ignoring. f (local_op s ignoring ts)) (λ ignoring may. h (local_op s ignoring ts) (kept (local_op s ignoring ts) (tt, there, may) (r.0, r.1) r.2)))
+        ignoring_formed (λ ignoring. f (local_op s ignoring ts)) (λ ignoring may. h (local_op s ignoring ts) (kept (local_op s ignoring ts) (tt, there, may) (r.0, r.1) r.2)))
         6 (a ∷ b ∷ []) (omega arith, omega arith, (p, (q, tt)))))
 
     single_formed : (head : Head) (f : Op → Rule Text Line) → Takes 1 head → IsGoodHead head → Keeps IsKept f → Formed (single_body scope head f)

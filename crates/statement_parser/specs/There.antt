@@ -1,5 +1,5 @@
 -- Which lines are there: those whose rows are.
-use Rattle.std.specs.Prelude.{true, ◌∷◌, List, IsTrue}
+use Rattle.std.specs.Prelude.{Bool, true, false, ◌∷◌, List, IsTrue}
 use Rattle.map_nums.specs.declared.Stat.TheVariants.{Sum}
 use Rattle.map_defs.specs.Ops.{Head, local_head, sight_head, Op}
 use Rattle.map_defs.specs.Statements.{Written, plain, call, Inner}
@@ -20,11 +20,20 @@ HasRow m o = IsTrue (has_row (Local Sum ∷ m.operations) (operation_text o))
 abbrev pub HasCommand : Manner → Command → Type 0
 HasCommand m c = IsTrue (has_command m.commands (command_text c))
 
+-- nulls are ignored in it
+abbrev pub is_ignoring : Head → Bool
+is_ignoring (local_head s ignoring) = ignoring
+is_ignoring head = false
+
+-- where they are, the language has words for it
+abbrev pub MayIgnore : Manner → Bool → Type 0
+MayIgnore m true = IsTrue m.ignoring
+MayIgnore m false = Unit {0}
+
 -- what else it asks of the language: that nulls may be ignored, that FocalSum may radiate
 abbrev pub MayBe : Manner → Head → Type 0
-MayBe m (local_head s true) = IsTrue m.ignoring
 MayBe m (sight_head s) = IsTrue m.sight
-MayBe m head = Unit {0}
+MayBe m head = MayIgnore m (is_ignoring head)
 
 abbrev pub IsOpThere : Manner → Op → Type 0
 IsOpThere m o = HasRow m (operation_of o.head) × MayBe m o.head

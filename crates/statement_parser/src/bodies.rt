@@ -3,12 +3,13 @@
 ghost use Rattle.std.specs.Prelude.{◌≡◌, suc, length, nat_abs, None, option_map, codes};
 ghost use Rattle.statement_parser.specs.Views.{texts_of, term_view, terms_view, op_view, reach_view, written_view, manner_of};
 ghost use Rattle.statement_parser.specs.Gives.{Gives};
+ghost use Rattle.statement_parser.specs.Lines.{Manner};
+ghost use Rattle.statement_parser.specs.declared.operation.Operation.TheVariants.{Proximity, Neighbor};
 ghost use Rattle.grammar_core.specs.Readers.{starts};
 ghost use Rattle.map_nums.specs.Numbers.{greatest_value};
-ghost use Rattle.map_defs.specs.Ops.{spread_head, nearest_head};
 ghost use Rattle.statement_parser.specs.Bodies.{radiates, drainage_op};
 ghost use Rattle.statement_parser.specs.Places.{the as word_of, maybe, call_of, value_of, disc_of, reach_of, limit_of, weights_of};
-ghost use Rattle.statement_parser.specs.ReadBodies.{nulls_at, ignoring_at, statistic_at, pair_at, rating_at, radius_at, sight_at, reaching_at, focal_at, costs_at, spread_at, drainage_at, operation_at, given_at, call_at, plain_at, called_at, body_at};
+ghost use Rattle.statement_parser.specs.ReadBodies.{nulls_at, ignoring_at, statistic_at, pair_at, rating_at, radius_at, sight_at, reaching_at, focal_at, costs_at, drainage_at, operation_at, given_at, call_at, plain_at, called_at, body_at};
 ghost use Rattle.statement_parser.specs.ScopeViews.{scope_of};
 ghost use Rattle.statement_parser.specs.ReadParts.{term_after_at, further_at, optional_at, range_at, rate_at, with_at, friction_at};
 
@@ -382,7 +383,7 @@ fn spread<'t, 'a>(
     scope: &Scope<'_>,
     words: &'t [Word<'a>],
 ) -> Result<(Op, &'t [Word<'a>]), ReadError>
-    ensures { Gives (λ x. (op_view x.0, texts_of x.1.now)) result (spread_at (scope_of scope.now) spread_head (texts_of words.now)) }
+    ensures { (m : Manner) → Gives (λ x. (op_view x.0, texts_of x.1.now)) result (operation_at (scope_of scope.now) m Proximity (texts_of words.now)) }
 {
     let ((of, friction, limit), rest) = costs(alloc, scope, words)?;
     Ok((
@@ -401,7 +402,7 @@ fn neighbor<'t, 'a>(
     scope: &Scope<'_>,
     words: &'t [Word<'a>],
 ) -> Result<(Op, &'t [Word<'a>]), ReadError>
-    ensures { Gives (λ x. (op_view x.0, texts_of x.1.now)) result (spread_at (scope_of scope.now) nearest_head (texts_of words.now)) }
+    ensures { (m : Manner) → Gives (λ x. (op_view x.0, texts_of x.1.now)) result (operation_at (scope_of scope.now) m Neighbor (texts_of words.now)) }
 {
     let ((of, friction, limit), rest) = costs(alloc, scope, words)?;
     Ok((

@@ -72,7 +72,7 @@ loop-place-preserved g c =
 pub returns : goal.returns
 returns g c =
     let most = c.requires.some in
-    let at : c.loop-place.place ≡ c.args.end = omega arith in
+    let at : c.loop-place.place ≡ c.args.end = let past = c.loop-place.auto.place-end (omega (arith, most)) in omega (arith, past) in
     record {
       between = subst (λ n. AreBetween (StaysAt g.K.Maker.means g.K.Maker.suits c.args.base.now c.args.steps.now) (length c.args.prepared.now) n (places_of c.loop-place.tasks.items)) at c.loop-place.invariant.between;
       each = c.loop-place.invariant.each;

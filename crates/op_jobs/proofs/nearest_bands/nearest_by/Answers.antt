@@ -5,7 +5,7 @@ use Rattle.layer_tiles.specs.Patches.{PatchState, patched}
 use Rattle.friction_spread.specs.Costs.{GroundState}
 use Rattle.friction_neighbor.specs.Bands.{IsNearestList}
 use Rattle.op_jobs.specs.Beside.{AreCosts}
-use Rattle.op_jobs.specs.declared.beside.Beside.TheVariants.{Costs}
+use Rattle.map_waves.specs.declared.keeping.Aside.TheVariants.{Layer}
 use Rattle.op_jobs.proofs.OneKind.{nearest_kind}
 use Rattle.op_jobs.proofs.SpreadBands.{ground_same, nearest_are}
 use Rattle.op_jobs.proofs.WholeSpread.{limit_fits}
@@ -20,7 +20,7 @@ nearest_of_bands-requires-clause-bands c =
     nearest_are _ _ c.in_ok-bands.bands.items _ c.args.parts.items same refl c.requires.some c.in_ok-bands.ensures.count c.in_ok-bands.ensures.each c.requires.each
 
 -- the layer of a patch of all costs
-costs_beside : (s : Size) (patch : PatchState) (cells : Cells) (layer : LayerState) (stamp : ℕ) → layer ≡ layer_of patch.size (patched patch.size [] patch.tiles) stamp → patch.size ≡ s → patched s [] patch.tiles ≡ cells → AreCosts s cells (Costs layer)
+costs_beside : (s : Size) (patch : PatchState) (cells : Cells) (layer : LayerState) (stamp : ℕ) → layer ≡ layer_of patch.size (patched patch.size [] patch.tiles) stamp → patch.size ≡ s → patched s [] patch.tiles ≡ cells → AreCosts s cells (Layer layer)
 costs_beside s patch cells layer stamp is size are = (ap (λ (l : LayerState). l.size) is ∙ size, ap (λ (l : LayerState). l.cells) is ∙ ap (λ z. patched z [] patch.tiles) size ∙ are)
 
 pub returns : goal.returns

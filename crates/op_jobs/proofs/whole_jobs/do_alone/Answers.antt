@@ -7,7 +7,7 @@ use Rattle.layer_tiles.specs.Patches.{PatchState}
 use Rattle.layer_tiles.specs.Tallies.{RisesBy}
 use Rattle.tile_work.specs.Working.{before_of}
 use Rattle.statement_parser.specs.Views.{op_view}
-use Rattle.map_waves.specs.Jobs.{was_in}
+use Rattle.map_waves.specs.Jobs.{was_in, aside_in}
 use Rattle.map_waves.specs.Statements.{damage_by, work_by}
 use Rattle.map_waves.specs.declared.keeping.Made.{Made}
 use Rattle.op_jobs.specs.Beside.{layer_in}
@@ -51,7 +51,7 @@ returns-in_err-patch-clause-piece g c =
     let e = c.in_err-patch.field-0.0 in
     let of = subst (λ (r : Repair). IsRepairOf (op_view j.op) r) c.requires.repair (whole_own j c.args.job.now is c.requires.own).repair_is in
     let answer = subst (λ (x : StatementJobs). IsWholeAnswer (size_of x.operands) (op_view j.op) (before_of (option_copied c.layer_of-old.result)) x.operands (Err e)) c.jobs.view_is (c.in_err-patch.ensures.answer (op_view j.op) of is.edited.operands_are.formed) in
-    rw (p.1, p.2) (whole_refusal j.size (op_view j.op) (was_in j) j.operands e (answer_at_size (size_of j.operands) j.size (op_view j.op) (before_of (option_copied c.layer_of-old.result)) (was_in j) j.operands (Err e) size (before_is j.kept (option_copied c.layer_of-old.result) layer) answer))
+    rw (p.1, p.2) (whole_refusal j.size (op_view j.op) (was_in j) j.operands e (answer_at_size (size_of j.operands) j.size (op_view j.op) (before_of (option_copied c.layer_of-old.result)) (was_in j) j.operands (Err e) size (before_is j.kept (option_copied c.layer_of-old.result) layer) answer) (aside_in j))
 
 pub made_alone-requires : goal.made_alone-requires
 made_alone-requires g c =
@@ -75,7 +75,7 @@ returns-clause-piece g c =
     let of = subst (λ (r : Repair). IsRepairOf (op_view j.op) r) c.requires.repair (whole_own j c.args.job.now is c.requires.own).repair_is in
     let answer = subst (λ (x : StatementJobs). IsWholeAnswer (size_of x.operands) (op_view j.op) (before_of (option_copied c.layer_of-old.result)) x.operands (Ok r)) c.jobs.view_is (c.in_ok-patch.ensures.answer (op_view j.op) of is.edited.operands_are.formed) in
     let made = answer_at_size (size_of j.operands) j.size (op_view j.op) (before_of (option_copied c.layer_of-old.result)) (was_in j) j.operands (Ok r) size (before_is j.kept (option_copied c.layer_of-old.result) layer) answer in
-    subst (λ (m : Made Beside). IsWholeRepaired j.size (op_view j.op) (was_in j) j.operands m) (sym c.made_alone.ensures) (alone_repaired j c.args.job.now is c.requires.own c.args.lone c.in_ok-patch.patch c.in_ok-patch.worked c.requires.repair made)
+    subst (λ (m : Made Beside). IsWholeRepaired j.size (op_view j.op) (was_in j) (aside_in j) j.operands m) (sym c.made_alone.ensures) (alone_repaired j c.args.job.now is c.requires.own c.args.lone c.in_ok-patch.patch c.in_ok-patch.worked c.requires.repair made)
 
 pub returns-in_err-patch-clause-tally : goal.returns-in_err-patch-clause-tally
 returns-in_err-patch-clause-tally g c =

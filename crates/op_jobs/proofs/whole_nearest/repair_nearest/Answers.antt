@@ -5,7 +5,8 @@ use Rattle.map_nums.specs.Widths.{value_width}
 use Rattle.map_defs.specs.Ops.{nearest_op}
 use Rattle.layer_tiles.specs.Layers.{LayerState}
 use Rattle.tile_work.specs.Working.{before_of}
-use Rattle.friction_neighbor.specs.Results.{values_of, AreOldFor}
+use Rattle.friction_neighbor.specs.Results.{costs_of, values_of, AreOldFor}
+use Rattle.op_jobs.specs.Beside.{costs_aside}
 use Rattle.op_jobs.specs.Nearest.{CanTake, IsNearestMade}
 use Rattle.op_jobs.specs.Pieces.{IsWholeRepaired}
 use Rattle.op_jobs.proofs.Kept.{reached_size}
@@ -36,16 +37,12 @@ returns-clause-made g c = λ t u.
     let ok = c.in_ok-repair.ensures in
     let old = subst (λ (n : ℕ). AreOldFor so fr n c.args.old) (sym l) c.requires.right in
     let size = c.extent-sources.ensures.size in
-    let made = subst (λ (o : Option LayerState). IsNearestMade c.args.touched.now o c.in_ok-repair.repair c.in_ok-made.made) c.costs_before-costs.ensures c.in_ok-made.ensures in
-    subst (λ (n : ℕ). IsWholeRepaired so.size (nearest_op n t u) (before_of (values_of c.args.old)) (so ∷ fr ∷ []) c.in_ok-made.made) l
-    (nearest_repaired so fr k c.args.old old t u size c.in_ok-repair.repair ok.sizes c.extent-cost.ensures.patch c.extent-value.ensures.patch ok.exact ok.cost ok.value c.args.touched.now c.in_ok-made.made c.extent-sources.ensures.change.are_cells (ok.worked t u) c.requires.tiles made)
+    let made = subst (λ (o : Option LayerState). IsNearestMade c.args.touched.now o c.in_ok-repair.repair c.made_nearest.result) c.costs_before-costs.ensures c.made_nearest.ensures in
+    subst (λ (n : ℕ). IsWholeRepaired so.size (nearest_op n t u) (before_of (values_of c.args.old)) (costs_aside (costs_of c.args.old)) (so ∷ fr ∷ []) c.made_nearest.result) l
+    (nearest_repaired so fr k c.args.old old t u size c.in_ok-repair.repair ok.sizes c.extent-cost.ensures.patch c.extent-value.ensures.patch ok.exact ok.cost ok.value c.args.touched.now c.made_nearest.result c.extent-sources.ensures.change.are_cells (ok.worked t u) c.requires.tiles made)
 
 pub returns-in_err-repair-clause-tally : goal.returns-in_err-repair-clause-tally
 returns-in_err-repair-clause-tally g c = λ t u.
-    nearest_rises c.args.sources.now c.args.friction.now _ c.args.limit (before_of (values_of c.args.old)) t u _ _ (limit_fits c.args.limit c.requires.low) c.extent-sources.ensures.size c.requires.first c.requires.second c.neighbor_repair.ensures.reads
-
-pub returns-in_err-made-clause-tally : goal.returns-in_err-made-clause-tally
-returns-in_err-made-clause-tally g c = λ t u.
     nearest_rises c.args.sources.now c.args.friction.now _ c.args.limit (before_of (values_of c.args.old)) t u _ _ (limit_fits c.args.limit c.requires.low) c.extent-sources.ensures.size c.requires.first c.requires.second c.neighbor_repair.ensures.reads
 
 pub returns-clause-tally : goal.returns-clause-tally

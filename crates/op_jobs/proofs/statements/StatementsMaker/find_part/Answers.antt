@@ -1,12 +1,11 @@
-use Rattle.std.proofs.Common.{◌∙◌, ap, subst, length, refl}
+use Rattle.std.proofs.Common.{◌∙◌, ap, subst, sym, length, IfOk}
 use Rattle.map_nums.specs.Grids.{Cells}
 use Rattle.statement_parser.specs.Views.{op_view}
-use Rattle.op_jobs.specs.Grounds.{IsGround, IsGroundOf, IsLabels}
-use Rattle.op_jobs.specs.declared.ground.Ground.TheVariants as a_ground
+use Rattle.op_jobs.specs.Grounds.{IsGround, IsGroundOf, IsLabels, IsPart}
+use Rattle.op_jobs.specs.declared.ground.Ground.{Ground}
 use Rattle.op_jobs.specs.declared.ground.Part.TheVariants.{Costs, Nearest, Flows, Labels}
-use Rattle.op_jobs.proofs.FreshOps.{part_of_ground}
 use Rattle.op_jobs.proofs.Once.{grounded_of}
-use Rattle.op_jobs.proofs.ZonalParts.{part_counted, part_rises_by}
+use Rattle.op_jobs.proofs.ZonalParts.{part_rises_by}
 use Rattle.op_jobs.proofs.statements.StatementsMaker.find_part.Goals as goal
 
 pub find_costs-requires-clause-cells : goal.find_costs-requires-clause-cells
@@ -56,35 +55,25 @@ count_part-requires-clause-few g c = (grounded_of c.args.extent (op_view c.args.
 
 pub returns-in_ok-find_costs-in-Costs-clause-part : goal.returns-in_ok-find_costs-in-Costs-clause-part
 returns-in_ok-find_costs-in-Costs-clause-part g c =
-    let op = op_view c.args.op.now in
-    let q = grounded_of c.args.extent op c.args.operands.now c.args.count c.args.ground.now c.requires.ground in
-    part_of_ground c.args.extent op c.args.operands.now (a_ground.Costs c.in-Costs.cells) (subst (IsGroundOf op) c.in-Costs.is q.of) (subst (IsGround c.args.extent c.args.operands.now) c.in-Costs.is q.is) c.args.count c.args.k (Costs c.in_ok-find_costs-in-Costs.field-0) refl c.in_ok-find_costs-in-Costs.ensures
+    subst (λ (x : Ground). IsPart c.args.extent (op_view c.args.op.now) c.args.operands.now x c.args.count c.args.k (Costs c.in_ok-find_costs-in-Costs.field-0)) (sym c.in-Costs.is) c.in_ok-find_costs-in-Costs.ensures
 
 pub returns-in_ok-find_nearest-in-Nearest-clause-part : goal.returns-in_ok-find_nearest-in-Nearest-clause-part
 returns-in_ok-find_nearest-in-Nearest-clause-part g c =
-    let op = op_view c.args.op.now in
-    let q = grounded_of c.args.extent op c.args.operands.now c.args.count c.args.ground.now c.requires.ground in
-    part_of_ground c.args.extent op c.args.operands.now (a_ground.Nearest c.in-Nearest.cells) (subst (IsGroundOf op) c.in-Nearest.is q.of) (subst (IsGround c.args.extent c.args.operands.now) c.in-Nearest.is q.is) c.args.count c.args.k (Nearest c.in_ok-find_nearest-in-Nearest.field-0) refl c.in_ok-find_nearest-in-Nearest.ensures
+    subst (λ (x : Ground). IsPart c.args.extent (op_view c.args.op.now) c.args.operands.now x c.args.count c.args.k (Nearest c.in_ok-find_nearest-in-Nearest.field-0)) (sym c.in-Nearest.is) c.in_ok-find_nearest-in-Nearest.ensures
 
 pub returns-in_ok-find_flows-in-Flow-clause-part : goal.returns-in_ok-find_flows-in-Flow-clause-part
 returns-in_ok-find_flows-in-Flow-clause-part g c =
-    let op = op_view c.args.op.now in
-    let q = grounded_of c.args.extent op c.args.operands.now c.args.count c.args.ground.now c.requires.ground in
-    part_of_ground c.args.extent op c.args.operands.now (a_ground.Flow c.in-Flow.cells) (subst (IsGroundOf op) c.in-Flow.is q.of) (subst (IsGround c.args.extent c.args.operands.now) c.in-Flow.is q.is) c.args.count c.args.k (Flows c.in_ok-find_flows-in-Flow.field-0) refl c.in_ok-find_flows-in-Flow.ensures
+    subst (λ (x : Ground). IsPart c.args.extent (op_view c.args.op.now) c.args.operands.now x c.args.count c.args.k (Flows c.in_ok-find_flows-in-Flow.field-0)) (sym c.in-Flow.is) c.in_ok-find_flows-in-Flow.ensures
 
 pub returns-in_ok-find_labels-in-Regions-clause-part : goal.returns-in_ok-find_labels-in-Regions-clause-part
 returns-in_ok-find_labels-in-Regions-clause-part g c =
-    let op = op_view c.args.op.now in
-    let q = grounded_of c.args.extent op c.args.operands.now c.args.count c.args.ground.now c.requires.ground in
     let labels = Labels c.in_ok-find_labels-in-Regions.field-0 in
     let here = subst (λ (cells : Cells). IsLabels c.args.extent cells c.args.count c.args.k labels) c.deref.ensures.value c.in_ok-find_labels-in-Regions.ensures in
-    part_of_ground c.args.extent op c.args.operands.now (a_ground.Regions c.in-Regions.cells) (subst (IsGroundOf op) c.in-Regions.is q.of) (subst (IsGround c.args.extent c.args.operands.now) c.in-Regions.is q.is) c.args.count c.args.k labels refl here
+    subst (λ (x : Ground). IsPart c.args.extent (op_view c.args.op.now) c.args.operands.now x c.args.count c.args.k labels) (sym c.in-Regions.is) here
 
 pub returns-in-Zones-clause-part : goal.returns-in-Zones-clause-part
 returns-in-Zones-clause-part g c =
-    let op = op_view c.args.op.now in
-    let q = grounded_of c.args.extent op c.args.operands.now c.args.count c.args.ground.now c.requires.ground in
-    part_counted c.args.extent op c.args.operands.now c.args.count c.args.k c.count_part.result (subst (IsGroundOf op) c.in-Zones.is q.of) c.count_part.ensures.counts
+    subst (λ (x : Ground). IfOk c.count_part.result (IsPart c.args.extent (op_view c.args.op.now) c.args.operands.now x c.args.count c.args.k)) (sym c.in-Zones.is) c.count_part.ensures.counts
 
 pub returns-in-Zones-clause-looks : goal.returns-in-Zones-clause-looks
 returns-in-Zones-clause-looks g c =

@@ -4,7 +4,7 @@ use Rattle.std.proofs.lemmas.Result.{IfOk-weaker}
 use Rattle.map_nums.specs.Tiles.{tiles_in}
 use Rattle.statement_parser.specs.Views.{op_view}
 use Rattle.map_waves.specs.Gathered.{IsRepaired}
-use Rattle.map_waves.specs.Jobs.{was_in}
+use Rattle.map_waves.specs.Jobs.{was_in, aside_in}
 use Rattle.map_waves.specs.declared.keeping.Made.{Made}
 use Rattle.op_jobs.specs.Beside.{suits}
 use Rattle.op_jobs.specs.Owning.{count_of}
@@ -74,4 +74,4 @@ returns c =
     let w = whole_pieces j c.in-Whole.field-0 sound own c.args.pieces_made.items (c.requires.count ∙ sound.count_is ∙ ap count_of own) c.requires.each in
     let both = sym w.1 ∙ c.gather_whole.ensures in
     let same : w.0 ≡ c.gather_whole.result = cc in
-    subst (λ (m : Made Beside). IsRepaired suits j.size (op_view j.op) j.operands (was_in j) m) same w.2.repaired
+    subst (λ (m : Made Beside). IsRepaired suits j.size (op_view j.op) j.operands (was_in j) (aside_in j) m) same w.2.repaired
