@@ -1,7 +1,8 @@
 -- The operands of a statement that stood before, and wasn't written, were all there.
-use Rattle.std.proofs.Common.{◌≡◌, ℕ, ℤ, zero, suc, Bool, true, false, List, [], ◌∷◌, map, Option, Some, None, IsSome, option_map, unwrap_or, slice_get, if◌then◌else◌, refl, sym, ap, subst, ◌∙◌, arith}
+use Rattle.std.proofs.Common.{◌≡◌, ℕ, ℤ, Bool, true, false, List, [], ◌∷◌, map, Option, Some, None, IsSome, option_map, unwrap_or, slice_get, if◌then◌else◌, refl, sym, ap, subst, ◌∙◌}
 use Rattle.std.specs.List.{All}
 use Rattle.std.proofs.lemmas.Option.{none-some}
+use Rattle.std.proofs.lemmas.List.Elements.{All-nil, All-cons}
 use Rattle.map_nums.specs.Grids.{Cells, Grid, constant}
 use Rattle.map_nums.specs.Options.{all_some}
 use Rattle.map_defs.specs.Ops.{Name, Term, layer_term, number_term, Op}
@@ -20,18 +21,12 @@ use Rattle.map_edits.specs.Touching.{ChangesOnly}
 use Rattle.map_waves.specs.declared.plans.Ref.{Ref}
 use Rattle.map_waves.specs.declared.plans.Ref.TheVariants.{Source, Statement, Number}
 use Rattle.map_waves.proofs.Running.{changes_at}
+use Rattle.edit_plans.proofs.There.{all_parts}
 
 -- all operands were there, with these cells
 pub record WereThere (os : List ChangeState) (cells : List (List (Option ℤ))) : Type 0 where
   pub there : All (λ (c : ChangeState). IsSome c.before) os
   pub before : cells_were os ≡ cells
-
-all_none : (P : ChangeState → Type 0) → All P []
-all_none P k d h = absurd (omega arith)
-
-all_cons : (P : ChangeState → Type 0) (c : ChangeState) (os : List ChangeState) → P c → All P os → All P (c ∷ os)
-all_cons P c os here rest zero d h = here
-all_cons P c os here rest (suc k) d h = rest k d (omega arith)
 
 was_some : (c : ChangeState) (was : Cells) → c.before ≡ Some was → IsSome c.before
 was_some c was e = subst IsSome (sym e) refl
@@ -56,31 +51,19 @@ module _ (touch : Touch) (s t : EngineState) (p : Plan) (sources names : List Na
   term_before k (number_term z) (Statement j) was is e = absurd is
 
   terms_before : (k : ℕ) (us : List Term) (rs : List Ref) (cells : List Cells) → AreRefsFor sources names k us rs → all_some (map (term_cells s.size (value_of s)) us) ≡ Some cells → WereThere (map (operand_in p (changes_to p k)) rs) cells
-  terms_before k [] [] cells are e = record { there = all_none (λ (c : ChangeState). IsSome c.before); before = cc }
+  terms_before k [] [] cells are e = record { there = All-nil (λ (c : ChangeState). IsSome c.before); before = cc }
   terms_before k [] (r ∷ rs) cells are e = absurd are
   terms_before k (u ∷ us) [] cells are e = absurd are
-  terms_before k (u ∷ us) (r ∷ rs) cells are e = go (term_cells s.size (value_of s) u) refl e (all_some (map (term_cells s.size (value_of s)) us)) refl (λ rest h. terms_before k us rs rest are.1 h)
-    where
-      here : ChangeState
-      here = operand_in p (changes_to p k) r
-
-      others : List ChangeState
-      others = map (operand_in p (changes_to p k)) rs
-
-      go : (o : Option Cells) → term_cells s.size (value_of s) u ≡ o → all_some (o ∷ map (term_cells s.size (value_of s)) us) ≡ Some cells
-          → (q : Option (List Cells)) → all_some (map (term_cells s.size (value_of s)) us) ≡ q → ((rest : List Cells) → all_some (map (term_cells s.size (value_of s)) us) ≡ Some rest → WereThere others rest)
-          → WereThere (here ∷ others) cells
-      go None is f q more later = absurd (none-some cells f)
-      go (Some own) is f None more later = absurd (none-some cells (sym (ap (option_map (λ rest. own ∷ rest)) more) ∙ f))
-      go (Some own) is f (Some rest) more later =
-          let both : Some (own ∷ rest) ≡ Some cells = sym (ap (option_map (λ rest. own ∷ rest)) more) ∙ f in
-          let same : own ∷ rest ≡ cells = cc in
-          let was : here.before ≡ Some own = term_before k u r own are.0 is in
-          let last = later rest more in
-          record {
-            there = all_cons (λ (c : ChangeState). IsSome c.before) here others (was_some here own was) last.there;
-            before = ap (λ o. unwrap_or o [] ∷ cells_were others) was ∙ ap (λ cs. own ∷ cs) last.before ∙ same;
-          }
+  terms_before k (u ∷ us) (r ∷ rs) cells are e =
+      let parts = all_parts (term_cells s.size (value_of s) u) (map (term_cells s.size (value_of s)) us) cells e in
+      let here : ChangeState = operand_in p (changes_to p k) r in
+      let others : List ChangeState = map (operand_in p (changes_to p k)) rs in
+      let was : here.before ≡ Some parts.0 = term_before k u r parts.0 are.0 parts.2 in
+      let last = terms_before k us rs parts.1 are.1 parts.3 in
+      record {
+        there = All-cons (λ (c : ChangeState). IsSome c.before) here others (was_some here parts.0 was) last.there;
+        before = ap (λ o. unwrap_or o [] ∷ cells_were others) was ∙ ap (λ cs. parts.0 ∷ cs) last.before ∙ parts.4;
+      }
 
   -- a statement that isn't written and was defined
   pub stood_on : (k : ℕ) (n : Name) (w : Cells) → slice_get names k ≡ Some n → (p.step k).written ≡ false → (p.step k).was ≡ Some w → StoodOn s p k w

@@ -1,6 +1,5 @@
 -- What each statement of a plan counts.
-use Rattle.std.proofs.Common.{◌≡◌, ℕ, suc, Bool, List, [], ◌∷◌, map, Option, Some, None, option_map, unwrap_or, slice_get, if◌then◌else◌, refl, sym, ap, ◌∙◌, arith}
-use Rattle.std.proofs.lemmas.Option.{none-some}
+use Rattle.std.proofs.Common.{◌≡◌, ℕ, suc, Bool, List, [], ◌∷◌, map, Option, Some, None, unwrap_or, slice_get, if◌then◌else◌, refl, sym, ap, ◌∙◌, arith}
 use Rattle.map_nums.specs.Grids.{Size, Cells}
 use Rattle.map_nums.specs.Options.{all_some}
 use Rattle.map_defs.specs.Ops.{Name, Term, Op}
@@ -19,20 +18,14 @@ use Rattle.edit_plans.specs.PlansFor.{IsPlanFor}
 use Rattle.map_edits.specs.Touching.{ChangesOnly}
 use Rattle.edit_plans.proofs.Valued.{all_made, operands_made}
 use Rattle.edit_plans.proofs.Before.{stood_on, reckoned_stood}
+use Rattle.edit_plans.proofs.There.{all_parts}
 
 -- where all are there, each is
 pub all_each : (f : Term → Option Cells) (us : List Term) (cells : List Cells) → all_some (map f us) ≡ Some cells → map (λ u. unwrap_or (f u) []) us ≡ cells
 all_each f [] cells e = cc
-all_each f (u ∷ us) cells e = go (f u) refl (all_some (map f us)) refl e (all_each f us)
-  where
-    go : (o : Option Cells) → f u ≡ o → (q : Option (List Cells)) → all_some (map f us) ≡ q → all_some (o ∷ map f us) ≡ Some cells
-        → ((rest : List Cells) → all_some (map f us) ≡ Some rest → map (λ u. unwrap_or (f u) []) us ≡ rest) → unwrap_or (f u) [] ∷ map (λ u. unwrap_or (f u) []) us ≡ cells
-    go None is q more e later = absurd (none-some cells e)
-    go (Some own) is None more e later = absurd (none-some cells (sym (ap (option_map (λ rest. own ∷ rest)) more) ∙ e))
-    go (Some own) is (Some rest) more e later =
-        let both : Some (own ∷ rest) ≡ Some cells = sym (ap (option_map (λ rest. own ∷ rest)) more) ∙ e in
-        let same : own ∷ rest ≡ cells = cc in
-        ap (λ o. unwrap_or o [] ∷ map (λ u. unwrap_or (f u) []) us) is ∙ ap (λ cs. own ∷ cs) (later rest more) ∙ same
+all_each f (u ∷ us) cells e =
+    let parts = all_parts (f u) (map f us) cells e in
+    ap (λ o. unwrap_or o [] ∷ map (λ u. unwrap_or (f u) []) us) parts.2 ∙ ap (λ cs. parts.0 ∷ cs) (all_each f us parts.1 parts.3) ∙ parts.4
 
 -- a statement that was undefined, or is written, is damaged and worked on whatever its operands were
 damage_new : (op : Op) (s : Size) (a b after : List Cells) (now : Cells) → op_damage op s a after None now ≡ op_damage op s b after None now

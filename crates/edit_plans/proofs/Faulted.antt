@@ -1,24 +1,59 @@
--- The first fault of a state is the first fault of its plan.
-use Rattle.std.proofs.Common.{◌≡◌, ℕ, zero, suc, ◌<◌, Bool, true, false, cond, List, [], ◌∷◌, map, filter, length, Option, Some, None, is_some, option_map, slice_get, get_or, ◌↔◌, refl, sym, ap, ◌∙◌, arith}
+-- The fault of a layer that is defined, by its operation and the cells of its operands; and the first fault of a state is the first fault of its plan.
+use Rattle.std.proofs.Common.{◌≡◌, ℕ, zero, suc, ◌<◌, List, [], ◌∷◌, map, filter, length, Option, Some, None, is_some, option_map, slice_get, get_or, ◌↔◌, refl, sym, ap, ◌∙◌, arith, inl, inr, ◌&&◌, nat_lt, Bool, true, false, position, unwrap_or, if◌then◌else◌}
 use Rattle.std.proofs.lemmas.Option.{none-some, slice_get_within, slice_get-get_or}
-use Rattle.map_nums.specs.Options.{first_some}
-use Rattle.map_defs.specs.Ops.{Name}
+use Rattle.std.proofs.lemmas.Bool.{cases_Bool}
+use Rattle.map_nums.specs.Options.{first_some, all_some}
+use Rattle.map_defs.specs.Ops.{Name, Term, Op}
 use Rattle.map_defs.specs.Nodes.{Node}
 use Rattle.map_defs.specs.Depths.{by_depth}
 use Rattle.layer_tiles.specs.Operands.{cells_after}
-use Rattle.map_edits.specs.LayerDefs.{nodes_of}
-use Rattle.map_edits.specs.EngineStates.{EngineState, value_of}
-use Rattle.map_edits.specs.Faults.{Fault, fault_of_layer, fault_of}
+use Rattle.map_edits.specs.LayerDefs.{nodes_of, by_op, layers, find_making}
+use Rattle.map_edits.specs.EngineStates.{EngineState, value_of, term_cells}
+use Rattle.map_edits.specs.Faults.{Fault, fault_of_layer, fault_of, too_many_viewers, viewers_of, overflow_at}
 use Rattle.map_edits.specs.Laws.{HasNoCycle}
 use Rattle.map_edits.specs.Touches.{Touch}
-use Rattle.map_waves.specs.Statements.{fault_in}
-use Rattle.map_waves.specs.Statements as waves
+use Rattle.map_waves.specs.Statements.{fault_in, made, wide_at, too_many}
 use Rattle.map_waves.specs.Plans.{Plan, operands_at, fault_at}
 use Rattle.edit_plans.specs.PlansFor.{IsPlanFor}
 use Rattle.edit_plans.specs.PlanLaws.{FirstFaultIsTold, NoFaultIsNone}
 use Rattle.edit_plans.specs.Telling.{fault_told}
+use Rattle.map_edits.proofs.Looks.{none_there}
+use Rattle.map_edits.proofs.LawfulFaults.{undefined_faultless, faulty}
+use Rattle.map_nums.specs.Grids.{Cells}
+use Rattle.map_nums.specs.Answers.{is_wide}
+use Rattle.map_defs.specs.Viewers.{viewers_in}
+use Rattle.map_defs.specs.Operate.{operate}
+use Rattle.map_defs.specs.Sight.{most_viewers}
+use Rattle.map_edits.proofs.Unfolds.{value_unfolds}
 use Rattle.edit_plans.proofs.Valued.{operands_made}
-use Rattle.edit_plans.proofs.LayerFaults.{undefined_faultless, layer_fault}
+use Rattle.map_waves.specs.Statements as waves
+use Rattle.map_edits.specs.EngineStates as states
+use Rattle.edit_plans.proofs.There.{map_none}
+
+module _ (t : EngineState) where
+  abbrev cells_for : Term → Option Cells
+  cells_for u = term_cells t.size (value_of t) u
+
+  viewers_told : (op : Op) (cells : List Cells) → all_some (map cells_for op.terms) ≡ Some cells → viewers_of t (Some (by_op op)) ≡ viewers_in op cells
+  viewers_told op cells e = ap (λ os. unwrap_or (option_map (viewers_in op) os) 0) e
+
+  module _ (none : HasNoCycle (nodes_of t.entries)) (n : Name) (op : Op) (cells : List Cells) (making : find_making (layers t.entries) n ≡ Some (by_op op)) (all : all_some (map cells_for op.terms) ≡ Some cells) where
+    pub grid_is : value_of t n ≡ Some (operate t.size op cells)
+    grid_is = value_unfolds t none n ∙ ap (states.made t.size (value_of t)) making ∙ ap (option_map (operate t.size op)) all
+
+    -- a layer's fault is told with its name
+    pub layer_fault : fault_of_layer t n ≡ option_map (fault_told t.size n) (fault_in t.size op cells)
+    unfolding fault_in
+    layer_fault =
+        ap (λ v. faulty v t.size n (value_of t n)) (ap (viewers_of t) making ∙ viewers_told op cells all) ∙ ap (faulty (viewers_in op cells) t.size n) grid_is
+        ∙ go (nat_lt most_viewers (viewers_in op cells)) (position is_wide (made t.size op cells))
+      where
+        go : (b : Bool) (o : Option ℕ)
+            → ◌≡◌ {A = Option Fault} (if b && true then Some (too_many_viewers n (viewers_in op cells)) else overflow_at t.size n o)
+            (option_map (fault_told t.size n) (if b then Some (too_many (viewers_in op cells)) else option_map (λ at. wide_at at) o))
+        go true o = refl
+        go false None = refl
+        go false (Some place) = refl
 
 -- ---- the first of a list
 
@@ -45,28 +80,27 @@ module _ {X : Type 0} (f : Name → Option X) where
       go None here later more = rest here (more later) j at
       go (Some x) here later more = absurd (none-some x (sym later))
 
--- ---- undefined layers have no fault
-
-defined_faults : (t : EngineState) (nodes : List Node) → first_some (map (λ (node : Node). fault_of_layer t node.name) nodes)
-    ≡ first_some (map (fault_of_layer t) (map (λ (node : Node). node.name) (filter (λ (node : Node). is_some (value_of t node.name)) nodes)))
-defined_faults t [] = refl
-defined_faults t (x ∷ xs) = go (is_some (value_of t x.name)) refl (fault_of_layer t x.name) refl (defined_faults t xs)
-  where
-    go : (b : Bool) → is_some (value_of t x.name) ≡ b → (o : Option Fault) → fault_of_layer t x.name ≡ o
-        → first_some (map (λ (node : Node). fault_of_layer t node.name) xs) ≡ first_some (map (fault_of_layer t) (map (λ (node : Node). node.name) (filter (λ (node : Node). is_some (value_of t node.name)) xs)))
-        → first_some (o ∷ map (λ (node : Node). fault_of_layer t node.name) xs)
-        ≡ first_some (map (fault_of_layer t) (map (λ (node : Node). node.name) (cond b (x ∷ filter (λ (node : Node). is_some (value_of t node.name)) xs) (filter (λ (node : Node). is_some (value_of t node.name)) xs))))
-    go true e None is rest = rw is rest
-    go true e (Some f) is rest = rw is refl
-    go false e None is rest = rest
-    go false e (Some f) is rest = absurd (none-some f (sym (undefined_faultless t x.name e) ∙ is))
+  -- what is left out has none
+  first_passing : (p : Name → Bool) → ((n : Name) → p n ≡ false → f n ≡ None) → (nodes : List Node)
+      → first_some (map (λ (node : Node). f node.name) nodes) ≡ first_some (map f (map (λ (node : Node). node.name) (filter (λ (node : Node). p node.name) nodes)))
+  first_passing p none [] = refl
+  first_passing p none (x ∷ xs) =
+      let rest = first_passing p none xs in
+      elim (cases_Bool (p x.name)) [ inl e ↦ simp e (first_more (f x.name) rest) | inr e ↦ simp (e, none x.name e) rest ]
+    where
+      first_more : (o : Option X) → first_some (map (λ (node : Node). f node.name) xs) ≡ first_some (map f (map (λ (node : Node). node.name) (filter (λ (node : Node). p node.name) xs)))
+          → first_some (o ∷ map (λ (node : Node). f node.name) xs) ≡ first_some (o ∷ map f (map (λ (node : Node). node.name) (filter (λ (node : Node). p node.name) xs)))
+      first_more None same = same
+      first_more (Some y) same = refl
 
 -- ---- the fault of one statement
 
 module _ (touch : Touch) (s t : EngineState) (p : Plan) (sources names : List Name) (plan : IsPlanFor touch s t p sources names) (none : HasNoCycle (nodes_of t.entries)) where
   faults_listed : fault_of t ≡ first_some (map (fault_of_layer t) names)
   unfolding fault_of
-  faults_listed = defined_faults t (by_depth (nodes_of t.entries)) ∙ ap (λ ns. first_some (map (fault_of_layer t) ns)) (sym plan.names_are)
+  faults_listed =
+      first_passing (fault_of_layer t) (λ n. is_some (value_of t n)) (λ n e. undefined_faultless t n (none_there (value_of t n) e)) (by_depth (nodes_of t.entries))
+      ∙ ap (λ ns. first_some (map (fault_of_layer t) ns)) (sym plan.names_are)
 
   -- a statement's fault is told with its name
   pub fault_is_told : (k : ℕ) (n : Name) → slice_get names k ≡ Some n → fault_of_layer t n ≡ option_map (fault_told t.size n) (fault_at p k)
@@ -85,11 +119,7 @@ module _ (touch : Touch) (s t : EngineState) (p : Plan) (sources names : List Na
       (λ j m less here. none_told j m here (earlier j less))
 
   untold : (k : ℕ) (n : Name) → slice_get names k ≡ Some n → fault_of_layer t n ≡ None → fault_at p k ≡ None
-  untold k n at e = go (fault_at p k) refl
-    where
-      go : (o : Option waves.Fault) → fault_at p k ≡ o → o ≡ None
-      go None h = refl
-      go (Some f) h = absurd (none-some (fault_told t.size n f) (sym e ∙ fault_is_told k n at ∙ ap (option_map (fault_told t.size n)) h))
+  untold k n at e = map_none (fault_told t.size n) (fault_at p k) (sym (fault_is_told k n at) ∙ e)
 
   pub none_where_none : (fault_of t ≡ None) ↔ ((k : ℕ) → k < length names → fault_at p k ≡ None)
   none_where_none = (

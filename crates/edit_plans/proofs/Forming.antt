@@ -1,6 +1,7 @@
 -- Steps that are planned are the plan that an edit makes.
-use Rattle.std.proofs.Common.{◌≡◌, ℕ, ◌<◌, Bool, cond, not, List, [], ◌∷◌, map, filter, length, get_or, Option, Some, is_some, slice_get, refl, sym, ap, subst, ◌∙◌, arith}
+use Rattle.std.proofs.Common.{◌≡◌, ℕ, ◌<◌, not, List, [], ◌∷◌, map, length, get_or, Option, Some, is_some, slice_get, sym, ap, subst, ◌∙◌, arith}
 use Rattle.std.proofs.lemmas.Option.{slice_get_within, slice_get-get_or}
+use Rattle.std.proofs.lemmas.List.Elements.{filter_agree}
 use Rattle.map_defs.specs.Ops.{Name}
 use Rattle.map_defs.specs.Nodes.{Node, lacks}
 use Rattle.map_defs.specs.Depths.{by_depth}
@@ -19,10 +20,6 @@ use Rattle.edit_plans.specs.PlansFor.{IsStepFor, IsPlanFor, defined_names}
 use Rattle.edit_plans.specs.Planned.{FlatDef, IsPlanned}
 use Rattle.edit_plans.specs.PlannedLaws.{IsPlannedFrom, PlannedIsPlan}
 
-filter_same : (p q : Node → Bool) → ((x : Node) → p x ≡ q x) → (xs : List Node) → filter p xs ≡ filter q xs
-filter_same p q same [] = refl
-filter_same p q same (x ∷ xs) = ap (λ b. cond b (x ∷ filter p xs) (filter p xs)) (same x) ∙ ap (λ ys. cond (q x) (x ∷ ys) ys) (filter_same p q same xs)
-
 -- a step at a place where one is
 pub step_at : {X : Type 0} (names : List Name) (steps : List X) → length steps ≡ length names → (k : ℕ) (n : Name) → slice_get names k ≡ Some n → (x : X) × (slice_get steps k ≡ Some x)
 step_at names steps count k n at = go steps (let within = slice_get_within names k n at in omega (arith, count))
@@ -36,7 +33,7 @@ module _ {B : Type 0} (touch : Touch) (s t : EngineState) (base : Base B) (sourc
   names_defined : names ≡ defined_names t
   names_defined =
       planned.names_are
-      ∙ ap (map (λ (node : Node). node.name)) (filter_same (λ (node : Node). not (is_some (lacks (nodes_of t.entries) node.name))) (λ (node : Node). is_some (value_of t node.name)) (λ node. sym (value_is_defined t none node.name)) (by_depth (nodes_of t.entries)))
+      ∙ ap (map (λ (node : Node). node.name)) (filter_agree (λ (node : Node). not (is_some (lacks (nodes_of t.entries) node.name))) (λ (node : Node). is_some (value_of t node.name)) (λ node. sym (value_is_defined t none node.name)) (by_depth (nodes_of t.entries)))
 
   step_for : (k : ℕ) (n : Name) → slice_get names k ≡ Some n → IsStepFor touch s t (step_by op_view base (slice_get steps k)) sources names k n
   step_for k n at =

@@ -1,11 +1,9 @@
 pub mod There
 pub mod Operating
 pub mod Valued
-pub mod LayerFaults
 pub mod Faulted
 pub mod Before
 pub mod Counting
-pub mod Summed
 pub mod LayersMade
 pub mod CountsSummed
 pub mod OneSource
@@ -18,5 +16,4 @@ pub mod Positions
 pub mod Operands
 pub mod Forming
 pub mod Ordered
-pub mod Listing
 pub mod Steps

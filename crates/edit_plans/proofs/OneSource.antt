@@ -1,6 +1,6 @@
 -- Of the sources only the one that is touched counts.
-use Rattle.std.proofs.Common.{◌≡◌, ℕ, ◌+◌, Bool, true, false, cond, List, [], ◌∷◌, map, filter, find, length, sum_by, Option, Some, None, is_some, option_map, bytes_eq, refl, sym, ap, ◌∙◌, arith, if◌then◌else◌}
-use Rattle.std.proofs.lemmas.Bool.{true≢false}
+use Rattle.std.proofs.Common.{◌≡◌, ℕ, ◌+◌, true, false, List, [], ◌∷◌, map, filter, length, sum_by, Option, Some, None, is_some, option_map, bytes_eq, refl, sym, ap, ◌∙◌, arith, if◌then◌else◌, inl, inr}
+use Rattle.std.proofs.lemmas.Bool.{cases_Bool}
 use Rattle.std.proofs.lemmas.List.Sums.{sum_by-cons}
 use Rattle.map_nums.specs.Grids.{Cells, Grid}
 use Rattle.map_nums.specs.declared.Stat.TheVariants as stats
@@ -44,21 +44,12 @@ module _ (t : EngineState) (orderly : IsOrderly t) where
     part l = if is_given l.making then f l else 0
 
     given_more : (l : LayerDef) (ls : List LayerDef) → IsFoundBy (layers t.entries) l → sum_by f (given_in (l ∷ ls)) ≡ part l + sum_by f (given_in ls)
-    given_more l ls found = go (is_some (value_of t l.name)) refl
-      where
-        counted : (c : Bool) → sum_by f (cond c (l ∷ given_in ls) (given_in ls)) ≡ (if c then f l else 0) + sum_by f (given_in ls)
-        counted true = sum_by-cons f l (given_in ls)
-        counted false = omega arith
-
-        undefined : (c : Bool) → is_given l.making ≡ c → is_some (value_of t l.name) ≡ false → sum_by f (given_in ls) ≡ (if c then f l else 0) + sum_by f (given_in ls)
-        undefined true given e = absurd (true≢false (sym (given_defined l found given) ∙ e))
-        undefined false given e = omega arith
-
-        go : (b : Bool) → is_some (value_of t l.name) ≡ b
-            → sum_by f (filter (λ (l : LayerDef). is_given l.making) (cond b (l ∷ filter (λ (l : LayerDef). is_some (value_of t l.name)) ls) (filter (λ (l : LayerDef). is_some (value_of t l.name)) ls)))
-            ≡ part l + sum_by f (given_in ls)
-        go true e = counted (is_given l.making)
-        go false e = undefined (is_given l.making) refl e
+    given_more l ls found =
+        let counted = sum_by-cons f l (given_in ls) in
+        elim (cases_Bool (is_given l.making)) [
+          | inl given ↦ simp (given_defined l found given, given) counted
+          | inr other ↦ elim (cases_Bool (is_some (value_of t l.name))) [ inl h ↦ simp (h, other) (omega arith) | inr h ↦ simp (h, other) (omega arith) ]
+        ]
 
     abbrev of_making : Name → Option Making → ℕ
     of_making n None = 0
@@ -76,38 +67,26 @@ module _ (t : EngineState) (orderly : IsOrderly t) where
     abbrev OnlyNamed : Name → Type 0
     OnlyNamed n = (l : LayerDef) → IsFoundBy (layers t.entries) l → is_given l.making ≡ true → bytes_eq l.name n ≡ false → f l ≡ 0
 
-    unnamed_part : (n : Name) → OnlyNamed n → (l : LayerDef) → IsFoundBy (layers t.entries) l → bytes_eq l.name n ≡ false → part l ≡ 0
-    unnamed_part n only l found differs = go (is_given l.making) refl
-      where
-        go : (b : Bool) → is_given l.making ≡ b → (if b then f l else 0) ≡ 0
-        go true e = only l found e differs
-        go false e = refl
+    zero_part : (l : LayerDef) → (is_given l.making ≡ true → f l ≡ 0) → part l ≡ 0
+    zero_part l zero = elim (cases_Bool (is_given l.making)) [ inl e ↦ rw e (zero e) | inr e ↦ rw e refl ]
 
     one_named : (n : Name) → OnlyNamed n → (ls : List LayerDef) → IsOnce (map node_of_layer ls) → EachLayer (IsFoundBy (layers t.entries)) ls → sum_by f (given_in ls) ≡ of_making n (find_making ls n)
     one_named n only [] once each = refl
-    one_named n only (l ∷ ls) once each = given_more l ls each.0 ∙ go (bytes_eq l.name n) refl (one_named n only ls once.1 each.1)
-      where
-        go : (b : Bool) → bytes_eq l.name n ≡ b → sum_by f (given_in ls) ≡ of_making n (find_making ls n)
-            → part l + sum_by f (given_in ls) ≡ of_making n (option_map (λ (q : LayerDef). q.making) (cond b (Some l) (find (λ (q : LayerDef). bytes_eq q.name n) ls)))
-        go true same rest =
-            let named : l.name ≡ n = same_name l.name n same in
-            let new : find_making ls n ≡ None = none_named ls n (ap (λ q. is_named_in q (map node_of_layer ls)) (sym (node_of_layer-name l ∙ named)) ∙ once.0) in
-            let last : sum_by f (given_in ls) ≡ 0 = rest ∙ ap (of_making n) new in
-            let first = part_is n l named in
-            omega arith
-        go false differs rest = let first = unnamed_part n only l each.0 differs in omega arith
+    one_named n only (l ∷ ls) once each =
+        let rest = one_named n only ls once.1 each.1 in
+        given_more l ls each.0 ∙ elim (cases_Bool (bytes_eq l.name n)) [
+          | inl same ↦
+              let named : l.name ≡ n = same_name l.name n same in
+              let new : find_making ls n ≡ None = none_named ls n (ap (λ q. is_named_in q (map node_of_layer ls)) (sym (node_of_layer-name l ∙ named)) ∙ once.0) in
+              let last : sum_by f (given_in ls) ≡ 0 = rest ∙ ap (of_making n) new in
+              let first = part_is n l named in
+              rw same (omega arith)
+          | inr differs ↦ let first = zero_part l (λ given. only l each.0 given differs) in rw differs (omega arith)
+        ]
 
     none_adds : ((l : LayerDef) → IsFoundBy (layers t.entries) l → is_given l.making ≡ true → f l ≡ 0) → (ls : List LayerDef) → EachLayer (IsFoundBy (layers t.entries)) ls → sum_by f (given_in ls) ≡ 0
     none_adds all [] each = refl
-    none_adds all (l ∷ ls) each =
-        let first : part l ≡ 0 = go (is_given l.making) refl in
-        let rest = none_adds all ls each.1 in
-        let more = given_more l ls each.0 in
-        omega arith
-      where
-        go : (b : Bool) → is_given l.making ≡ b → (if b then f l else 0) ≡ 0
-        go true e = all l each.0 e
-        go false e = refl
+    none_adds all (l ∷ ls) each = let first = zero_part l (all l each.0) in let rest = none_adds all ls each.1 in let more = given_more l ls each.0 in omega arith
 
 -- ---- sources that aren't touched
 
@@ -122,6 +101,9 @@ no_damage touch s t l given e = go touch l.making given e
     go : (touch : Touch) (making : Making) → is_given making ≡ true → touches_source touch l.name ≡ false → length (damage_of touch s t (record { name = l.name; making = making })) ≡ 0
     go touch (given_grid grid) h e = by_touch touch e
     go touch (by_op op) h e = absurd cc
+
+pub same_counts : {a b c x y z : ℕ} → a ≡ x → b ≡ y → c ≡ z → ◌≡◌ {A = Counts} (record { changed = a; evaluated = b; worked = c }) (record { changed = x; evaluated = y; worked = z })
+same_counts e f g = rw (e, f, g) refl
 
 module _ (touch : Touch) (s t : EngineState) (changes : ChangesOnly touch s t) (old : HasNoCycle (nodes_of s.entries)) (orderly : IsOrderly t) where
   no_change : (l : LayerDef) → IsFoundBy (layers t.entries) l → is_given l.making ≡ true → touches_source touch l.name ≡ false → length (changed_of s t l.name) ≡ 0
@@ -152,9 +134,6 @@ module _ (touch : Touch) (s t : EngineState) (changes : ChangesOnly touch s t) (
   abbrev work_count : LayerDef → ℕ
   work_count l = work_of touch s t l
 
-  three : {a b c x y z : ℕ} → a ≡ x → b ≡ y → c ≡ z → ◌≡◌ {A = Counts} (record { changed = a; evaluated = b; worked = c }) (record { changed = x; evaluated = y; worked = z })
-  three e f g = rw (e, f, g) refl
-
   by_parts : (n : Name) (o : Option Making) → ◌≡◌ {A = Counts} (record { changed = of_making t orderly changed_count n o; evaluated = of_making t orderly damage_count n o; worked = of_making t orderly work_count n o }) (counts_of_source touch s t n o)
   by_parts n None = refl
   by_parts n (Some (by_op op)) = refl
@@ -166,7 +145,7 @@ module _ (touch : Touch) (s t : EngineState) (changes : ChangesOnly touch s t) (
       let ls = layers t.entries in
       let once = groups_once t.entries orderly.groups orderly.apart in
       let each = layers_found t orderly in
-      three
+      same_counts
       (one_named t orderly changed_count n (λ l found given differs. no_change l found given (others l.name differs)) ls once each)
       (one_named t orderly damage_count n (λ l found given differs. no_damage touch s t l given (others l.name differs)) ls once each)
       (one_named t orderly work_count n (λ l found given differs. no_work l given) ls once each)
@@ -176,7 +155,7 @@ module _ (touch : Touch) (s t : EngineState) (changes : ChangesOnly touch s t) (
   unnamed others =
       let ls = layers t.entries in
       let each = layers_found t orderly in
-      three
+      same_counts
       (none_adds t orderly changed_count (λ l found given. no_change l found given (others l.name)) ls each)
       (none_adds t orderly damage_count (λ l found given. no_damage touch s t l given (others l.name)) ls each)
       (none_adds t orderly work_count (λ l found given. no_work l given) ls each)

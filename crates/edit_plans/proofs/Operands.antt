@@ -1,15 +1,15 @@
 -- The operands of a statement that is planned.
-use Rattle.std.proofs.Common.{◌≡◌, ℕ, zero, suc, ◌+◌, ◌<◌, max, Bool, true, false, cond, not, ◌||◌, ◌&&◌, List, [], ◌∷◌, ◌++◌, map, filter, flat_map, fold, take, length, get_or, position, Option, Some, None, is_some, option_map, slice_get, bytes_eq, refl, sym, ap, subst, ◌∙◌, arith, if◌then◌else◌}
+use Rattle.std.proofs.Common.{◌≡◌, ℕ, zero, suc, ◌+◌, ◌<◌, max, Bool, true, not, ◌||◌, ◌&&◌, List, [], ◌∷◌, ◌++◌, map, filter, flat_map, fold, take, length, get_or, position, Option, Some, None, is_some, option_map, slice_get, bytes_eq, refl, sym, ap, subst, ◌∙◌, arith, if◌then◌else◌, inl, inr}
 use Rattle.std.specs.List.{list_any}
 use Rattle.std.specs.Option.{option_or}
-use Rattle.std.proofs.lemmas.Bool.{true≢false, false≢true, or_left, or_right, and_from}
+use Rattle.std.proofs.lemmas.Bool.{true≢false, or_left, or_right, and_from, and_right, cases_Bool}
 use Rattle.std.proofs.lemmas.Option.{none-some, same_Some, slice_get_within, slice_get-get_or}
 use Rattle.map_nums.specs.Options.{all_some, first_some}
 use Rattle.map_defs.specs.Ops.{Name, Term, layer_term, number_term, term_names}
 use Rattle.map_defs.specs.Nodes.{Node, find_node, needs_in, lacks}
 use Rattle.map_defs.specs.Depths.{depth_in}
 use Rattle.map_edits.specs.Laws.{is_among, is_named_in, HasNoCycle}
-use Rattle.map_edits.proofs.Among.{same_name, bytes_eq-self, bytes_eq-turned}
+use Rattle.map_edits.proofs.Among.{same_name, bytes_eq-self, bytes_eq-turned, none_of_named}
 use Rattle.map_edits.proofs.Unfolds.{lacks_unfolds, depth_unfolds, depth_by}
 use Rattle.statement_parser.specs.declared.op.Op.{Op as Given}
 use Rattle.map_waves.specs.declared.plans.Ref.{Ref}
@@ -19,7 +19,7 @@ use Rattle.edit_plans.specs.PlansFor.{IsRefFor, AreRefsFor}
 use Rattle.edit_plans.specs.Planned.{place_for, ref_for, ref_depth, AreSources, whole_names}
 use Rattle.edit_plans.proofs.Taken.{taken_to}
 use Rattle.std.proofs.lemmas.List.{map-append}
-use Rattle.edit_plans.proofs.There.{some_map, all_cons}
+use Rattle.edit_plans.proofs.There.{some_map, all_cons, all_parts}
 use Rattle.edit_plans.proofs.Positions.{some_position, position_at, any_at_place, get_more}
 
 -- ---- operands by name
@@ -40,15 +40,9 @@ module _ (sources names : List Name) where
   pub refs_are : (k : ℕ) → k ≡ length names → (us : List Term) (rs : List Ref) → all_some (map (ref_for sources names) us) ≡ Some rs → AreRefsFor sources names k us rs
   refs_are k end [] [] e = tt
   refs_are k end [] (r ∷ rs) e = absurd cc
-  refs_are k end (u ∷ us) rs e = go (ref_for sources names u) refl (all_some (map (ref_for sources names) us)) refl e (λ rest h. refs_are k end us rest h)
-    where
-      go : (o : Option Ref) → ref_for sources names u ≡ o → (q : Option (List Ref)) → all_some (map (ref_for sources names) us) ≡ q → all_some (o ∷ map (ref_for sources names) us) ≡ Some rs
-          → ((rest : List Ref) → all_some (map (ref_for sources names) us) ≡ Some rest → AreRefsFor sources names k us rest) → AreRefsFor sources names k (u ∷ us) rs
-      go None is q more f later = absurd (none-some rs f)
-      go (Some r) is None more f later = absurd (none-some rs (sym (ap (option_map (λ rest. r ∷ rest)) more) ∙ f))
-      go (Some r) is (Some rest) more f later =
-          let same : r ∷ rest ≡ rs = same_Some (r ∷ rest) rs (sym (ap (option_map (λ rest. r ∷ rest)) more) ∙ f) in
-          subst (AreRefsFor sources names k (u ∷ us)) same (one_ref k end u r is, later rest more)
+  refs_are k end (u ∷ us) rs e =
+      let parts = all_parts (ref_for sources names u) (map (ref_for sources names) us) rs e in
+      subst (AreRefsFor sources names k (u ∷ us)) parts.4 (one_ref k end u parts.0 parts.2, refs_are k end us parts.1 parts.3)
 
   ref_more : (more : List Name) (k : ℕ) (u : Term) (r : Ref) → IsRefFor sources names k u r → IsRefFor sources (names ++ more) k u r
   ref_more more k (layer_term n) (Source i) is = is
@@ -80,36 +74,18 @@ place_is sources names n =
 -- a name is among those that pass where it is listed and passes
 pub kept_named : (q : Name → Bool) (n : Name) (xs : List Node) → list_any (bytes_eq n) (map (λ (x : Node). x.name) (filter (λ (x : Node). q x.name) xs)) ≡ (is_named_in n xs && q n)
 kept_named q n [] = refl
-kept_named q n (x ∷ xs) = go (q x.name) refl (bytes_eq x.name n) refl (kept_named q n xs)
-  where
-    rest : List Name
-    rest = map (λ (x : Node). x.name) (filter (λ (x : Node). q x.name) xs)
-
-    none : (b : Bool) → (b && false) ≡ false
-    none true = refl
-    none false = refl
-
-    go : (b : Bool) → q x.name ≡ b → (c : Bool) → bytes_eq x.name n ≡ c → list_any (bytes_eq n) (map (λ (x : Node). x.name) (filter (λ (x : Node). q x.name) xs)) ≡ (is_named_in n xs && q n)
-        → list_any (bytes_eq n) (map (λ (x : Node). x.name) (cond b (x ∷ filter (λ (x : Node). q x.name) xs) (filter (λ (x : Node). q x.name) xs))) ≡ ((c || is_named_in n xs) && q n)
-    go true e true same h =
-        let named = same_name x.name n same in
-        or_left (bytes_eq n x.name) (list_any (bytes_eq n) (map (λ (x : Node). x.name) (filter (λ (x : Node). q x.name) xs))) (ap (bytes_eq n) named ∙ bytes_eq-self n) ∙ sym (ap q (sym named) ∙ e)
-    go true e false differs h = ap (λ b. b || list_any (bytes_eq n) (map (λ (x : Node). x.name) (filter (λ (x : Node). q x.name) xs))) (bytes_eq-turned x.name n differs) ∙ h
-    go false e true same h =
-        let no : q n ≡ false = ap q (sym (same_name x.name n same)) ∙ e in
-        h ∙ ap (λ b. is_named_in n xs && b) no ∙ none (is_named_in n xs) ∙ sym no
-    go false e false differs h = h
-
--- what lacks no name needs none that lacks one
-none_lacking : (lack_of : Name → Option Name) (ns : List Name) (m : Name) → first_some (map lack_of ns) ≡ None → is_among m ns ≡ true → lack_of m ≡ None
-none_lacking lack_of [] m none at = absurd (false≢true at)
-none_lacking lack_of (n ∷ ns) m none at = go (lack_of n) refl none (bytes_eq n m) refl at (none_lacking lack_of ns m)
-  where
-    go : (o : Option Name) → lack_of n ≡ o → first_some (o ∷ map lack_of ns) ≡ None → (b : Bool) → bytes_eq n m ≡ b → (b || is_among m ns) ≡ true
-        → (first_some (map lack_of ns) ≡ None → is_among m ns ≡ true → lack_of m ≡ None) → lack_of m ≡ None
-    go (Some l) is e b same at rest = absurd (none-some l (sym e))
-    go None is e true same at rest = ap lack_of (sym (same_name n m same)) ∙ is
-    go None is e false same at rest = rest e at
+kept_named q n (x ∷ xs) = elim (cases_Bool (bytes_eq x.name n)) [
+  | inl same ↦
+      let named : x.name ≡ n = same_name x.name n same in
+      elim (cases_Bool (q n)) [
+        | inl e ↦ simp (named, bytes_eq-self, e)
+        | inr e ↦ simp (named, bytes_eq-self, e) (kept_named q n xs ∙ and_right (is_named_in n xs) (q n) e)
+      ]
+  | inr differs ↦ elim (cases_Bool (q x.name)) [
+    | inl e ↦ simp (differs, bytes_eq-turned x.name n differs, e) (kept_named q n xs)
+    | inr e ↦ simp (differs, e) (kept_named q n xs)
+  ]
+]
 
 module _ (nodes : List Node) (acyclic : HasNoCycle nodes) (sources : List Name) (are : AreSources nodes sources) where
   -- what is needed of a node that lacks no name lacks none
@@ -119,7 +95,7 @@ module _ (nodes : List Node) (acyclic : HasNoCycle nodes) (sources : List Name) 
       go : (o : Option Node) → find_node nodes n ≡ o → lacks nodes m ≡ None
       go None e = absurd (none-some n (sym none ∙ lacks_unfolds nodes acyclic n ∙ ap (λ o. if is_some o then first_some (map (lacks nodes) (needs_in nodes n)) else Some n) e))
       go (Some node) e =
-          none_lacking (lacks nodes) (needs_in nodes n) m
+          none_of_named (λ q. q) (lacks nodes) m (needs_in nodes n)
           (sym (ap (λ o. if is_some o then first_some (map (lacks nodes) (needs_in nodes n)) else Some n) e) ∙ sym (lacks_unfolds nodes acyclic n) ∙ none) needed
 
   -- a name that lacks none is a source, or one of the whole statements before
@@ -211,13 +187,9 @@ none_of_all f (v ∷ us) (suc k) u at none = go (f v) (none_of_all f us k u at n
 -- one more
 all_push : (os : List (Option Ref)) (rs : List Ref) (r : Ref) → all_some os ≡ Some rs → all_some (os ++ Some r ∷ []) ≡ Some (rs ++ r ∷ [])
 all_push [] rs r e = ap (λ qs. Some (qs ++ r ∷ [])) (same_Some [] rs e)
-all_push (None ∷ os) rs r e = absurd (none-some rs e)
-all_push (Some q ∷ os) rs r e = go (all_some os) refl e (all_push os)
-  where
-    go : (o : Option (List Ref)) → all_some os ≡ o → option_map (λ qs. q ∷ qs) o ≡ Some rs → ((more : List Ref) (r : Ref) → all_some os ≡ Some more → all_some (os ++ Some r ∷ []) ≡ Some (more ++ r ∷ []))
-        → option_map (λ qs. q ∷ qs) (all_some (os ++ Some r ∷ [])) ≡ Some (rs ++ r ∷ [])
-    go None is f rest = absurd (none-some rs f)
-    go (Some more) is f rest = ap (option_map (λ qs. q ∷ qs)) (rest more r is) ∙ ap (λ qs. Some (qs ++ r ∷ [])) (same_Some (q ∷ more) rs f)
+all_push (o ∷ os) rs r e =
+    let parts = all_parts o os rs e in
+    ap (λ q. all_some (q ∷ os ++ Some r ∷ [])) parts.2 ∙ ap (option_map (λ qs. parts.0 ∷ qs)) (all_push os parts.1 r parts.3) ∙ ap (λ qs. Some (qs ++ r ∷ [])) parts.4
 
 pub refs_next : (f : Term → Option Ref) (us : List Term) (k : ℕ) (rs new : List Ref) (u : Term) (r : Ref) → all_some (map f (take k us)) ≡ Some rs → slice_get us k ≡ Some u → f u ≡ Some r → new ≡ rs ++ r ∷ [] → all_some (map f (take (k + 1) us)) ≡ Some new
 refs_next f us k rs new u r so_far at is pushed =

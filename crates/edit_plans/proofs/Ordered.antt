@@ -1,10 +1,10 @@
 -- The operands of a planned step stand before the first step of its depth.
-use Rattle.std.proofs.Common.{◌≡◌, ℕ, zero, suc, ◌+◌, ◌<◌, ◌≤◌, Bool, true, false, cond, not, List, [], ◌∷◌, ◌++◌, map, filter, flat_map, length, get_or, position, Some, is_some, slice_get, bytes_eq, ◌⊎◌, inl, inr, refl, sym, ap, subst, ◌∙◌, arith}
-use Rattle.std.specs.Bool.{⊤}
+use Rattle.std.proofs.Common.{◌≡◌, ℕ, zero, suc, ◌<◌, ◌≤◌, Bool, true, not, List, [], ◌∷◌, map, filter, flat_map, length, get_or, position, Some, is_some, slice_get, bytes_eq, inl, inr, refl, sym, ap, subst, ◌∙◌, arith}
 use Rattle.std.specs.List.{All}
-use Rattle.std.proofs.lemmas.Bool.{cases_lt, or_left, or_right}
+use Rattle.std.proofs.lemmas.Bool.{cases_lt, or_left, or_right, cases_Bool}
 use Rattle.std.proofs.lemmas.List.Quantifiers.{position-Some}
 use Rattle.std.proofs.lemmas.Option.{none-some, same_Some, slice_get_within, slice_get-get_or}
+use Rattle.std.proofs.lemmas.List.Elements.{All-nil, All-cons}
 use Rattle.map_defs.specs.Ops.{Name, Op, Term, layer_term, number_term, term_names, needs_of}
 use Rattle.map_defs.specs.Nodes.{Node, lacks, needs_in}
 use Rattle.map_defs.specs.Depths.{depth_in, by_depth}
@@ -12,7 +12,8 @@ use Rattle.map_edits.specs.LayerDefs.{layers, nodes_of}
 use Rattle.map_edits.specs.Laws.{is_among}
 use Rattle.map_edits.proofs.Among.{bytes_eq-self}
 use Rattle.map_edits.proofs.Looks.{making_needs, needs_in-layers}
-use Rattle.map_edits.proofs.Order.{AllFrom, AllAt, from_less, filter_at, ranked, ranked_from, depth_at, is_flat_at, flat_at}
+use Rattle.map_edits.proofs.Listed.{each_more, each_filter}
+use Rattle.map_edits.proofs.Order.{AllFrom, IsRising, ranked_rising, depth_at, is_flat_at, flat_at}
 use Rattle.map_edits.proofs.Unfolds.{needed_is_less_deep}
 use Rattle.statement_parser.specs.Views.{op_view}
 use Rattle.statement_parser.specs.declared.op.Op.{Op as Given}
@@ -28,40 +29,18 @@ use Rattle.edit_plans.specs.PlannedLaws.{IsCounted, PlannedIsInOrder, DepthsRise
 -- ---- lists in order of a rank
 
 module _ (rank : Node → ℕ) where
-  abbrev Rises : List Node → Type 0
-  Rises [] = ⊤
-  Rises (x ∷ xs) = AllFrom rank (rank x) xs × Rises xs
-
-  from_join : (d : ℕ) (xs ys : List Node) → AllAt rank d xs → AllFrom rank d ys → AllFrom rank d (xs ++ ys)
-  from_join d [] ys at from = from
-  from_join d (x ∷ xs) ys at from = let first : rank x ≡ d = at.0 in (omega arith, from_join d xs ys at.1 from)
-
-  rises_join : (d : ℕ) (xs ys : List Node) → AllAt rank d xs → AllFrom rank d ys → Rises ys → Rises (xs ++ ys)
-  rises_join d [] ys at from rising = rising
-  rises_join d (x ∷ xs) ys at from rising = let first : rank x ≡ d = at.0 in (from_less rank (rank x) d (xs ++ ys) (omega arith) (from_join d xs ys at.1 from), rises_join d xs ys at.1 from rising)
-
-  from_filter : (q : Node → Bool) (d : ℕ) (xs : List Node) → AllFrom rank d xs → AllFrom rank d (filter q xs)
-  from_filter q d [] all = tt
-  from_filter q d (x ∷ xs) all = go (q x) (from_filter q d xs all.1)
-    where
-      go : (b : Bool) → AllFrom rank d (filter q xs) → AllFrom rank d (cond b (x ∷ filter q xs) (filter q xs))
-      go true rest = (all.0, rest)
-      go false rest = rest
-
-  rises_filter : (q : Node → Bool) (xs : List Node) → Rises xs → Rises (filter q xs)
+  rises_filter : (q : Node → Bool) (xs : List Node) → IsRising rank xs → IsRising rank (filter q xs)
   rises_filter q [] rising = tt
-  rises_filter q (x ∷ xs) rising = go (q x) (rises_filter q xs rising.1)
-    where
-      go : (b : Bool) → Rises (filter q xs) → Rises (cond b (x ∷ filter q xs) (filter q xs))
-      go true rest = (from_filter q (rank x) xs rising.0, rest)
-      go false rest = rest
+  rises_filter q (x ∷ xs) rising =
+      let kept = each_more (λ y. (rank x ≤ rank y) × (q y ≡ true)) (λ y. rank x ≤ rank y) (λ y both. both.0) (filter q xs) (each_filter (λ y. rank x ≤ rank y) q xs rising.0) in
+      elim (cases_Bool (q x)) [ inl h ↦ rw h (kept, rises_filter q xs rising.1) | inr h ↦ rw h (rises_filter q xs rising.1) ]
 
   from_at : (d : ℕ) (xs : List Node) → AllFrom rank d xs → (k : ℕ) (y : Node) → slice_get xs k ≡ Some y → d ≤ rank y
   from_at d [] all k y e = absurd (none-some y e)
   from_at d (x ∷ xs) all zero y e = subst (λ (z : Node). d ≤ rank z) (same_Some x y e) all.0
   from_at d (x ∷ xs) all (suc k) y e = from_at d xs all.1 k y e
 
-  rises_at : (xs : List Node) → Rises xs → (j k : ℕ) (x y : Node) → j ≤ k → slice_get xs j ≡ Some x → slice_get xs k ≡ Some y → rank x ≤ rank y
+  rises_at : (xs : List Node) → IsRising rank xs → (j k : ℕ) (x y : Node) → j ≤ k → slice_get xs j ≡ Some x → slice_get xs k ≡ Some y → rank x ≤ rank y
   rises_at [] rising j k x y h at e = absurd (none-some y e)
   rises_at (z ∷ xs) rising zero zero x y h at e = let same : x ≡ y = sym (same_Some z x at) ∙ same_Some z y e in subst (λ (q : Node). rank x ≤ rank q) same (omega arith)
   rises_at (z ∷ xs) rising zero (suc k) x y h at e = subst (λ (q : Node). rank q ≤ rank y) (same_Some z x at) (from_at (rank z) xs rising.0 k y e)
@@ -70,17 +49,9 @@ module _ (rank : Node → ℕ) where
 
 -- ---- by depth
 
-ranked_rises : (nodes : List Node) (a k : ℕ) → Rises (depth_at nodes) (ranked (depth_at nodes) (is_flat_at nodes) (flat_at nodes) nodes a k)
-ranked_rises nodes a zero = tt
-ranked_rises nodes a (suc k) =
-    let rest = ranked (depth_at nodes) (is_flat_at nodes) (flat_at nodes) nodes (a + 1) k in
-    rises_join (depth_at nodes) a (filter (is_flat_at nodes a) nodes) rest (filter_at (depth_at nodes) (is_flat_at nodes) (flat_at nodes) nodes a nodes)
-    (from_less (depth_at nodes) a (a + 1) rest (omega arith) (ranked_from (depth_at nodes) (is_flat_at nodes) (flat_at nodes) nodes (a + 1) k))
-    (ranked_rises nodes (a + 1) k)
-
-by_depth_rises : (nodes : List Node) → Rises (depth_at nodes) (by_depth nodes)
+by_depth_rises : (nodes : List Node) → IsRising (depth_at nodes) (by_depth nodes)
 unfolding by_depth
-by_depth_rises nodes = ranked_rises nodes 1 (length nodes)
+by_depth_rises nodes = ranked_rising (depth_at nodes) (is_flat_at nodes) (flat_at nodes) nodes 1 (length nodes)
 
 named_at : (xs : List Node) (k : ℕ) (n : Name) → slice_get (map (λ (x : Node). x.name) xs) k ≡ Some n → (x : Node) × (slice_get xs k ≡ Some x) × (x.name ≡ n)
 named_at [] k n e = absurd (none-some n e)
@@ -113,13 +84,6 @@ depths_rise nodes sources flats old names steps j k x y planned h at e = steps_r
 
 -- ---- operands
 
-all_none : (P : Ref → Type 0) → All P []
-all_none P k d h = absurd (omega arith)
-
-all_cons : (P : Ref → Type 0) (r : Ref) (rs : List Ref) → P r → All P rs → All P (r ∷ rs)
-all_cons P r rs here rest zero d h = here
-all_cons P r rs here rest (suc k) d h = rest k d (omega arith)
-
 refs_length : (sources names : List Name) (k : ℕ) (us : List Term) (rs : List Ref) → AreRefsFor sources names k us rs → length rs ≡ length us
 refs_length sources names k [] [] are = refl
 refs_length sources names k [] (r ∷ rs) are = absurd are
@@ -129,17 +93,17 @@ refs_length sources names k (u ∷ us) (r ∷ rs) are = ap suc (refs_length sour
 module _ {B : Type 0} (base : Base B) (sources old names : List Name) (counted : IsCounted base sources old) (k first : ℕ) where
   refs_before : (us : List Term) (rs : List Ref) → AreRefsFor sources names k us rs
       → ((m : Name) (j : ℕ) → is_among m (flat_map term_names us) ≡ true → slice_get names j ≡ Some m → j < first) → All (IsRef base first) rs
-  refs_before [] [] are low = all_none (IsRef base first)
+  refs_before [] [] are low = All-nil (IsRef base first)
   refs_before [] (r ∷ rs) are low = absurd are
   refs_before (u ∷ us) [] are low = absurd are
   refs_before (layer_term m ∷ us) (Source i ∷ rs) are low =
       let within = slice_get_within sources i m are.0 in
       let count = counted.sources_are in
-      all_cons (IsRef base first) (Source i) rs (omega arith) (refs_before us rs are.1 (λ q j a at. low q j (or_right (bytes_eq m q) (is_among q (flat_map term_names us)) a) at))
+      All-cons (IsRef base first) (Source i) rs (omega arith) (refs_before us rs are.1 (λ q j a at. low q j (or_right (bytes_eq m q) (is_among q (flat_map term_names us)) a) at))
   refs_before (layer_term m ∷ us) (Statement j ∷ rs) are low =
-      all_cons (IsRef base first) (Statement j) rs (low m j (or_left (bytes_eq m m) (is_among m (flat_map term_names us)) (bytes_eq-self m)) are.0.0)
+      All-cons (IsRef base first) (Statement j) rs (low m j (or_left (bytes_eq m m) (is_among m (flat_map term_names us)) (bytes_eq-self m)) are.0.0)
       (refs_before us rs are.1 (λ q j a at. low q j (or_right (bytes_eq m q) (is_among q (flat_map term_names us)) a) at))
-  refs_before (number_term z ∷ us) (Number c ∷ rs) are low = all_cons (IsRef base first) (Number c) rs tt (refs_before us rs are.1 low)
+  refs_before (number_term z ∷ us) (Number c ∷ rs) are low = All-cons (IsRef base first) (Number c) rs tt (refs_before us rs are.1 low)
   refs_before (layer_term m ∷ us) (Number c ∷ rs) are low = absurd are.0
   refs_before (number_term z ∷ us) (Source i ∷ rs) are low = absurd are.0
   refs_before (number_term z ∷ us) (Statement j ∷ rs) are low = absurd are.0
@@ -167,11 +131,7 @@ planned_is_in_order {B} formed touch s t base sources flats old names steps none
     }
   where
     by_cases : (first j : ℕ) (m n : Name) (depth : Name → ℕ) → depth m < depth n → depth n ≡ depth (get_or names first []) → (first ≤ j → depth (get_or names first []) ≤ depth m) → j < first
-    by_cases first j m n depth less same rise = go (cases_lt j first)
-      where
-        go : (j < first) ⊎ (first ≤ j) → j < first
-        go (inl below) = below
-        go (inr above) = let more = rise above in absurd (omega arith)
+    by_cases first j m n depth less same rise = elim (cases_lt j first) [ inl below ↦ below | inr above ↦ let more = rise above in absurd (omega arith) ]
 
     kept_below : (q : Name) (i : ℕ) → position (bytes_eq q) old ≡ Some i → i < length base.kept.now
     kept_below q i e = let r = position-Some (bytes_eq q) old i [] e in omega (arith, r.0, counted.kept)

@@ -1,8 +1,8 @@
 -- Where a name stands among names.
-use Rattle.std.proofs.Common.{◌≡◌, ℕ, zero, suc, ◌+◌, Bool, true, false, cond, ◌||◌, List, [], ◌∷◌, ◌++◌, length, get_or, position, Option, Some, None, is_some, option_map, slice_get, bytes_eq, refl, sym, ap, ◌∙◌, arith, Bor, if◌then◌else◌}
+use Rattle.std.proofs.Common.{◌≡◌, ℕ, zero, suc, ◌+◌, Bool, true, false, cond, List, [], ◌∷◌, ◌++◌, length, get_or, position, Option, Some, None, is_some, option_map, slice_get, bytes_eq, refl, sym, ap, ◌∙◌, arith, Bor, if◌then◌else◌, inl, inr}
 use Rattle.std.specs.List.{list_any, position_from}
 use Rattle.std.specs.Option.{option_or}
-use Rattle.std.proofs.lemmas.Bool.{or_left, or_right}
+use Rattle.std.proofs.lemmas.Bool.{or_left, or_right, cases_Bool}
 use Rattle.std.proofs.lemmas.Option.{none-some, same_Some, slice_get-get_or}
 use Rattle.std.proofs.lemmas.List.Quantifiers.{position-Some}
 use Rattle.std.proofs.lemmas.Iterator.Adapters.{position_from-zero}
@@ -12,11 +12,7 @@ use Rattle.edit_plans.specs.Planned.{added_names}
 
 some_from : (p : Name → Bool) (i : ℕ) (xs : List Name) → is_some (position_from p i xs) ≡ list_any p xs
 some_from p i [] = refl
-some_from p i (x ∷ xs) = go (p x) (some_from p (i + 1) xs)
-  where
-    go : (b : Bool) → is_some (position_from p (i + 1) xs) ≡ list_any p xs → is_some (cond b (Some i) (position_from p (i + 1) xs)) ≡ (b || list_any p xs)
-    go true rest = refl
-    go false rest = rest
+some_from p i (x ∷ xs) = elim (cases_Bool (p x)) [ inl h ↦ rw h refl | inr h ↦ rw h (some_from p (i + 1) xs) ]
 
 -- it has a place exactly where it is there
 pub some_position : (p : Name → Bool) (xs : List Name) → is_some (position p xs) ≡ list_any p xs

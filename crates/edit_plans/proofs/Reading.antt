@@ -1,6 +1,6 @@
 -- What the sources and the first statements of a plan count may be read.
-use Rattle.std.proofs.Common.{◌≡◌, ℕ, zero, suc, ◌+◌, ◌-◌, ◌<◌, ◌≤◌, Bool, true, false, cond, nat_le, List, [], ◌∷◌, filter, length, sum_by, Option, Some, None, is_some, option_map, slice_get, get_or, refl, sym, ap, subst, ◌∙◌, arith, if◌then◌else◌}
-use Rattle.std.proofs.lemmas.Bool.{le-leb}
+use Rattle.std.proofs.Common.{◌≡◌, ℕ, zero, suc, ◌+◌, ◌-◌, ◌<◌, ◌≤◌, Bool, true, nat_le, List, [], ◌∷◌, filter, length, sum_by, Option, Some, None, is_some, option_map, slice_get, get_or, refl, sym, ap, subst, ◌∙◌, arith, if◌then◌else◌, inl, inr}
+use Rattle.std.proofs.lemmas.Bool.{le-leb, cases_Bool}
 use Rattle.std.proofs.lemmas.List.Sums.{sum_by-cons}
 use Rattle.std.proofs.lemmas.Option.{get_or_from_slice_get, slice_get-get_or}
 use Rattle.map_defs.specs.Ops.{Name}
@@ -27,8 +27,7 @@ use Rattle.edit_plans.specs.SourceCounts.{is_given, joined, counts_of_sources, c
 use Rattle.edit_plans.specs.ReadLaws.{ReadsAreAllowed}
 use Rattle.edit_plans.proofs.LayersMade.{EachLayer, IsFoundBy, layers_found}
 use Rattle.edit_plans.proofs.Counting.{damage_is, work_is}
-use Rattle.edit_plans.proofs.CountsSummed.{one_count}
-use Rattle.edit_plans.proofs.Summed.{total_step}
+use Rattle.edit_plans.proofs.CountsSummed.{one_count, total_step}
 
 -- a source has no depth
 pub given_depth : (t : EngineState) → IsOrderly t → (l : LayerDef) → IsFoundBy (layers t.entries) l → is_given l.making ≡ true → depth_in (nodes_of t.entries) l.name ≡ 0
@@ -44,22 +43,19 @@ given_depth t orderly l found given = go l.making refl given
 pub given_sum : (f : LayerDef → ℕ) (r : LayerDef → Bool) (q : LayerDef → Bool) (P : LayerDef → Type 0) → ((l : LayerDef) → P l → is_given l.making ≡ true → r l ≡ true) → (ls : List LayerDef) → EachLayer P ls
     → sum_by f (filter (λ (l : LayerDef). is_given l.making) (filter q ls)) ≤ sum_by (λ l. if r l then f l else 0) (filter (λ (l : LayerDef). is_given l.making) (filter q ls))
 given_sum f r q P passes [] each = omega arith
-given_sum f r q P passes (l ∷ ls) each = go (q l) (given_sum f r q P passes ls each.1)
-  where
-    inner : (c : Bool) → is_given l.making ≡ c → sum_by f (filter (λ (l : LayerDef). is_given l.making) (filter q ls)) ≤ sum_by (λ l. if r l then f l else 0) (filter (λ (l : LayerDef). is_given l.making) (filter q ls))
-        → sum_by f (cond c (l ∷ filter (λ (l : LayerDef). is_given l.making) (filter q ls)) (filter (λ (l : LayerDef). is_given l.making) (filter q ls)))
-        ≤ sum_by (λ l. if r l then f l else 0) (cond c (l ∷ filter (λ (l : LayerDef). is_given l.making) (filter q ls)) (filter (λ (l : LayerDef). is_given l.making) (filter q ls)))
-    inner true e h =
-        let own : (if r l then f l else 0) ≡ f l = ap (λ (b : Bool). if b then f l else 0) (passes l each.0 e) in
-        let a = sum_by-cons f l (filter (λ (l : LayerDef). is_given l.making) (filter q ls)) in
-        let b = sum_by-cons (λ l. if r l then f l else 0) l (filter (λ (l : LayerDef). is_given l.making) (filter q ls)) in
-        omega arith
-    inner false e h = h
-
-    go : (b : Bool) → sum_by f (filter (λ (l : LayerDef). is_given l.making) (filter q ls)) ≤ sum_by (λ l. if r l then f l else 0) (filter (λ (l : LayerDef). is_given l.making) (filter q ls))
-        → sum_by f (filter (λ (l : LayerDef). is_given l.making) (cond b (l ∷ filter q ls) (filter q ls))) ≤ sum_by (λ l. if r l then f l else 0) (filter (λ (l : LayerDef). is_given l.making) (cond b (l ∷ filter q ls) (filter q ls)))
-    go true h = inner (is_given l.making) refl h
-    go false h = h
+given_sum f r q P passes (l ∷ ls) each =
+    let rest = given_sum f r q P passes ls each.1 in
+    elim (cases_Bool (q l)) [
+      | inl h ↦ elim (cases_Bool (is_given l.making)) [
+        | inl given ↦
+            let own : (if r l then f l else 0) ≡ f l = ap (λ (b : Bool). if b then f l else 0) (passes l each.0 given) in
+            let a = sum_by-cons f l (filter (λ (l : LayerDef). is_given l.making) (filter q ls)) in
+            let b = sum_by-cons (λ l. if r l then f l else 0) l (filter (λ (l : LayerDef). is_given l.making) (filter q ls)) in
+            simp (h, given) (omega arith)
+        | inr other ↦ simp (h, other) rest
+      ]
+      | inr h ↦ simp h rest
+    ]
 
 total_rises : (f : ℕ → ℕ) (j d : ℕ) → total_of f j ≤ total_of f (j + d)
 total_rises f j zero = let none : j + 0 ≡ j = omega arith in let same : total_of f (j + 0) ≡ total_of f j = ap (total_of f) none in omega arith
@@ -70,14 +66,20 @@ total_rises f j (suc d) =
     let same : total_of f (j + suc d) ≡ total_of f (j + d + 1) = ap (total_of f) next in
     omega arith
 
+-- a list that is cut at its end is whole
+whole_sum : (f : ℕ → ℕ) (end n : ℕ) → end ≤ n → total_of f end ≤ total_of f n
+whole_sum f end n within =
+    let rises = total_rises f end (n - end) in
+    let whole : end + (n - end) ≡ n = omega arith in
+    let all : total_of f (end + (n - end)) ≡ total_of f n = ap (total_of f) whole in
+    omega arith
+
 -- the sum of the first statements, all of which pass, is no more than that of all that pass
 first_few : (g : ℕ → ℕ) (r : Name → Bool) (names : List Name) (end : ℕ) → end ≤ length names → ((j : ℕ) (m : Name) → j < end → slice_get names j ≡ Some m → r m ≡ true)
     → total_of g end ≤ total_of (λ k. if r (get_or names k []) then g k else 0) (length names)
 first_few g r names end within passes =
     let low = same_to end (omega arith) in
-    let high = total_rises passing end (length names - end) in
-    let whole : end + (length names - end) ≡ length names = omega arith in
-    let all : total_of passing (end + (length names - end)) ≡ total_of passing (length names) = ap (total_of passing) whole in
+    let high = whole_sum passing end (length names) within in
     omega arith
   where
     passing : ℕ → ℕ
@@ -111,14 +113,6 @@ module _ (touch : Touch) (s t : EngineState) (p : Plan) (sources names : List Na
       (λ l found is. let none = given_depth t orderly l found is in le-leb (depth_in (nodes_of t.entries) l.name) d (omega arith)) (layers t.entries) (layers_found t orderly) in
       let few = first_few g r names end within (λ j m less at. le-leb (depth_in (nodes_of t.entries) m) d (shallow j m less at)) in
       omega arith
-
--- a list that is cut at its end is whole
-whole_sum : (f : ℕ → ℕ) (end n : ℕ) → end ≤ n → total_of f end ≤ total_of f n
-whole_sum f end n within =
-    let rises = total_rises f end (n - end) in
-    let whole : end + (n - end) ≡ n = omega arith in
-    let all : total_of f (end + (n - end)) ≡ total_of f n = ap (total_of f) whole in
-    omega arith
 
 module _ (touch : Touch) (s t : EngineState) (p : Plan) (sources names : List Name) (plan : IsPlanFor touch s t p sources names) (changes : ChangesOnly touch s t) (old : HasNoCycle (nodes_of s.entries)) (orderly : IsOrderly t)
     (end : ℕ) (within : end ≤ length names) where

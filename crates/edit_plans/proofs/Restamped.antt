@@ -1,8 +1,8 @@
 -- The stamps of a layer that is put in place are those of the state after.
-use Rattle.std.proofs.Common.{◌≡◌, ℕ, zero, suc, ◌+◌, ◌*◌, ◌/◌, ◌%◌, ◌<◌, ◌≤◌, ◌⊎◌, inl, inr, Bool, true, false, cond, not, ◌==◌, List, [], ◌∷◌, map, get_or, replicate, Option, Some, None, unwrap_or, refl, sym, ap, ◌∙◌, arith, if◌then◌else◌}
+use Rattle.std.proofs.Common.{◌≡◌, ℕ, zero, suc, ◌+◌, ◌*◌, ◌/◌, ◌%◌, ◌<◌, ◌≤◌, inl, inr, Bool, true, false, cond, not, ◌==◌, List, [], ◌∷◌, map, get_or, replicate, Option, Some, None, unwrap_or, refl, sym, ap, ◌∙◌, arith, if◌then◌else◌}
 use Rattle.std.specs.Prelude.{filter}
 use Rattle.std.specs.List.{range_with_len, list_any}
-use Rattle.std.proofs.lemmas.Bool.{true≢false, false≢true, both_ways, or_left, or_right, or_cases, eqb-true, eq-eqb, cases_eq}
+use Rattle.std.proofs.lemmas.Bool.{true≢false, false≢true, both_ways, or_left, or_right, or_cases, eqb-true, eq-eqb, cases_eq, cases_Bool, not-false, false_from_ne_true}
 use Rattle.std.proofs.lemmas.List.{length-replicate, get_or-replicate}
 use Rattle.std.proofs.lemmas.List.FromFn.{fill_by_all}
 use Rattle.map_nums.specs.Grids.{Size, IsSize, Cells, cell_at, cells_in}
@@ -18,12 +18,16 @@ use Rattle.layer_tiles.proofs.Strides.{same_tile, get_or-strided}
 use Rattle.map_edits.specs.WholeStates.{WholeState, cells_of, stamps_of}
 use Rattle.map_edits.specs.LayerChanges.{now_of, changed_of}
 use Rattle.edit_plans.specs.StampLaws.{OldIsStamped, NewIsStamped}
+use Rattle.map_edits.proofs.Cuts.{filter_all}
 
 -- ---- numbers in a row that pass two tests
 
 pub any_so : (p q : ℕ → Bool) (a n i : ℕ) → a ≤ i → i < a + n → p i ≡ true → q i ≡ true → list_any p (filter q (range_with_len a n)) ≡ true
 any_so p q a zero i low high e f = absurd (omega arith)
-any_so p q a (suc n) i low high e f = go (cases_eq a i) (λ later. any_so p q (a + 1) n i later (omega arith) e f)
+any_so p q a (suc n) i low high e f = elim (cases_eq a i) [
+  | inl same ↦ rw (ap q same ∙ f) (or_left (p a) (list_any p rest) (ap p same ∙ e))
+  | inr other ↦ behind (q a) (any_so p q (a + 1) n i (omega (arith, other)) (omega arith) e f)
+]
   where
     rest : List ℕ
     rest = filter q (range_with_len (a + 1) n)
@@ -31,14 +35,6 @@ any_so p q a (suc n) i low high e f = go (cases_eq a i) (λ later. any_so p q (a
     behind : (b : Bool) → list_any p rest ≡ true → list_any p (cond b (a ∷ rest) rest) ≡ true
     behind true h = or_right (p a) (list_any p rest) h
     behind false h = h
-
-    first : (b : Bool) → b ≡ true → p a ≡ true → list_any p (cond b (a ∷ rest) rest) ≡ true
-    first true g h = or_left (p a) (list_any p rest) h
-    first false g h = absurd (false≢true g)
-
-    go : (a ≡ i) ⊎ (a ≡ i → ⊥) → (a + 1 ≤ i → list_any p rest ≡ true) → list_any p (cond (q a) (a ∷ rest) rest) ≡ true
-    go (inl same) later = first (q a) (ap q same ∙ f) (ap p same ∙ e)
-    go (inr other) later = behind (q a) (later (omega (arith, other)))
 
 pub record IsAnyOf (p q : ℕ → Bool) (a n : ℕ) : Type 0 where
   pub place : ℕ
@@ -49,7 +45,13 @@ pub record IsAnyOf (p q : ℕ → Bool) (a n : ℕ) : Type 0 where
 
 pub any_is : (p q : ℕ → Bool) (a n : ℕ) → list_any p (filter q (range_with_len a n)) ≡ true → IsAnyOf p q a n
 any_is p q a zero e = absurd (false≢true e)
-any_is p q a (suc n) e = go (q a) refl e (any_is p q (a + 1) n)
+any_is p q a (suc n) e = elim (cases_Bool (q a)) [
+  | inl f ↦ elim (or_cases (p a) (list_any p rest) (rw f at e)) [
+    | inl h ↦ record { place = a; from = omega arith; below = omega arith; first = h; second = f }
+    | inr h ↦ later (any_is p q (a + 1) n h)
+  ]
+  | inr f ↦ later (any_is p q (a + 1) n (rw f at e))
+]
   where
     rest : List ℕ
     rest = filter q (range_with_len (a + 1) n)
@@ -57,33 +59,20 @@ any_is p q a (suc n) e = go (q a) refl e (any_is p q (a + 1) n)
     later : IsAnyOf p q (a + 1) n → IsAnyOf p q a (suc n)
     later r = record { place = r.place; from = omega (arith, r.from); below = omega (arith, r.below); first = r.first; second = r.second }
 
-    here_or : q a ≡ true → (p a ≡ true) ⊎ (list_any p rest ≡ true) → (list_any p rest ≡ true → IsAnyOf p q (a + 1) n) → IsAnyOf p q a (suc n)
-    here_or f (inl h) more = record { place = a; from = omega arith; below = omega arith; first = h; second = f }
-    here_or f (inr h) more = later (more h)
-
-    go : (b : Bool) → q a ≡ b → list_any p (cond b (a ∷ rest) rest) ≡ true → (list_any p rest ≡ true → IsAnyOf p q (a + 1) n) → IsAnyOf p q a (suc n)
-    go true f h more = here_or f (or_cases (p a) (list_any p rest) h) more
-    go false f h more = later (more h)
-
 -- a number is among those that pass exactly where it passes
 among_passing : (q : ℕ → Bool) (n k : ℕ) → k < n → list_any (λ j. j == k) (filter q (range_with_len 0 n)) ≡ q k
-among_passing q n k below = go (q k) refl (list_any (λ j. j == k) (filter q (range_with_len 0 n))) refl
-  where
-    go : (b : Bool) → q k ≡ b → (c : Bool) → list_any (λ j. j == k) (filter q (range_with_len 0 n)) ≡ c → c ≡ b
-    go true e true f = refl
-    go false e false f = refl
-    go true e false f = absurd (both_ways (list_any (λ j. j == k) (filter q (range_with_len 0 n))) f (any_so (λ j. j == k) q 0 n k (omega arith) (omega arith) (eq-eqb k k refl) e))
-    go false e true f = let r = any_is (λ j. j == k) q 0 n f in absurd (both_ways (q k) e (ap q (sym (eqb-true r.place k r.first)) ∙ r.second))
+among_passing q n k below = elim (cases_Bool (q k)) [
+  | inl e ↦ any_so (λ j. j == k) q 0 n k (omega arith) (omega arith) (eq-eqb k k refl) e ∙ sym e
+  | inr e ↦ false_from_ne_true (list_any (λ j. j == k) (filter q (range_with_len 0 n))) (λ f.
+      let r = any_is (λ j. j == k) q 0 n f in
+      both_ways (q k) e (ap q (sym (eqb-true r.place k r.first)) ∙ r.second)) ∙ sym e
+]
 
 -- ---- a tile differs exactly where it has a cell that differs
 
 module _ (s : Size) (before after : Cells) (t : ℕ) (size : IsSize s) (within : t < tiles_in s) where
   not_differs : (i : ℕ) → differs before after i ≡ false → cell_at before i ≡ cell_at after i
-  not_differs i e = same_is (cell_at before i) (cell_at after i) (turned (same_cell (cell_at before i) (cell_at after i)) e)
-    where
-      turned : (b : Bool) → not b ≡ false → b ≡ true
-      turned true h = refl
-      turned false h = absurd (true≢false h)
+  not_differs i e = same_is (cell_at before i) (cell_at after i) (not-false (same_cell (cell_at before i) (cell_at after i)) e)
 
   same_where_none : tile_has s (differs before after) t ≡ false → tile_cells s before t ≡ tile_cells s after t
   same_where_none e = same_tile s before after t
@@ -129,17 +118,13 @@ old_stamped s before after stamp old new size h =
     each k below true e = h.changed k below (other_where_some s before after k size below e) ∙ sym (ap (λ (b : Bool). if b then stamp else get_or old k 0) (among_passing (tile_has s (differs before after)) (tiles_in s) k below ∙ e))
     each k below false e = h.same k below (same_where_none s before after k size below e) ∙ sym (ap (λ (b : Bool). if b then stamp else get_or old k 0) (among_passing (tile_has s (differs before after)) (tiles_in s) k below ∙ e))
 
-filter_true : (a n : ℕ) → filter (λ (j : ℕ). true) (range_with_len a n) ≡ range_with_len a n
-filter_true a zero = refl
-filter_true a (suc n) = ap (λ ks. a ∷ ks) (filter_true (a + 1) n)
-
 new_stamped : (s : Size) (now : Cells) (stamp : ℕ) (old : List ℕ) → replicate (tiles_in s) stamp ≡ map (stamp_by (changed_tiles s None now) stamp old) (tiles s)
 unfolding changed_tiles
 new_stamped s now stamp old =
     fill_by_all (stamp_by (tiles s) stamp old) (replicate (tiles_in s) stamp) (tiles_in s) 0 (length-replicate (tiles_in s) stamp)
     (λ k below.
     get_or-replicate (tiles_in s) k stamp 0 below
-    ∙ sym (ap (λ (b : Bool). if b then stamp else get_or old k 0) (ap (list_any (λ j. j == k)) (sym (filter_true 0 (tiles_in s))) ∙ among_passing (λ j. true) (tiles_in s) k below)))
+    ∙ sym (ap (λ (b : Bool). if b then stamp else get_or old k 0) (ap (list_any (λ j. j == k)) (sym (filter_all (λ j. true) (λ j. refl) (range_with_len 0 (tiles_in s)))) ∙ among_passing (λ j. true) (tiles_in s) k below)))
 
 -- ---- by the states
 

@@ -1,48 +1,33 @@
 -- What is kept of a statement that the edit didn't write is right for its operands before.
-use Rattle.std.proofs.Common.{◌≡◌, Bool, true, false, ◌||◌, List, [], ◌∷◌, map, Option, Some, None, option_map, bytes_eq, refl, sym, ap, subst, ◌∙◌}
-use Rattle.std.proofs.lemmas.Bool.{false≢true}
-use Rattle.std.proofs.lemmas.Option.{none-some}
+use Rattle.std.proofs.Common.{◌≡◌, List, Some, None, option_map, refl, sym, ap, subst, ◌∙◌}
 use Rattle.map_nums.specs.Grids.{Size, Cells}
-use Rattle.map_nums.specs.Options.{first_some}
 use Rattle.map_defs.specs.Ops.{Name, Op, needs_of}
-use Rattle.map_defs.specs.Nodes.{Node, find_node}
+use Rattle.map_defs.specs.Nodes.{find_node, Node}
 use Rattle.map_defs.specs.Depths.{by_depth}
 use Rattle.map_edits.specs.LayerDefs.{by_op, layers, find_making, nodes_of}
 use Rattle.map_edits.specs.EngineStates.{EngineState, term_cells, value_of}
 use Rattle.map_edits.specs.Faults.{fault_of_layer, fault_of}
-use Rattle.map_edits.specs.Faults as told
 use Rattle.map_edits.specs.LayerChanges.{operands_in}
-use Rattle.map_edits.specs.Laws.{HasNoCycle, is_named_in}
-use Rattle.map_edits.proofs.Among.{same_name}
+use Rattle.map_edits.specs.Laws.{HasNoCycle}
 use Rattle.map_edits.proofs.Looks.{made_node, find_node-making}
 use Rattle.map_edits.proofs.Order.{all_flats_listed}
 use Rattle.map_waves.specs.Statements.{made, cells_were, fault_in}
-use Rattle.map_waves.specs.Statements as waves
 use Rattle.map_waves.specs.Plans.{operands_at}
 use Rattle.edit_plans.specs.KeptLaws.{KeptIsRight}
 use Rattle.edit_plans.specs.Telling.{fault_told}
 use Rattle.edit_plans.proofs.Before.{stood_on}
 use Rattle.edit_plans.proofs.Counting.{all_each}
-use Rattle.edit_plans.proofs.LayerFaults.{layer_fault}
+use Rattle.edit_plans.proofs.Faulted.{layer_fault}
 use Rattle.map_waves.specs.declared.keeping.Aside.{Aside}
-
--- none of a list has a fault
-faultless_named : (s : EngineState) (n : Name) (nodes : List Node) → first_some (map (λ (node : Node). fault_of_layer s node.name) nodes) ≡ None → is_named_in n nodes ≡ true → fault_of_layer s n ≡ None
-faultless_named s n [] none named = absurd (false≢true named)
-faultless_named s n (x ∷ xs) none named = go (fault_of_layer s x.name) refl none (bytes_eq x.name n) refl named (faultless_named s n xs)
-  where
-    go : (o : Option told.Fault) → fault_of_layer s x.name ≡ o → first_some (o ∷ map (λ (node : Node). fault_of_layer s node.name) xs) ≡ None → (b : Bool) → bytes_eq x.name n ≡ b → (b || is_named_in n xs) ≡ true
-        → (first_some (map (λ (node : Node). fault_of_layer s node.name) xs) ≡ None → is_named_in n xs ≡ true → fault_of_layer s n ≡ None) → fault_of_layer s n ≡ None
-    go (Some f) is e b same at rest = absurd (none-some f (sym e))
-    go None is e true same at rest = ap (fault_of_layer s) (sym (same_name x.name n same)) ∙ is
-    go None is e false same at rest = rest e at
+use Rattle.map_edits.proofs.Among.{none_of_named}
+use Rattle.edit_plans.proofs.There.{map_none}
 
 -- in a state without a fault no statement has one
 statement_faultless : (s : EngineState) (n : Name) (op : Op) → HasNoCycle (nodes_of s.entries) → fault_of s ≡ None → find_making (layers s.entries) n ≡ Some (by_op op) → fault_of_layer s n ≡ None
 unfolding fault_of
 statement_faultless s n op none fault making =
     let found : find_node (nodes_of s.entries) n ≡ Some (record { name = n; needs = Some (needs_of op) }) = find_node-making (layers s.entries) n ∙ ap (option_map (made_node n)) making in
-    faultless_named s n (by_depth (nodes_of s.entries)) fault (all_flats_listed (nodes_of s.entries) none n (record { name = n; needs = Some (needs_of op) }) (needs_of op) found refl)
+    none_of_named (λ (x : Node). x.name) (fault_of_layer s) n (by_depth (nodes_of s.entries)) fault (all_flats_listed (nodes_of s.entries) none n (record { name = n; needs = Some (needs_of op) }) (needs_of op) found refl)
 
 module _ {B : Type 0} (suits : Size → Op → List Cells → Aside B → Type 0) where
   pub kept_is_right : KeptIsRight suits
@@ -58,10 +43,6 @@ module _ {B : Type 0} (suits : Size → Op → List Cells → Aside B → Type 0
         size = size ∙ same;
         there = stood.there.there;
         right = stood.made_is ∙ ap (made p.size op) (sym stood.there.before);
-        faultless = ap (fault_in p.size op) stood.there.before ∙ ap (λ q. fault_in q op stood.cells) (sym same) ∙ untold (fault_in s.size op stood.cells) none;
+        faultless = ap (fault_in p.size op) stood.there.before ∙ ap (λ q. fault_in q op stood.cells) (sym same) ∙ map_none (fault_told s.size n) (fault_in s.size op stood.cells) none;
         beside = subst (λ (os : List Cells). suits p.size op os own.beside) before (subst (λ (q : Size). suits q op (operands_in s op) own.beside) same suit);
       }
-    where
-      untold : (o : Option waves.Fault) → option_map (fault_told s.size n) o ≡ None → o ≡ None
-      untold None e = refl
-      untold (Some f) e = absurd (none-some (fault_told s.size n f) (sym e))

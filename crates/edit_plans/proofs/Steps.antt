@@ -1,7 +1,7 @@
 -- The steps of the first whole statements, and of one more.
 use Rattle.std.proofs.Common.{◌≡◌, ℕ, zero, suc, ◌+◌, ◌^◌, ◌<◌, ◌≤◌, Bool, true, false, cond, not, ◌&&◌, List, [], ◌∷◌, ◌++◌, map, filter, take, length, get_or, Option, Some, None, is_some, option_map, slice_get, bytes_eq, Bor, ◌⊎◌, inl, inr, refl, sym, ap, subst, ◌∙◌, arith}
 use Rattle.std.specs.List.{list_any, All}
-use Rattle.std.proofs.lemmas.Bool.{false≢true}
+use Rattle.std.proofs.lemmas.Bool.{false≢true, not-true}
 use Rattle.std.proofs.lemmas.List.{take_all, map-append, length_push}
 use Rattle.std.proofs.lemmas.Option.{none-some, same_Some, slice_get_within, slice_get-get_or, slice_get-map, slice_get_read}
 use Rattle.map_defs.specs.Ops.{Name, needs_of}
@@ -11,7 +11,7 @@ use Rattle.map_edits.specs.Laws.{is_among, is_named_in, HasNoCycle}
 use Rattle.map_edits.proofs.Unfolds.{depth_of_flat, depth_in_le_nodes}
 use Rattle.map_edits.proofs.Order.{needs_come_before}
 use Rattle.map_edits.proofs.Listed.{Each, IsListed, each_split}
-use Rattle.map_edits.proofs.Once.{once_between, by_depth_once, IsOnce}
+use Rattle.map_edits.proofs.Once.{once_apart, once_listed, once_between, by_depth_once, IsOnce}
 use Rattle.statement_graph.specs.declared.node.Node.{Node as Listed}
 use Rattle.statement_graph.specs.Puts.{flat_node}
 use Rattle.statement_graph.specs.Wholes.{whole_nodes}
@@ -23,17 +23,13 @@ use Rattle.edit_plans.specs.Planned.{FlatDef, place_for, AreNamedApart, AreSourc
 use Rattle.edit_plans.specs.NextStep.{IsReady, IsNextStep, IsNew}
 use Rattle.edit_plans.proofs.Taken.{taken_to}
 use Rattle.edit_plans.proofs.Operands.{refs_are, refs_more, need_whole, place_there, terms_there, depths_agree, kept_named}
-use Rattle.edit_plans.proofs.Listing.{once_apart, all_listed}
+use Rattle.map_edits.proofs.Looks.{none_there}
 
 got_push : {X : Type 0} (xs : List X) (a : X) (k : ℕ) (x : X) → slice_get (xs ++ a ∷ []) k ≡ Some x → (slice_get xs k ≡ Some x) ⊎ ((k ≡ length xs) × (a ≡ x))
 got_push [] a zero x e = inr (refl, same_Some a x e)
 got_push [] a (suc k) x e = absurd (none-some x e)
 got_push (y ∷ xs) a zero x e = inl e
-got_push (y ∷ xs) a (suc k) x e = go (got_push xs a k x e)
-  where
-    go : (slice_get xs k ≡ Some x) ⊎ ((k ≡ length xs) × (a ≡ x)) → (slice_get (y ∷ xs) (suc k) ≡ Some x) ⊎ ((suc k ≡ length (y ∷ xs)) × (a ≡ x))
-    go (inl at) = inl at
-    go (inr last) = inr (omega (arith, last.0), last.1)
+got_push (y ∷ xs) a (suc k) x e = elim (got_push xs a k x e) [ inl at ↦ inl at | inr last ↦ inr (omega (arith, last.0), last.1) ]
 
 -- where one stands that passes, with those before it that do
 record IsCut (p : Node → Bool) (xs : List Node) (k : ℕ) (x : Node) : Type 0 where
@@ -95,7 +91,7 @@ module _ (nodes : List Node) (acyclic : HasNoCycle nodes) (apart : AreNamedApart
     cut = cut_at (λ (node : Node). not (is_some (lacks nodes node.name))) (by_depth nodes) k x here
 
     listed : IsListed nodes x
-    listed = each_split (IsListed nodes) x cut.after cut.before (subst (Each (IsListed nodes)) cut.split (all_listed nodes apart))
+    listed = each_split (IsListed nodes) x cut.after cut.before (subst (Each (IsListed nodes)) cut.split (once_listed nodes (once_apart nodes apart)))
 
     alone : is_named_in x.name cut.before ≡ false
     alone = (once_between x cut.after cut.before (subst IsOnce cut.split (by_depth_once nodes (once_apart nodes apart)))).0
@@ -104,11 +100,7 @@ module _ (nodes : List Node) (acyclic : HasNoCycle nodes) (apart : AreNamedApart
     names_before = up.names_are ∙ ap (map (λ (node : Node). node.name)) (sym cut.first)
 
     lacks_none : lacks nodes x.name ≡ None
-    lacks_none = go (lacks nodes x.name) cut.passes
-      where
-        go : (o : Option Name) → not (is_some o) ≡ true → o ≡ None
-        go None e = refl
-        go (Some m) e = absurd (false≢true e)
+    lacks_none = none_there (lacks nodes x.name) (not-true (is_some (lacks nodes x.name)) cut.passes)
 
     flat_here : (ns : List Name) × (x.needs ≡ Some ns) × IsFlatOf flats x.name ns
     flat_here = go x.needs refl

@@ -1,6 +1,6 @@
 -- What a plan makes is the values of the state after.
-use Rattle.std.proofs.Common.{◌≡◌, ℕ, zero, suc, ◌<◌, Bool, true, false, cond, List, [], ◌∷◌, map, filter, Option, Some, None, is_some, option_map, slice_get, refl, sym, ap, ◌∙◌, arith}
-use Rattle.std.proofs.lemmas.Bool.{false≢true, and_parts}
+use Rattle.std.proofs.Common.{◌≡◌, ℕ, zero, suc, ◌<◌, Bool, true, List, [], ◌∷◌, map, filter, Option, Some, None, is_some, option_map, slice_get, refl, sym, ap, ◌∙◌, arith, inl, inr}
+use Rattle.std.proofs.lemmas.Bool.{false≢true, and_parts, cases_Bool}
 use Rattle.std.proofs.lemmas.Option.{none-some, same_Some}
 use Rattle.map_nums.specs.Grids.{Cells, Grid, constant}
 use Rattle.map_nums.specs.Options.{all_some}
@@ -27,14 +27,9 @@ use Rattle.edit_plans.proofs.There.{some_map, all_cons}
 
 -- a name that is left by a test passes it
 passes_at : (q : Name → Bool) (xs : List Node) (k : ℕ) (n : Name) → slice_get (map (λ (x : Node). x.name) (filter (λ (x : Node). q x.name) xs)) k ≡ Some n → q n ≡ true
-passes_at q [] k n at = absurd (none-some n at)
-passes_at q (x ∷ xs) k n at = go (q x.name) refl k at (passes_at q xs)
-  where
-    go : (b : Bool) → q x.name ≡ b → (k : ℕ) → slice_get (map (λ (x : Node). x.name) (cond b (x ∷ filter (λ (x : Node). q x.name) xs) (filter (λ (x : Node). q x.name) xs))) k ≡ Some n
-        → ((j : ℕ) (m : Name) → slice_get (map (λ (x : Node). x.name) (filter (λ (x : Node). q x.name) xs)) j ≡ Some m → q m ≡ true) → q n ≡ true
-    go true e zero at rest = ap q (sym (same_Some x.name n at)) ∙ e
-    go true e (suc j) at rest = rest j n at
-    go false e k at rest = rest k n at
+passes_at q [] k n here = absurd (none-some n here)
+passes_at q (x ∷ xs) zero n here = elim (cases_Bool (q x.name)) [ inl e ↦ ap q (sym (same_Some x.name n (simp e at here))) ∙ e | inr e ↦ passes_at q xs zero n (simp e at here) ]
+passes_at q (x ∷ xs) (suc k) n here = elim (cases_Bool (q x.name)) [ inl e ↦ passes_at q xs k n (simp e at here) | inr e ↦ passes_at q xs (suc k) n (simp e at here) ]
 
 module _ (touch : Touch) (s t : EngineState) (p : Plan) (sources names : List Name) (plan : IsPlanFor touch s t p sources names) where
   -- the first k statements have the values of their names

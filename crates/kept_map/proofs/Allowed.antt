@@ -1,6 +1,6 @@
 -- The tiles of an edit's own source may be read, whether a plan is made or not.
-use Rattle.std.proofs.Common.{◌≡◌, ℕ, ◌+◌, ◌*◌, ◌≤◌, Bool, true, false, cond, nat_le, List, [], ◌∷◌, filter, length, sum_by, Option, Some, None, is_some, Ok, if◌then◌else◌, sym, subst, arith}
-use Rattle.std.proofs.lemmas.Bool.{le-leb}
+use Rattle.std.proofs.Common.{◌≡◌, ℕ, ◌*◌, ◌≤◌, Bool, true, nat_le, List, [], ◌∷◌, filter, length, sum_by, Option, Some, None, is_some, Ok, if◌then◌else◌, sym, subst, arith, inl, inr}
+use Rattle.std.proofs.lemmas.Bool.{le-leb, cases_Bool}
 use Rattle.std.proofs.lemmas.List.Sums.{sum_by-cons}
 use Rattle.map_defs.specs.Depths.{depth_in}
 use Rattle.map_edits.specs.LayerDefs.{LayerDef, layers, nodes_of}
@@ -23,14 +23,11 @@ use Rattle.edit_plans.proofs.Reading.{given_depth, given_sum}
 -- the sum over some is no more than that over all
 some_less : {X : Type 0} (f : X → ℕ) (p : X → Bool) (xs : List X) → sum_by f (filter p xs) ≤ sum_by f xs
 some_less f p [] = omega arith
-some_less f p (x ∷ xs) = go (p x) (some_less f p xs)
-  where
-    all : sum_by f (x ∷ xs) ≡ f x + sum_by f xs
-    all = sum_by-cons f x xs
-
-    go : (b : Bool) → sum_by f (filter p xs) ≤ sum_by f xs → sum_by f (cond b (x ∷ filter p xs) (filter p xs)) ≤ sum_by f (x ∷ xs)
-    go true rest = let one = sum_by-cons f x (filter p xs) in omega (arith, one, all, rest)
-    go false rest = omega (arith, all, rest)
+some_less f p (x ∷ xs) =
+    let all = sum_by-cons f x xs in
+    let one = sum_by-cons f x (filter p xs) in
+    let rest = some_less f p xs in
+    elim (cases_Bool (p x)) [ inl h ↦ rw h (omega (arith, one, all, rest)) | inr h ↦ rw h (omega (arith, all, rest)) ]
 
 module _ (touch : Touch) (s t : EngineState) (orderly : IsOrderly t) where
   abbrev tiles : LayerDef → ℕ

@@ -1,47 +1,35 @@
 -- The layer of a name, or what the name misses.
-use Rattle.std.proofs.Common.{◌≡◌, ℕ, false, ◌&&◌, not, List, map, position, Option, Some, None, is_some, option_map, option_copied, slice_get, bytes_eq, Bor, refl, sym, ap, ◌∙◌, if◌then◌else◌}
-use Rattle.std.specs.List.{list_any}
-use Rattle.std.specs.Option.{option_or}
-use Rattle.std.proofs.lemmas.Bool.{false≢true, true≢false}
+use Rattle.std.proofs.Common.{◌≡◌, ℕ, List, map, position, Option, Some, None, is_some, option_map, option_copied, slice_get, bytes_eq, Bor, refl, sym, ap, ◌∙◌}
+use Rattle.std.proofs.lemmas.Bool.{false≢true}
 use Rattle.std.proofs.lemmas.Option.{none-some, same_Some}
 use Rattle.map_nums.specs.Grids.{Cells, Grid}
 use Rattle.map_nums.specs.Options.{all_some}
 use Rattle.map_defs.specs.Ops.{Name, Op}
-use Rattle.map_defs.specs.Nodes.{Node, find_node, needs_in, lacks, first_some}
-use Rattle.map_defs.specs.Depths.{by_depth}
 use Rattle.map_defs.specs.Operate.{operate}
 use Rattle.layer_tiles.specs.Layers.{LayerState}
 use Rattle.map_edits.specs.LayerDefs.{by_op, layers, find_making, nodes_of}
 use Rattle.map_edits.specs.EngineStates.{EngineState, term_cells, made, value_of}
 use Rattle.map_edits.specs.WholeStates.{cells_of, stamps_of}
-use Rattle.map_edits.specs.Laws.{HasNoCycle, is_named_in}
-use Rattle.map_edits.proofs.Unfolds.{lacks_unfolds, value_unfolds}
-use Rattle.map_edits.proofs.Defined.{value_is_defined}
-use Rattle.map_edits.proofs.Order.{all_flats_listed}
+use Rattle.map_edits.specs.Laws.{HasNoCycle}
+use Rattle.map_edits.proofs.Unfolds.{value_unfolds}
 use Rattle.map_waves.specs.declared.keeping.Kept.{Kept}
 use Rattle.op_jobs.specs.declared.beside.Beside.{Beside}
 use Rattle.statement_graph.specs.Groups.{nodes_in}
 use Rattle.statement_parser.specs.Views.{op_view}
-use Rattle.edit_plans.specs.Planned.{is_source_node}
-use Rattle.edit_plans.proofs.Forming.{step_at}
-use Rattle.edit_plans.proofs.Operands.{kept_named}
+use Rattle.edit_plans.proofs.There.{none_where}
 use Rattle.edit_plans.proofs.Operating.{operate_size}
-use Rattle.edit_plans.proofs.Positions.{some_position, position_at}
-use Rattle.kept_map.specs.Maps.{grid_of, at_place, source_in, kept_in, layer_in, entries_in, names_in, stamps_seen}
-use Rattle.kept_map.specs.Keeps.{IsKept, IsKeptStep}
+use Rattle.edit_plans.proofs.Positions.{position_at}
+use Rattle.kept_map.specs.Maps.{grid_of, at_place, source_in, layer_in, entries_in, names_in, stamps_seen}
+use Rattle.kept_map.specs.Keeps.{IsKept}
 use Rattle.kept_map.specs.declared.maps.KeptMap.{KeptMap}
 use Rattle.kept_map.proofs.Groupings.{nodes_in_groups}
-use Rattle.kept_map.proofs.LayersByName.{stamps_found}
+use Rattle.kept_map.proofs.LayersByName.{stamps_found, step_kept, layer_kept, layer_source, defined_placed}
 use Rattle.kept_map.proofs.SourceLayers.{source_at, source_none, source_whole}
 use Rattle.kept_map.proofs.Given.{source_value}
 use Rattle.kept_map.proofs.Naming.{source_def}
 
-none_where : {X : Type 0} (o : Option X) → is_some o ≡ false → o ≡ None
-none_where None e = refl
-none_where (Some x) e = absurd (true≢false e)
-
 -- a statement's grid has the size of the map
-pub value_size : (s : EngineState) (n : Name) (op : Op) (cells : Cells) → HasNoCycle (nodes_of s.entries) → find_making (layers s.entries) n ≡ Some (by_op op) → cells_of s n ≡ Some cells → value_of s n ≡ Some (record { size = s.size; cells = cells })
+value_size : (s : EngineState) (n : Name) (op : Op) (cells : Cells) → HasNoCycle (nodes_of s.entries) → find_making (layers s.entries) n ≡ Some (by_op op) → cells_of s n ≡ Some cells → value_of s n ≡ Some (record { size = s.size; cells = cells })
 value_size s n op cells none making is = go (all_some (map (term_cells s.size (value_of s)) op.terms)) (value_unfolds s none n ∙ ap (made s.size (value_of s)) making)
   where
     go : (o : Option (List Cells)) → value_of s n ≡ option_map (operate s.size op) o → value_of s n ≡ Some (record { size = s.size; cells = cells })
@@ -54,9 +42,6 @@ module _ (m : KeptMap) (keeps : IsKept m) (n : Name) where
   abbrev s : EngineState
   s = names_in m
 
-  abbrev nodes : List Node
-  nodes = nodes_of (entries_in m)
-
   abbrev pub IsTold : LayerState → Type 0
   IsTold l = (value_of s n ≡ Some (grid_of l)) × (stamps_of (stamps_seen (layer_in m) s) n ≡ Some l.stamps) × (l.size ≡ m.extent)
 
@@ -64,45 +49,22 @@ module _ (m : KeptMap) (keeps : IsKept m) (n : Name) where
   source_told i l at is =
       let there : source_in m.sources n ≡ Some l = source_at m.sources n i at ∙ is in
       let value : value_of s n ≡ Some (grid_of l) = source_value s n (grid_of l) keeps.lawful.groups keeps.lawful.apart keeps.lawful.none_looped (source_def m n keeps l there) in
-      (value, stamps_found (layer_in m) s n l (ap (λ o. option_or o (option_map (λ (k : Kept Beside). k.layer) (kept_in m n))) there) (ap is_some value), (source_whole m.sources n s l keeps.sources there).0)
+      (value, stamps_found (layer_in m) s n l (layer_source m n l there) (ap is_some value), (source_whole m.sources n s l keeps.sources there).0)
 
   pub statement_told : (k : ℕ) (own : Kept Beside) → position (bytes_eq n) m.sources.names.keys ≡ None → position (bytes_eq n) m.planned.names.keys ≡ Some k → slice_get m.kept.items k ≡ Some own → IsTold own.layer
   statement_told k own absent at is =
       let named = position_at n m.planned.names.keys k at in
-      let step = step_at m.planned.names.keys m.planned.steps.items keeps.statements.planned_are.count k n named in
-      let r : IsKeptStep s n step.0 own = keeps.statements.each k n step.0 own named step.1 is in
+      let step = step_kept m keeps k n own named is in
+      let r = step.1 in
       let value : value_of s n ≡ Some (grid_of own.layer) = value_size s n (op_view step.0.op) own.layer.cells keeps.lawful.none_looped r.making r.value ∙ ap (λ z. Some (record { size = z; cells = own.layer.cells })) (sym r.size) in
-      let layer : layer_in m n ≡ Some own.layer = ap (λ o. option_or o (option_map (λ (k : Kept Beside). k.layer) (kept_in m n))) (source_none m.sources n absent) ∙ ap (option_map (λ (k : Kept Beside). k.layer)) (ap (at_place m.kept.items) at ∙ is) in
+      let layer : layer_in m n ≡ Some own.layer = layer_kept m n own (source_none m.sources n absent) (ap (at_place m.kept.items) at ∙ is) in
       (value, stamps_found (layer_in m) s n own.layer layer (ap is_some value), r.size)
 
   -- neither a source nor a statement that is defined
   pub nothing_told : position (bytes_eq n) m.sources.names.keys ≡ None → position (bytes_eq n) m.planned.names.keys ≡ None → value_of s n ≡ None
-  nothing_told absent unplanned = none_where (value_of s n) (value_is_defined s keeps.lawful.none_looped n ∙ ap (λ o. not (is_some o)) lacking.1)
-    where
-      unlisted : (is_named_in n (by_depth nodes) && not (is_some (lacks nodes n))) ≡ false
-      unlisted =
-          sym (kept_named (λ q. not (is_some (lacks nodes q))) n (by_depth nodes))
-          ∙ ap (λ ns. list_any (bytes_eq n) ns) (sym keeps.statements.planned_are.names_are)
-          ∙ sym (some_position (bytes_eq n) m.planned.names.keys)
-          ∙ ap is_some unplanned
+  nothing_told absent unplanned = none_where (value_of s n) (λ g e. false≢true (sym (ap is_some unplanned) ∙ defined_placed m keeps n (ap is_some absent) g e))
 
-      by_needs : (node : Node) → find_node nodes n ≡ Some node → (o : Option (List Name)) → node.needs ≡ o → lacks nodes n ≡ None → ⊥
-      by_needs node e None is none = false≢true (sym (ap is_some absent) ∙ keeps.sources.stand n ∙ ap is_source_node e ∙ ap (λ o. not (is_some o)) is)
-      by_needs node e (Some ns) is none =
-          false≢true (sym unlisted ∙ ap (λ b. b && not (is_some (lacks nodes n))) (all_flats_listed nodes keeps.lawful.none_looped n node ns e is) ∙ ap (λ o. not (is_some o)) none)
-
-      not_whole : (o : Option Node) → find_node nodes n ≡ o → lacks nodes n ≡ None → ⊥
-      not_whole None e none = none-some n (sym none ∙ lacks_unfolds nodes keeps.lawful.none_looped n ∙ ap (λ o. if is_some o then first_some (map (lacks nodes) (needs_in nodes n)) else Some n) e)
-      not_whole (Some node) e none = by_needs node e node.needs refl none
-
-      some_lack : (o : Option Name) → lacks nodes n ≡ o → (q : Name) × (lacks nodes n ≡ Some q)
-      some_lack None e = absurd (not_whole (find_node nodes n) refl e)
-      some_lack (Some q) e = (q, e)
-
-      lacking : (q : Name) × (lacks nodes n ≡ Some q)
-      lacking = some_lack (lacks nodes n) refl
-
-  pub graph_nodes : nodes_in m.graph ≡ nodes
+  pub graph_nodes : nodes_in m.graph ≡ nodes_of (entries_in m)
   graph_nodes = ap nodes_in keeps.graph_is ∙ nodes_in_groups (entries_in m)
 
 pub copied_now : (o : Option (Bor Name)) → option_copied o ≡ option_map (λ b. b.now) o

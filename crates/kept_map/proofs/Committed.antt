@@ -1,63 +1,76 @@
 -- A map whose edit is put in place is kept again, and is seen as the state that the edit makes.
-use Rattle.std.proofs.Common.{◌≡◌, ℕ, ◌≤◌, Bool, true, false, cond, not, List, [], ◌∷◌, map, filter, count_by, length, position, Option, Some, None, is_some, option_map, unwrap_or, slice_get, bytes_eq, Ok, refl, sym, ap, subst, ◌∙◌}
+use Rattle.std.proofs.Common.{◌≡◌, ℕ, true, List, length, Option, Some, None, is_some, option_map, slice_get, refl, sym, ap, subst, ◌∙◌, ◌≤◌, Bool, false, cond, [], ◌∷◌, map, filter, count_by, position, unwrap_or, bytes_eq, Ok}
+use Rattle.std.proofs.lemmas.List.{length-replicate}
 use Rattle.std.specs.List.{list_any}
-use Rattle.std.proofs.lemmas.Bool.{false≢true, and_from}
+use Rattle.std.proofs.lemmas.Bool.{false≢true}
 use Rattle.map_nums.specs.Counts.{raised}
-use Rattle.map_nums.specs.Grids.{IsSize, Grid}
-use Rattle.map_defs.specs.Ops.{Name, Op, needs_of}
-use Rattle.map_defs.specs.Nodes.{find_node, lacks}
-use Rattle.map_defs.specs.Depths.{by_depth}
-use Rattle.layer_tiles.specs.Layers.{LayerState}
-use Rattle.map_defs.specs.Statements.{Procedure}
-use Rattle.map_edits.specs.Marks.{Mark}
-use Rattle.map_edits.specs.LayerDefs.{Making, given_grid, by_op, LayerDef, layers, find_making, nodes_of}
-use Rattle.map_edits.specs.EngineStates.{EngineState, value_of}
+use Rattle.map_nums.specs.Grids.{Size, IsSize, Cells, Grid, cells_in}
+use Rattle.map_defs.specs.Ops.{Name, Op}
+use Rattle.layer_tiles.specs.Cells.{AreCells}
+use Rattle.layer_tiles.specs.Tiles.{tiles_in}
+use Rattle.layer_tiles.specs.Changes.{ChangeState}
+use Rattle.layer_tiles.specs.Operands.{cells_after}
+use Rattle.layer_tiles.specs.Layers.{LayerState, IsLayer, IsStamped, layer_of}
+use Rattle.statement_parser.specs.Views.{op_view}
+use Rattle.statement_parser.specs.declared.op.Op.{Op as Given}
+use Rattle.map_edits.specs.LayerDefs.{by_op, layers, find_making, nodes_of, Making, given_grid, LayerDef}
 use Rattle.map_edits.specs.LayerChanges.{operands_in}
-use Rattle.map_edits.specs.Faults.{fault_of}
-use Rattle.map_edits.specs.Limits.{most_sources, most_flats, is_source, is_flat}
-use Rattle.map_edits.specs.Laws.{is_named_in}
-use Rattle.map_edits.specs.GroupLaws.{IsLawful}
-use Rattle.map_edits.specs.WholeStates.{Stamps, WholeState}
+use Rattle.map_edits.specs.EngineStates.{value_of, term_cells, EngineState}
+use Rattle.map_edits.specs.WholeStates.{WholeState, cells_of, stamps_of, Stamps}
 use Rattle.map_edits.specs.WholeEdits.{WholeEdit}
-use Rattle.map_edits.specs.Attempts.{attempted}
 use Rattle.map_edits.specs.Touches.{touch_of}
 use Rattle.map_edits.specs.StampsAfter.{stamps_at, stamped}
-use Rattle.map_edits.specs.Counted.{fault_after, done, of_attempt, unless_fault, accept_counted}
-use Rattle.map_edits.proofs.Defined.{value_is_defined}
-use Rattle.map_edits.proofs.Order.{all_flats_listed}
+use Rattle.map_edits.specs.Faults.{fault_of}
+use Rattle.map_edits.specs.Limits.{most_sources, most_flats, is_source, is_flat}
+use Rattle.map_edits.specs.GroupLaws.{IsLawful}
+use Rattle.map_edits.specs.Counted.{fault_after, done, accept_counted}
 use Rattle.map_edits.proofs.GroupsOnce.{groups_once}
 use Rattle.map_edits.proofs.LawfulEdits.{lawful_stays}
 use Rattle.map_edits.proofs.LawfulFaults.{said_puts_back, no_fault_stays}
-use Rattle.statement_parser.specs.Views.{op_view}
-use Rattle.statement_parser.specs.declared.op.Op.{Op as Given}
-use Rattle.op_jobs.specs.Beside.{suits}
-use Rattle.op_jobs.specs.declared.beside.Beside.{Beside}
-use Rattle.map_waves.specs.Placing.{IsPlaced}
+use Rattle.map_waves.specs.Keeping.{was_of}
+use Rattle.map_waves.specs.Plans.{StepDef, Plan, operands_at}
+use Rattle.map_waves.specs.Prepared.{IsPrepared, shown}
+use Rattle.map_waves.specs.Placing.{IsRightFor, IsPlaced, IsPlacedLayer}
 use Rattle.map_waves.specs.declared.keeping.Kept.{Kept}
 use Rattle.map_waves.specs.declared.keeping.Made.{Made}
 use Rattle.map_waves.specs.declared.plans.Step.{Step}
 use Rattle.map_waves.specs.declared.plans.Shift.{Shift}
+use Rattle.map_waves.proofs.Righted.{right_after}
+use Rattle.op_jobs.specs.Beside.{suits}
+use Rattle.op_jobs.specs.Ranges.{HasRanges}
+use Rattle.op_jobs.specs.declared.beside.Beside.{Beside}
+use Rattle.edit_plans.specs.PlansFor.{IsStepFor}
 use Rattle.edit_plans.specs.Orderly.{IsOrderly}
 use Rattle.edit_plans.specs.Planned.{IsPlanned}
+use Rattle.edit_plans.proofs.There.{some_map}
+use Rattle.edit_plans.proofs.Valued.{value_is_made, operands_made}
+use Rattle.edit_plans.proofs.Counting.{all_each}
+use Rattle.edit_plans.proofs.Restamped.{old_is_stamped, new_is_stamped}
 use Rattle.edit_plans.proofs.Forming.{step_at}
 use Rattle.edit_plans.proofs.LayersMade.{EachLayer, IsFoundBy, layers_found}
-use Rattle.edit_plans.proofs.Operands.{kept_named}
 use Rattle.edit_plans.proofs.Positions.{some_position, position_at}
-use Rattle.op_jobs.specs.Ranges.{HasRanges}
-use Rattle.kept_map.specs.Groups.{groups_of}
-use Rattle.kept_map.specs.Maps.{at_place, layer_in, names_in, stamps_seen, seen}
-use Rattle.kept_map.specs.Flats.{flats_of_steps}
-use Rattle.kept_map.specs.Keeps.{AreKeptSources, IsKeptStep, AreKeptSteps, IsKept}
-use Rattle.kept_map.specs.Edits.{IsSetUp}
-use Rattle.kept_map.specs.Repairs.{IsUnder, AreMadeOf, IsPreparedFor}
-use Rattle.kept_map.specs.Commits.{IsAtRest, IsCommitted}
+use Rattle.kept_map.specs.Maps.{at_place, kept_in, layer_in, names_in, seen, stamps_seen}
+use Rattle.kept_map.specs.Keeps.{IsKeptStep, IsKept, AreKeptSources, AreKeptSteps}
+use Rattle.kept_map.specs.Repairs.{step_in, plan_in, IsUnder, AreMadeOf, IsPreparedFor}
 use Rattle.kept_map.specs.declared.maps.KeptMap.{KeptMap}
+use Rattle.kept_map.specs.Groups.{groups_of}
+use Rattle.kept_map.specs.Flats.{flats_of_steps}
+use Rattle.kept_map.specs.Edits.{IsSetUp}
+use Rattle.kept_map.specs.Commits.{IsAtRest, IsCommitted}
 use Rattle.kept_map.specs.declared.repairing.Prepared.{Prepared}
+use Rattle.kept_map.proofs.LayersByName.{no_source, kept_step, layer_kept, stamps_found, source_there, layer_source, statement_listed}
 use Rattle.kept_map.proofs.Attempted.{attempt_counts}
-use Rattle.kept_map.proofs.LayersByName.{node_made, no_source, source_there, layer_kept, layer_source}
-use Rattle.kept_map.proofs.Resting.{rest_planned}
-use Rattle.kept_map.proofs.Ready.{slot_kept}
-use Rattle.kept_map.proofs.PlacedLayers.{IsPlacedFor, placed_for}
+use Rattle.kept_map.proofs.Ready.{slot_kept, rest_planned}
+use Rattle.kept_map.proofs.Faults.{accepted, faultless_cells}
+
+-- what is in place of a statement: its grid after the edit, with the stamps after it
+pub record IsPlacedFor (m : KeptMap) (t : WholeState) (n : Name) (op : Op) (new : Kept Beside) : Type 0 where
+  pub making : find_making (layers t.names.entries) n ≡ Some (by_op op)
+  pub size : new.layer.size ≡ t.names.size
+  pub value : cells_of t.names n ≡ Some new.layer.cells
+  pub whole : IsLayer new.layer
+  pub beside : suits t.names.size op (operands_in t.names op) new.beside
+  pub stamps : new.layer.stamps ≡ stamps_at (seen m) t n
 
 -- what is the same of each layer that is left by a test
 same_layers : (f g : LayerDef → Stamps) (q : LayerDef → Bool) (P : LayerDef → Type 0) → ((l : LayerDef) → P l → q l ≡ true → f l ≡ g l) → (ls : List LayerDef) → EachLayer P ls → map f (filter q ls) ≡ map g (filter q ls)
@@ -67,12 +80,6 @@ same_layers f g q P same (l ∷ ls) each = go (q l) refl (same_layers f g q P sa
     go : (b : Bool) → q l ≡ b → map f (filter q ls) ≡ map g (filter q ls) → map f (cond b (l ∷ filter q ls) (filter q ls)) ≡ map g (cond b (l ∷ filter q ls) (filter q ls))
     go true h rest = ap (λ x. x ∷ map f (filter q ls)) (same l each.0 h) ∙ ap (λ xs. g l ∷ xs) rest
     go false h rest = rest
-
--- ---- the edit is accepted
-
-accepted : (s t : WholeState) (e : WholeEdit) → attempted s e ≡ Ok t → fault_after e t ≡ None → accept_counted s e ≡ Ok (done (touch_of e) s t)
-unfolding accept_counted
-accepted s t e tried none = ap (of_attempt s e) tried ∙ ap (unless_fault (touch_of e) s t) none
 
 module _ (m m' : KeptMap) (e : WholeEdit) (t : WholeState) (shift : Shift) (sources names : List Name) (steps : List (Step Given)) (made : List (Option (Made Beside))) (kept : IsKept m) (set_up : IsSetUp m e t shift sources)
     (under : IsUnder m e t shift sources names steps) (faultless : fault_after e t ≡ None) (count : length made ≡ length steps) (are_made : AreMadeOf m shift steps made) (new : IsCommitted m m' t names steps made) where
@@ -91,6 +98,99 @@ module _ (m m' : KeptMap) (e : WholeEdit) (t : WholeState) (shift : Shift) (sour
   number : s.number ≡ raised m.number 1
   number = ap (λ (q : EngineState). q.number) (attempt_counts (seen m) t e set_up.attempt)
 
+  -- ---- what is put in place of a statement
+
+  module _ (k : ℕ) (n : Name) (x : Step Given) (at : slice_get names k ≡ Some n) (here : slice_get steps k ≡ Some x) where
+    abbrev p : Plan
+    p = plan_in m shift steps
+
+    abbrev own : Option (Kept Beside)
+    own = at_place m.kept.items x.kept
+
+    step_is : p.step k ≡ step_in m (Some x)
+    step_is = ap (step_in m) here
+
+    step_for : IsStepFor (touch_of e) (names_in m) t.names (p.step k) sources names k n
+    step_for = under.plan.steps k n at
+
+    was_is : was_of own ≡ cells_of (names_in m) n
+    was_is = ap (λ (d : StepDef). d.was) (sym step_is) ∙ step_for.was
+
+    operands_are : operands_in t.names (p.step k).op ≡ cells_after (operands_at p k)
+    operands_are = all_each (term_cells t.names.size (value_of t.names)) (p.step k).op.terms (cells_after (operands_at p k))
+        (operands_made (touch_of e) (names_in m) t.names p sources names under.plan orderly.none_looped k n at)
+
+    -- ---- what was kept
+
+    -- it is what is kept under the name
+    own_named : own ≡ kept_in m n
+    own_named = ap (at_place m.kept.items) (under.kept k n x at here)
+
+    module _ (old : Kept Beside) (is : own ≡ Some old) where
+      was_kept : IsKeptStep (names_in m) n (kept_step m kept n old (sym own_named ∙ is)).0 old
+      was_kept = (kept_step m kept n old (sym own_named ∙ is)).1
+
+      old_stamps : stamps_of (seen m).stamps n ≡ Some old.layer.stamps
+      old_stamps = stamps_found (layer_in m) (names_in m) n old.layer
+          (layer_kept m n old (no_source (names_in m) m.sources kept.sources n (op_view (kept_step m kept n old (sym own_named ∙ is)).0.op) was_kept.making) (sym own_named ∙ is))
+          (sym (some_map (λ (g : Grid). g.cells) (value_of (names_in m) n)) ∙ ap is_some was_kept.value)
+
+    -- ---- what is put in place
+
+    module _ (r : Option (Made Beside)) (prepared : IsPrepared suits p k own r) (now : Kept Beside) (placed : IsPlaced m.extent own r (raised m.number 1) now) where
+      right : IsRightFor suits m.extent (p.step k).op (cells_after (operands_at p k)) now
+      right = right_after suits p k (raised m.number 1) own r now prepared placed
+
+      value_is : cells_of t.names n ≡ Some now.layer.cells
+      value_is = ap (option_map (λ (g : Grid). g.cells)) (value_is_made (touch_of e) (names_in m) t.names p sources names under.plan orderly.none_looped k n at) ∙ ap (λ cells. Some cells) (sym right.right)
+
+      beside_is : suits t.names.size (op_view x.op) (operands_in t.names (op_view x.op)) now.beside
+      beside_is = subst (λ (o : Op). suits t.names.size o (operands_in t.names o) now.beside) (ap (λ (d : StepDef). d.op) step_is)
+          (subst (λ (os : List Cells). suits t.names.size (p.step k).op os now.beside) (sym operands_are)
+          (subst (λ (s : Size). suits s (p.step k).op (cells_after (operands_at p k)) now.beside) under.plan.size right.beside))
+
+      stamp_count : length now.layer.stamps ≡ tiles_in now.layer.size
+      stamp_count = go own (shown m.extent own r) placed.layer
+        where
+          go : (o : Option (Kept Beside)) (change : ChangeState) → IsPlacedLayer o change (raised m.number 1) now.layer → length now.layer.stamps ≡ tiles_in now.layer.size
+          go None change is = ap (λ (l : LayerState). length l.stamps) is ∙ length-replicate (tiles_in change.size) (raised m.number 1) ∙ ap (λ (l : LayerState). tiles_in l.size) (sym is)
+          go (Some old) change is = is.2.count ∙ ap tiles_in (sym is.0)
+
+      layer_is : IsLayer now.layer
+      layer_is = record {
+        size = subst (λ s. IsSize s) (sym right.size) kept.size;
+        cells = ap length right.right ∙ prepared.count ∙ ap cells_in (sym right.size);
+        are_cells = subst (λ cells. AreCells cells) (sym right.right) (faultless_cells m.extent (p.step k).op (cells_after (operands_at p k)) right.faultless);
+        stamps = stamp_count;
+      }
+
+      -- a statement that was undefined
+      fresh_stamps : own ≡ None → IsPlacedLayer {B = Beside} None (shown m.extent own r) (raised m.number 1) now.layer → now.layer.stamps ≡ stamps_at (seen m) t n
+      fresh_stamps is layer =
+          ap (λ (l : LayerState). l.stamps) layer
+          ∙ ap (λ s. (layer_of s now.layer.cells (raised m.number 1)).stamps) (ap (λ (c : ChangeState). c.size) prepared.change ∙ under.plan.size)
+          ∙ ap (λ j. (layer_of t.names.size now.layer.cells j).stamps) (sym number)
+          ∙ new_is_stamped (seen m) t n now.layer.cells (sym was_is ∙ ap (λ (o : Option (Kept Beside)). was_of o) is)
+
+      -- one that was kept
+      kept_stamps : (old : Kept Beside) → own ≡ Some old → IsPlacedLayer (Some old) (shown m.extent own r) (raised m.number 1) now.layer → now.layer.stamps ≡ stamps_at (seen m) t n
+      kept_stamps old is layer =
+          let was = was_kept old is in
+          let size : old.layer.size ≡ t.names.size = was.size ∙ under.plan.size in
+          old_is_stamped (seen m) t n old.layer.cells now.layer.cells old.layer.stamps now.layer.stamps (subst (λ s. IsSize s) size was.whole.size) was.value value_is (old_stamps old is)
+          (subst (λ s. IsStamped s old.layer.cells now.layer.cells t.names.number old.layer.stamps now.layer.stamps) size
+          (subst (λ j. IsStamped old.layer.size old.layer.cells now.layer.cells j old.layer.stamps now.layer.stamps) (sym number) layer.2))
+
+      stamps_are : now.layer.stamps ≡ stamps_at (seen m) t n
+      stamps_are = go own refl placed.layer
+        where
+          go : (o : Option (Kept Beside)) → own ≡ o → IsPlacedLayer o (shown m.extent own r) (raised m.number 1) now.layer → now.layer.stamps ≡ stamps_at (seen m) t n
+          go None is layer = fresh_stamps is layer
+          go (Some old) is layer = kept_stamps old is layer
+
+      pub placed_for : IsPlacedFor m t n (op_view x.op) now
+      placed_for = record { making = step_for.making ∙ ap (λ (d : StepDef). Some (by_op d.op)) step_is; size = right.size ∙ under.plan.size; value = value_is; whole = layer_is; beside = beside_is; stamps = stamps_are }
+
   -- ---- a statement at its place
 
   -- its step, and what is in place of it
@@ -107,7 +207,7 @@ module _ (m m' : KeptMap) (e : WholeEdit) (t : WholeState) (shift : Shift) (sour
       record {
         step = x.0;
         here = x.1;
-        placed = placed_for m kept e t shift sources names steps under orderly.none_looped number k n x.0 at x.1 r.0 (are_made k x.0 r.0 x.1 r.1) own placed;
+        placed = placed_for k n x.0 at x.1 r.0 (are_made k x.0 r.0 x.1 r.1) own placed;
       }
 
   is_kept_step : (k : ℕ) (n : Name) (y : Step Given) (own : Kept Beside) → slice_get names k ≡ Some n → slice_get m'.planned.steps.items k ≡ Some y → slice_get m'.kept.items k ≡ Some own → IsKeptStep s n y own
@@ -139,19 +239,9 @@ module _ (m m' : KeptMap) (e : WholeEdit) (t : WholeState) (shift : Shift) (sour
 
   -- ---- stamps
 
-  -- a statement that is defined has its place
-  planned_at : (n : Name) (op : Op) → find_making (layers s.entries) n ≡ Some (by_op op) → is_some (value_of s n) ≡ true → is_some (position (bytes_eq n) m'.planned.names.keys) ≡ true
-  planned_at n op found defined =
-      let nodes = nodes_of s.entries in
-      let node : find_node nodes n ≡ Some (record { name = n; needs = Some (needs_of op) }) = node_made s n (by_op op) found in
-      some_position (bytes_eq n) m'.planned.names.keys
-      ∙ ap (list_any (bytes_eq n)) (new.plan_names ∙ under.whole)
-      ∙ kept_named (λ q. not (is_some (lacks nodes q))) n (by_depth nodes)
-      ∙ and_from (is_named_in n (by_depth nodes)) (not (is_some (lacks nodes n))) (all_flats_listed nodes orderly.none_looped n (record { name = n; needs = Some (needs_of op) }) (needs_of op) node refl)
-      (sym (value_is_defined s orderly.none_looped n) ∙ defined)
-
   statement_stamps : (n : Name) (op : Op) → find_making (layers s.entries) n ≡ Some (by_op op) → is_some (value_of s n) ≡ true → unwrap_or (option_map (λ (l : LayerState). l.stamps) (layer_in m' n)) [] ≡ stamps_at (seen m) t n
-  statement_stamps n op found defined = go (position (bytes_eq n) m'.planned.names.keys) refl (planned_at n op found defined)
+  statement_stamps n op found defined = go (position (bytes_eq n) m'.planned.names.keys) refl
+      (some_position (bytes_eq n) m'.planned.names.keys ∙ ap (list_any (bytes_eq n)) (new.plan_names ∙ under.whole) ∙ statement_listed s orderly.none_looped n op found defined)
     where
       go : (o : Option ℕ) → position (bytes_eq n) m'.planned.names.keys ≡ o → is_some o ≡ true → unwrap_or (option_map (λ (l : LayerState). l.stamps) (layer_in m' n)) [] ≡ stamps_at (seen m) t n
       go None at some = absurd (false≢true some)
@@ -163,13 +253,10 @@ module _ (m m' : KeptMap) (e : WholeEdit) (t : WholeState) (shift : Shift) (sour
           ap (λ (o : Option LayerState). unwrap_or (option_map (λ (l : LayerState). l.stamps) o) []) layer
           ∙ put.placed.stamps
 
-  source_stamps : (n : Name) (grid : Grid) → find_making (layers s.entries) n ≡ Some (given_grid grid) → unwrap_or (option_map (λ (l : LayerState). l.stamps) (layer_in m' n)) [] ≡ stamps_at (seen m) t n
-  source_stamps n grid found =
+  layer_stamps : (n : Name) (making : Making) → find_making (layers s.entries) n ≡ Some making → is_some (value_of s n) ≡ true → unwrap_or (option_map (λ (l : LayerState). l.stamps) (layer_in m' n)) [] ≡ stamps_at (seen m) t n
+  layer_stamps n (given_grid grid) found defined =
       let r = source_there s m'.sources new.sources n grid found in
       ap (λ (o : Option LayerState). unwrap_or (option_map (λ (l : LayerState). l.stamps) o) []) (layer_source m' n r.0 r.1) ∙ new.stamped n r.0 r.1
-
-  layer_stamps : (n : Name) (making : Making) → find_making (layers s.entries) n ≡ Some making → is_some (value_of s n) ≡ true → unwrap_or (option_map (λ (l : LayerState). l.stamps) (layer_in m' n)) [] ≡ stamps_at (seen m) t n
-  layer_stamps n (given_grid grid) found defined = source_stamps n grid found
   layer_stamps n (by_op op) found defined = statement_stamps n op found defined
 
   stamps_are_seen : stamps_seen (layer_in m') (names_in m') ≡ (stamped (seen m) t).stamps
@@ -181,16 +268,8 @@ module _ (m m' : KeptMap) (e : WholeEdit) (t : WholeState) (shift : Shift) (sour
 
   -- ---- the map
 
-  abbrev whole : EngineState → List Procedure → List Mark → List Mark → List Stamps → WholeState
-  whole names procedures labels symbols stamps = record { names = names; procedures = procedures; labels = labels; symbols = symbols; stamps = stamps }
-
   seen_after : seen m' ≡ stamped (seen m) t
-  seen_after =
-      ap (λ q. whole q m'.procedures m'.labels m'.symbols (seen m').stamps) new.names_are
-      ∙ ap (λ ps. whole s ps m'.labels m'.symbols (seen m').stamps) new.procedures
-      ∙ ap (λ ls. whole s t.procedures ls m'.symbols (seen m').stamps) new.labels
-      ∙ ap (λ ls. whole s t.procedures t.labels ls (seen m').stamps) new.symbols
-      ∙ ap (λ ks. whole s t.procedures t.labels t.symbols ks) stamps_are_seen
+  seen_after = λ j. record { names = new.names_are j; procedures = new.procedures j; labels = new.labels j; symbols = new.symbols j; stamps = stamps_are_seen j }
 
   kept_after : IsKept m'
   kept_after = record {
@@ -209,12 +288,9 @@ module _ (m m' : KeptMap) (e : WholeEdit) (t : WholeState) (shift : Shift) (sour
       size : m'.extent ≡ m.extent
       size = ap (λ (q : EngineState). q.size) new.names_are ∙ ap (λ (q : EngineState). q.size) (attempt_counts (seen m) t e set_up.attempt)
 
-pub committed : (m m' : KeptMap) (e : WholeEdit) (t : WholeState) (shift : Shift) (sources names : List Name) (steps : List (Step Given)) (made : List (Option (Made Beside)))
-    → IsKept m → IsSetUp m e t shift sources → IsUnder m e t shift sources names steps → fault_after e t ≡ None → length made ≡ length steps → AreMadeOf m shift steps made
-    → IsCommitted m m' t names steps made → IsKept m' × (seen m' ≡ stamped (seen m) t)
-committed m m' e t shift sources names steps made kept set_up under faultless count are_made new =
-    (kept_after m m' e t shift sources names steps made kept set_up under faultless count are_made new, seen_after m m' e t shift sources names steps made kept set_up under faultless count are_made new)
-
 pub committed_prepared : (m m' : KeptMap) (e : WholeEdit) (t : WholeState) (shift : Shift) (sources names : List Name) (steps : List (Step Given)) (prepared : Prepared)
     → IsKept m → IsSetUp m e t shift sources → IsPreparedFor m e t shift sources names steps prepared → IsCommitted m m' t names steps prepared.made.items → IsKept m' × (seen m' ≡ stamped (seen m) t)
-committed_prepared m m' e t shift sources names steps prepared kept set_up is new = committed m m' e t shift sources names steps prepared.made.items kept set_up is.under is.faultless is.count is.made new
+committed_prepared m m' e t shift sources names steps prepared kept set_up is new = (
+  kept_after m m' e t shift sources names steps prepared.made.items kept set_up is.under is.faultless is.count is.made new,
+  seen_after m m' e t shift sources names steps prepared.made.items kept set_up is.under is.faultless is.count is.made new,
+)

@@ -1,67 +1,101 @@
--- The flat statements of a map after an edit of a name, found by the name before their first dot.
-use Rattle.std.proofs.Common.{◌≡◌, ℕ, Bool, true, false, cond, List, [], ◌∷◌, ◌++◌, map, find, flat_map, Option, Some, None, option_map, bytes_eq, refl, sym, ap, ◌∙◌, if◌then◌else◌}
+-- The flat statements of a map: of a plan by place, and after an edit of a name, by the name before their first dot and item by item.
+use Rattle.std.proofs.Common.{◌≡◌, ℕ, Bool, true, false, cond, List, [], ◌∷◌, ◌++◌, map, flat_map, Option, Some, None, option_map, bytes_eq, refl, sym, ap, ◌∙◌, if◌then◌else◌, ◌+◌, ◌-◌, ◌≤◌, arith, not, length, take, drop, get_or, slice_get, suc, ◌<◌, position, inl, inr}
 use Rattle.std.specs.Map.{lookup}
-use Rattle.std.specs.Cmp.Lexicographic.{nat_list_eq_equiv}
-use Rattle.std.proofs.lemmas.Option.{none-some}
+use Rattle.std.proofs.lemmas.Option.{none-some, same_Some, slice_get_read}
+use Rattle.std.specs.Option.{option_or}
+use Rattle.std.proofs.lemmas.Bool.{not-true, not-false, cases_Bool}
+use Rattle.std.proofs.lemmas.Grind.{flat_map-append}
+use Rattle.std.proofs.lemmas.List.{append-nil, take-append-drop, length_push}
+use Rattle.std.proofs.Math.Seq.{take-length}
+use Rattle.std.specs.List.{position_from}
+use Rattle.std.proofs.lemmas.Iterator.Adapters.{position_from-zero}
 use Rattle.map_nums.specs.Grids.{Size}
 use Rattle.map_defs.specs.Ops.{Name, Op}
 use Rattle.map_defs.specs.MadeProcedures.{IsUndotted}
 use Rattle.layer_tiles.specs.Layers.{LayerState}
 use Rattle.statement_parser.specs.Views.{op_view}
-use Rattle.procedure_expand.specs.Flats.{flat_view, flats_view}
+use Rattle.statement_parser.specs.declared.op.Op.{Op as Given}
+use Rattle.procedure_expand.specs.Flats.{flats_view}
 use Rattle.procedure_expand.specs.declared.flat.Flat.{Flat}
 use Rattle.map_edits.specs.Entries.{Def, source, statement, find_def}
 use Rattle.map_edits.specs.LayerDefs.{Making, given_grid, by_op, LayerDef, flat_layer, find_making}
 use Rattle.map_edits.specs.Laws.{IsApart}
 use Rattle.map_edits.specs.GroupLaws.{IsGroup, AreGroups}
-use Rattle.map_edits.proofs.Among.{same_name}
+use Rattle.map_edits.proofs.Among.{same_name, bytes_eq-turned}
 use Rattle.map_edits.proofs.Heads.{head_of}
-use Rattle.map_edits.proofs.Groups.{or_else, def_layers, outsider, group_making}
+use Rattle.map_edits.proofs.Groups.{def_layers, outsider, group_making}
+use Rattle.map_waves.specs.declared.plans.Step.{Step}
 use Rattle.edit_plans.specs.Planned.{FlatDef}
-use Rattle.kept_map.specs.Maps.{def_by, entries_by}
-use Rattle.kept_map.specs.Flats.{flat_def, item_flats, flats_after}
+use Rattle.edit_plans.proofs.Taken.{taken_to}
+use Rattle.edit_plans.proofs.Forming.{step_at}
+use Rattle.edit_plans.proofs.Positions.{position_at}
+use Rattle.std.proofs.lemmas.Map.Entries.{lookup_head, lookup_tail}
+use Rattle.kept_map.specs.Maps.{def_by, entries_by, at_place}
+use Rattle.kept_map.specs.Flats.{flat_def, item_flats, flats_after, flats_of_steps}
 use Rattle.kept_map.specs.declared.maps.Item.{Item}
 use Rattle.kept_map.specs.declared.maps.Item.TheVariants.{Source, Statement}
-use Rattle.kept_map.proofs.SourceLayers.{find_item}
-
-pub bytes_eq_swaps : (a b : Name) → bytes_eq a b ≡ bytes_eq b a
-bytes_eq_swaps a b = nat_list_eq_equiv.symm a b
+use Rattle.kept_map.proofs.SourceLayers.{find_item, bytes_eq_swaps, map_none}
 
 abbrev pub op_of : FlatDef → Making
 op_of f = by_op (op_view f.op)
 
-map_none : (o : Option FlatDef) → option_map op_of o ≡ None → o ≡ None
-map_none None e = refl
-map_none (Some f) e = absurd (none-some (op_of f) (sym e))
+some_of : (o : Option FlatDef) (op : Op) → option_map op_of o ≡ Some (by_op op) → (f : FlatDef) × (o ≡ Some f)
+some_of None op e = absurd (none-some (by_op op) e)
+some_of (Some f) op e = (f, refl)
 
-lookup_join : (n : Name) (xs ys : List (List ℕ × FlatDef)) → lookup (bytes_eq n) (xs ++ ys) ≡ or_else (lookup (bytes_eq n) xs) (lookup (bytes_eq n) ys)
-lookup_join n [] ys = refl
-lookup_join n (x ∷ xs) ys = go (bytes_eq n x.0) (lookup_join n xs ys)
+lookup-append : (n : Name) (xs ys : List (List ℕ × FlatDef)) → lookup (bytes_eq n) (xs ++ ys) ≡ option_or (lookup (bytes_eq n) xs) (lookup (bytes_eq n) ys)
+lookup-append n [] ys = refl
+lookup-append n (x ∷ xs) ys = elim (cases_Bool (bytes_eq n x.0)) [ inl h ↦ rw h refl | inr h ↦ rw h (lookup-append n xs ys) ]
+
+-- ---- those of a plan
+
+abbrev pub flat_by : Step Given → FlatDef
+flat_by x = record { op = x.op; written = x.written }
+
+flats_from : (n : Name) (i : ℕ) (all : List (Step Given)) (names : List Name) (steps : List (Step Given)) → length steps ≡ length names → ((k : ℕ) → slice_get all (i + k) ≡ slice_get steps k)
+    → lookup (bytes_eq n) (flats_of_steps names steps) ≡ option_map flat_by (at_place all (position_from (bytes_eq n) i names))
+flats_from n i all [] steps count same = refl
+flats_from n i all (m ∷ names) [] count same = absurd (omega arith)
+flats_from n i all (m ∷ names) (x ∷ steps) count same = elim (cases_Bool (bytes_eq n m)) [
+  | inl h ↦ rw h (ap (option_map flat_by) (sym here))
+  | inr h ↦ rw h (flats_from n (i + 1) all names steps (omega arith) next)
+]
   where
-    go : (b : Bool) → lookup (bytes_eq n) (xs ++ ys) ≡ or_else (lookup (bytes_eq n) xs) (lookup (bytes_eq n) ys)
-        → cond b (Some x.1) (lookup (bytes_eq n) (xs ++ ys)) ≡ or_else (cond b (Some x.1) (lookup (bytes_eq n) xs)) (lookup (bytes_eq n) ys)
-    go true rest = refl
-    go false rest = rest
+    next : (k : ℕ) → slice_get all (i + 1 + k) ≡ slice_get steps k
+    next k = let same_place : i + 1 + k ≡ i + suc k = omega arith in ap (slice_get all) same_place ∙ same (suc k)
+
+    here : slice_get all i ≡ Some x
+    here = let same_place : i ≡ i + 0 = omega arith in ap (slice_get all) same_place ∙ same 0
+
+module _ (names : List Name) (steps : List (Step Given)) (count : length steps ≡ length names) (n : Name) where
+  -- the flat statement of a name is that of the step at its place
+  pub flat_is : lookup (bytes_eq n) (flats_of_steps names steps) ≡ option_map flat_by (at_place steps (position (bytes_eq n) names))
+  flat_is =
+      flats_from n 0 steps names steps count (λ k. let same_place : 0 + k ≡ k = omega arith in ap (slice_get steps) same_place)
+      ∙ ap (λ o. option_map flat_by (at_place steps o)) (sym (position_from-zero (bytes_eq n) names))
+
+  pub flat_at : (f : FlatDef) → lookup (bytes_eq n) (flats_of_steps names steps) ≡ Some f → (k : ℕ) × (x : Step Given) × (position (bytes_eq n) names ≡ Some k) × (slice_get steps k ≡ Some x) × (flat_by x ≡ f)
+  flat_at f e = go (position (bytes_eq n) names) refl (sym flat_is ∙ e)
+    where
+      go : (o : Option ℕ) → position (bytes_eq n) names ≡ o → option_map flat_by (at_place steps o) ≡ Some f → (k : ℕ) × (x : Step Given) × (position (bytes_eq n) names ≡ Some k) × (slice_get steps k ≡ Some x) × (flat_by x ≡ f)
+      go None at is = absurd (none-some f is)
+      go (Some k) at is = let x = step_at names steps count k n (position_at n names k at) in (k, x.0, at, x.1, same_Some (flat_by x.0) f (sym (ap (option_map flat_by) x.1) ∙ is))
 
 -- ---- the flat statements of one statement
 
 pub flats_found : (b : Bool) (fs : List Flat) (n : Name) → find_making (map flat_layer (flats_view fs)) n ≡ option_map op_of (lookup (bytes_eq n) (map (flat_def b) fs))
 flats_found b [] n = refl
-flats_found b (f ∷ fs) n = rw (bytes_eq_swaps f.name n) (go (bytes_eq n f.name) (flats_found b fs n))
-  where
-    go : (c : Bool) → find_making (map flat_layer (flats_view fs)) n ≡ option_map op_of (lookup (bytes_eq n) (map (flat_def b) fs))
-        → option_map (λ (q : LayerDef). q.making) (cond c (Some (flat_layer (flat_view f))) (find (λ (q : LayerDef). bytes_eq q.name n) (map flat_layer (flats_view fs))))
-        ≡ option_map op_of (cond c (Some (record { op = f.op; written = b })) (lookup (bytes_eq n) (map (flat_def b) fs)))
-    go true rest = refl
-    go false rest = rest
+flats_found b (f ∷ fs) n = elim (cases_Bool (bytes_eq n f.name)) [
+  | inl h ↦ rw (bytes_eq_swaps f.name n, h) refl
+  | inr h ↦ rw (bytes_eq_swaps f.name n, h) (flats_found b fs n)
+]
 
 pub flag_found : (b : Bool) (fs : List Flat) (n : Name) (f : FlatDef) → lookup (bytes_eq n) (map (flat_def b) fs) ≡ Some f → f.written ≡ b
 flag_found b [] n f e = absurd (none-some f e)
-flag_found b (x ∷ xs) n f e = go (bytes_eq n x.name) e (flag_found b xs n f)
-  where
-    go : (c : Bool) → cond c (Some (record { op = x.op; written = b })) (lookup (bytes_eq n) (map (flat_def b) xs)) ≡ Some f → (lookup (bytes_eq n) (map (flat_def b) xs) ≡ Some f → f.written ≡ b) → f.written ≡ b
-    go true e rest = cc
-    go false e rest = rest e
+flag_found b (x ∷ xs) n f e = elim (cases_Bool (bytes_eq n x.name)) [
+  | inl h ↦ ap (λ (q : FlatDef). q.written) (sym (same_Some _ f (sym (lookup_head (bytes_eq n) (flat_def b x) (map (flat_def b) xs) h) ∙ e)))
+  | inr h ↦ flag_found b xs n f (sym (lookup_tail (bytes_eq n) (flat_def b x) (map (flat_def b) xs) h) ∙ e)
+]
 
 -- ---- those of an item
 
@@ -89,20 +123,20 @@ module _ (size : Size) (l : Option LayerState) (h n : Name) where
 
   pub item_made : (item : Item) (op : Op) → find_making (def_layers h (def_by size l item)) n ≡ Some (by_op op) → (f : FlatDef) × (lookup (bytes_eq n) (item_flats item) ≡ Some f)
   item_made Source op e = absurd (source_by_op _ op e)
-  item_made (Statement written flats) op e = some_of (lookup (bytes_eq n) (item_flats (Statement written flats))) (sym (flats_found false flats.items n) ∙ e)
-    where
-      some_of : (o : Option FlatDef) → option_map op_of o ≡ Some (by_op op) → (f : FlatDef) × (o ≡ Some f)
-      some_of None e = absurd (none-some (by_op op) e)
-      some_of (Some f) e = (f, refl)
+  item_made (Statement written flats) op e = some_of (lookup (bytes_eq n) (item_flats (Statement written flats))) op (sym (flats_found false flats.items n) ∙ e)
 
   item_none : (item : Item) → find_making (def_layers h (def_by size l item)) n ≡ None → lookup (bytes_eq n) (item_flats item) ≡ None
   item_none Source e = refl
-  item_none (Statement written flats) e = map_none (lookup (bytes_eq n) (item_flats (Statement written flats))) (sym (flats_found false flats.items n) ∙ e)
+  item_none (Statement written flats) e = map_none op_of (lookup (bytes_eq n) (item_flats (Statement written flats))) (sym (flats_found false flats.items n) ∙ e)
 
 -- ---- those of all other names
 
-abbrev pub others : List (List ℕ × Item) → Name → List (List ℕ × FlatDef)
-others items edited = flat_map (λ (e : List ℕ × Item). if bytes_eq e.0 edited then [] else item_flats e.1) items
+-- the flat statements that an item brings, none where its name is edited
+abbrev pub brought : Name → List ℕ × Item → List (List ℕ × FlatDef)
+brought edited e = if bytes_eq e.0 edited then [] else item_flats e.1
+
+abbrev pub found_in : Name → Name → List (List ℕ × Item) → Option FlatDef
+found_in edited n items = lookup (bytes_eq n) (flat_map (brought edited) items)
 
 abbrev unless_edited : Bool → Option FlatDef → Option FlatDef
 unless_edited true o = None
@@ -112,26 +146,22 @@ unless_none : (b : Bool) → unless_edited b None ≡ None
 unless_none true = refl
 unless_none false = refl
 
-or_none : (o : Option FlatDef) → or_else o None ≡ o
+pub or_none : {X : Type 0} (o : Option X) → option_or o None ≡ o
 or_none None = refl
-or_none (Some f) = refl
+or_none (Some x) = refl
 
 pub no_item : (size : Size) (ls : Name → Option LayerState) (items : List (List ℕ × Item)) (n : Name) → find_def (entries_by size ls items) n ≡ None → lookup (bytes_eq n) items ≡ None
-no_item size ls items n e = go (lookup (bytes_eq n) items) (sym (find_item size ls items n) ∙ e)
-  where
-    go : (o : Option Item) → option_map (def_by size (ls n)) o ≡ None → o ≡ None
-    go None e = refl
-    go (Some item) e = absurd (none-some (def_by size (ls n) item) (sym e))
+no_item size ls items n e = map_none (def_by size (ls n)) (lookup (bytes_eq n) items) (sym (find_item size ls items n) ∙ e)
 
 module _ (size : Size) (ls : Name → Option LayerState) (edited n : Name) where
   pub others_by_head : (items : List (List ℕ × Item)) → AreGroups (entries_by size ls items) → IsApart (entries_by size ls items)
-      → lookup (bytes_eq n) (others items edited) ≡ unless_edited (bytes_eq (head_of n) edited) (in_item n (lookup (bytes_eq (head_of n)) items))
+      → found_in edited n items ≡ unless_edited (bytes_eq (head_of n) edited) (in_item n (lookup (bytes_eq (head_of n)) items))
   others_by_head [] groups apart = sym (unless_none (bytes_eq (head_of n) edited))
   others_by_head (e ∷ es) groups apart =
-      lookup_join n (if bytes_eq e.0 edited then [] else item_flats e.1) (others es edited)
+      lookup-append n (brought edited e) (flat_map (brought edited) es)
       ∙ go (bytes_eq (head_of n) e.0) refl (others_by_head es groups.2 apart.1)
     where
-      own : (b : Bool) → or_else (lookup (bytes_eq n) (if b then [] else item_flats e.1)) None ≡ unless_edited b (lookup (bytes_eq n) (item_flats e.1))
+      own : (b : Bool) → option_or (lookup (bytes_eq n) (if b then [] else item_flats e.1)) None ≡ unless_edited b (lookup (bytes_eq n) (item_flats e.1))
       own true = refl
       own false = or_none (lookup (bytes_eq n) (item_flats e.1))
 
@@ -139,19 +169,19 @@ module _ (size : Size) (ls : Name → Option LayerState) (edited n : Name) where
       passed true none = refl
       passed false none = none
 
-      go : (c : Bool) → bytes_eq (head_of n) e.0 ≡ c → lookup (bytes_eq n) (others es edited) ≡ unless_edited (bytes_eq (head_of n) edited) (in_item n (lookup (bytes_eq (head_of n)) es))
-          → or_else (lookup (bytes_eq n) (if bytes_eq e.0 edited then [] else item_flats e.1)) (lookup (bytes_eq n) (others es edited))
+      go : (c : Bool) → bytes_eq (head_of n) e.0 ≡ c → found_in edited n es ≡ unless_edited (bytes_eq (head_of n) edited) (in_item n (lookup (bytes_eq (head_of n)) es))
+          → option_or (lookup (bytes_eq n) (brought edited e)) (found_in edited n es)
           ≡ unless_edited (bytes_eq (head_of n) edited) (in_item n (cond c (Some e.1) (lookup (bytes_eq (head_of n)) es)))
       go true same rest =
           let at : head_of n ≡ e.0 = same_name (head_of n) e.0 same in
           let away : lookup (bytes_eq (head_of n)) es ≡ None = ap (λ m. lookup (bytes_eq m) es) at ∙ no_item size ls es e.0 apart.0 in
-          let none : lookup (bytes_eq n) (others es edited) ≡ None = rest ∙ ap (λ o. unless_edited (bytes_eq (head_of n) edited) (in_item n o)) away ∙ unless_none (bytes_eq (head_of n) edited) in
-          ap (or_else (lookup (bytes_eq n) (if bytes_eq e.0 edited then [] else item_flats e.1))) none
+          let none : found_in edited n es ≡ None = rest ∙ ap (λ o. unless_edited (bytes_eq (head_of n) edited) (in_item n o)) away ∙ unless_none (bytes_eq (head_of n) edited) in
+          ap (option_or (lookup (bytes_eq n) (brought edited e))) none
           ∙ own (bytes_eq e.0 edited) ∙ ap (λ m. unless_edited (bytes_eq m edited) (lookup (bytes_eq n) (item_flats e.1))) (sym at)
       go false differs rest =
           let front : bytes_eq e.0 (head_of n) ≡ false = bytes_eq_swaps e.0 (head_of n) ∙ differs in
           let none : lookup (bytes_eq n) (item_flats e.1) ≡ None = item_none size (ls e.0) e.0 n e.1 (outsider e.0 (def_by size (ls e.0) e.1) n groups.0 groups.1 front) in
-          ap (λ o. or_else o (lookup (bytes_eq n) (others es edited))) (passed (bytes_eq e.0 edited) none) ∙ rest
+          ap (λ o. option_or o (found_in edited n es)) (passed (bytes_eq e.0 edited) none) ∙ rest
 
 -- ---- after the edit
 
@@ -176,25 +206,21 @@ module _ (n : Name) (written : List Flat) where
   pub written_made : (d : Option Def) (op : Op) → IsWrittenAs d written → group_making n d ≡ Some (by_op op) → (f : FlatDef) × (own_flat ≡ Some f)
   written_made None op wrote e = absurd (none-some (by_op op) e)
   written_made (Some (source grid)) op wrote e = absurd (source_by_op (record { rows = 0; columns = 0 }) None (head_of n) n grid op e)
-  written_made (Some (statement w flats)) op wrote e = some_of own_flat (sym (flats_found true written n) ∙ ap (λ fs. find_making (map flat_layer fs) n) (sym wrote) ∙ e)
-    where
-      some_of : (o : Option FlatDef) → option_map op_of o ≡ Some (by_op op) → (f : FlatDef) × (o ≡ Some f)
-      some_of None e = absurd (none-some (by_op op) e)
-      some_of (Some f) e = (f, refl)
+  written_made (Some (statement w flats)) op wrote e = some_of own_flat op (sym (flats_found true written n) ∙ ap (λ fs. find_making (map flat_layer fs) n) (sym wrote) ∙ e)
 
   -- the name's flat statements begin with it
   none_outside : (edited : Name) (d : Option Def) → IsUndotted edited → ((x : Def) → d ≡ Some x → IsGroup edited x) → bytes_eq edited (head_of n) ≡ false → IsWrittenAs d written → own_flat ≡ None
   none_outside edited None plain group differs wrote = no_own wrote
   none_outside edited (Some (source grid)) plain group differs wrote = no_own wrote
   none_outside edited (Some (statement w flats)) plain group differs wrote =
-      map_none own_flat (sym (flats_found true written n) ∙ ap (λ fs. find_making (map flat_layer fs) n) (sym wrote) ∙ outsider edited (statement w flats) n plain (group (statement w flats) refl) differs)
+      map_none op_of own_flat (sym (flats_found true written n) ∙ ap (λ fs. find_making (map flat_layer fs) n) (sym wrote) ∙ outsider edited (statement w flats) n plain (group (statement w flats) refl) differs)
 
 module _ (size : Size) (ls : Name → Option LayerState) (items : List (List ℕ × Item)) (edited n : Name) (written : List Flat) (groups : AreGroups (entries_by size ls items)) (apart : IsApart (entries_by size ls items)) where
   -- those of the edited name
   pub after_own : bytes_eq edited (head_of n) ≡ true → lookup (bytes_eq n) (flats_after items edited written) ≡ lookup (bytes_eq n) (map (flat_def true) written)
   after_own same =
-      lookup_join n (map (flat_def true) written) (others items edited)
-      ∙ ap (or_else (lookup (bytes_eq n) (map (flat_def true) written)))
+      lookup-append n (map (flat_def true) written) (flat_map (brought edited) items)
+      ∙ ap (option_or (lookup (bytes_eq n) (map (flat_def true) written)))
       (others_by_head size ls edited n items groups apart ∙ ap (λ b. unless_edited b (in_item n (lookup (bytes_eq (head_of n)) items))) (bytes_eq_swaps (head_of n) edited ∙ same))
       ∙ or_none (lookup (bytes_eq n) (map (flat_def true) written))
 
@@ -202,6 +228,49 @@ module _ (size : Size) (ls : Name → Option LayerState) (items : List (List ℕ
   pub after_other : (d : Option Def) → IsUndotted edited → ((x : Def) → d ≡ Some x → IsGroup edited x) → IsWrittenAs d written → bytes_eq edited (head_of n) ≡ false
       → lookup (bytes_eq n) (flats_after items edited written) ≡ in_item n (lookup (bytes_eq (head_of n)) items)
   after_other d plain group wrote differs =
-      lookup_join n (map (flat_def true) written) (others items edited)
-      ∙ ap (λ o. or_else o (lookup (bytes_eq n) (others items edited))) (none_outside n written edited d plain group differs wrote)
+      lookup-append n (map (flat_def true) written) (flat_map (brought edited) items)
+      ∙ ap (λ o. option_or o (found_in edited n items)) (none_outside n written edited d plain group differs wrote)
       ∙ others_by_head size ls edited n items groups apart ∙ ap (λ b. unless_edited b (in_item n (lookup (bytes_eq (head_of n)) items))) (bytes_eq_swaps (head_of n) edited ∙ differs)
+
+-- the first flat statement of a list has another name
+pub lookup_rest : (n : Name) (written : Bool) (flats : List Flat) (first : Flat) → 1 ≤ length flats → first ≡ get_or flats 0 first → bytes_eq first.name n ≡ false
+    → lookup (bytes_eq n) (map (flat_def written) (take (length flats - 1) (drop 1 flats))) ≡ lookup (bytes_eq n) (map (flat_def written) flats)
+lookup_rest n written [] first some is differs = absurd (omega arith)
+lookup_rest n written (f ∷ fs) first some is differs =
+    let other : bytes_eq n f.name ≡ false = ap (bytes_eq n) (ap (λ (x : Flat). x.name) (sym is)) ∙ bytes_eq-turned first.name n differs in
+    let all : length (f ∷ fs) - 1 ≡ length fs = omega arith in
+    ap (λ k. lookup (bytes_eq n) (map (flat_def written) (take k fs))) all ∙ ap (λ xs. lookup (bytes_eq n) (map (flat_def written) xs)) (take-length fs)
+    ∙ sym (ap (λ b. cond b (Some (record { op = f.op; written = written })) (lookup (bytes_eq n) (map (flat_def written) fs))) other)
+
+-- ---- item by item
+
+module _ (edited n : Name) where
+  found-append : (xs ys : List (List ℕ × Item)) → found_in edited n (xs ++ ys) ≡ option_or (found_in edited n xs) (found_in edited n ys)
+  found-append xs ys = ap (lookup (bytes_eq n)) (flat_map-append (brought edited) xs ys) ∙ lookup-append n (flat_map (brought edited) xs) (flat_map (brought edited) ys)
+
+  -- the turn of an item, before which the name isn't found
+  module _ {Y : Type 0} (items : List (List ℕ × Item)) (ys : List Y) (y : Y) (e : List ℕ × Item) (before : found_in edited n (take (length ys) items) ≡ None) (within : length ys < length items) (is : e ≡ get_or items (length ys) e) where
+    found_taken : found_in edited n (take (length ys + 1) items) ≡ lookup (bytes_eq n) (brought edited e)
+    found_taken =
+        ap (found_in edited n) (taken_to items (length ys) e (slice_get_read items (length items) (length ys) e refl within is)) ∙ found-append (take (length ys) items) (e ∷ [])
+        ∙ ap (λ o. option_or o (found_in edited n (e ∷ []))) before ∙ ap (lookup (bytes_eq n)) (append-nil (brought edited e))
+
+    pub found_later : lookup (bytes_eq n) (brought edited e) ≡ None → found_in edited n (take (length (ys ++ y ∷ [])) items) ≡ None
+    found_later none = ap (λ k. found_in edited n (take k items)) (length_push ys y) ∙ found_taken ∙ none
+
+    pub found_here : (f : FlatDef) → lookup (bytes_eq n) (brought edited e) ≡ Some f → found_in edited n items ≡ Some f
+    found_here f found =
+        ap (found_in edited n) (sym (take-append-drop (length ys + 1) items)) ∙ found-append (take (length ys + 1) items) (drop (length ys + 1) items)
+        ∙ ap (λ o. option_or o (found_in edited n (drop (length ys + 1) items))) (found_taken ∙ found)
+
+  -- by the tests of the code
+  pub brought_other : (e : List ℕ × Item) → not (bytes_eq e.0 edited) ≡ true → lookup (bytes_eq n) (brought edited e) ≡ lookup (bytes_eq n) (item_flats e.1)
+  brought_other e h = ap (λ b. lookup (bytes_eq n) (if b then [] else item_flats e.1)) (not-true (bytes_eq e.0 edited) h)
+
+  pub brought_edited : (e : List ℕ × Item) → not (bytes_eq e.0 edited) ≡ false → lookup (bytes_eq n) (brought edited e) ≡ None
+  brought_edited e h = ap (λ b. lookup (bytes_eq n) (if b then [] else item_flats e.1)) (not-false (bytes_eq e.0 edited) h)
+
+  -- what is found is among those that the edit wrote, or among those of the items
+  pub after_by : (items : List (List ℕ × Item)) (written : List Flat) (o : Option FlatDef) → o ≡ lookup (bytes_eq n) (map (flat_def true) written)
+      → option_or o (found_in edited n items) ≡ lookup (bytes_eq n) (flats_after items edited written)
+  after_by items written o is = ap (λ q. option_or q (found_in edited n items)) is ∙ sym (lookup-append n (map (flat_def true) written) (flat_map (brought edited) items))

@@ -1,11 +1,12 @@
 -- What an edit of a name makes of the flat statements and of the sources of a map.
-use Rattle.std.proofs.Common.{◌≡◌, ℕ, Bool, true, false, cond, ◌||◌, ◌&&◌, List, [], ◌∷◌, ◌++◌, length, map, find, position, Option, Some, None, is_some, option_map, bytes_eq, refl, sym, ap, subst, ◌∙◌, if◌then◌else◌}
+use Rattle.std.proofs.Common.{◌≡◌, ℕ, Bool, true, false, cond, ◌||◌, List, [], ◌∷◌, ◌++◌, length, map, position, Option, Some, None, is_some, option_map, bytes_eq, refl, sym, ap, ◌∙◌, if◌then◌else◌, inl, inr}
 use Rattle.std.specs.List.{All, AllByRecursion, list_any}
 use Rattle.std.specs.Map.{lookup}
 use Rattle.std.specs.Option.{option_or}
-use Rattle.std.proofs.lemmas.Bool.{true≢false}
-use Rattle.std.proofs.lemmas.Option.{none-some, same_Some}
-use Rattle.std.proofs.lemmas.List.Elements.{recursion_from_All}
+use Rattle.std.proofs.lemmas.Bool.{true≢false, false_from_ne_true, cases_Bool}
+use Rattle.std.proofs.lemmas.Option.{none-some}
+use Rattle.std.proofs.lemmas.List.Elements.{recursion_from_All, All-from_recursion, All-map}
+use Rattle.std.proofs.lemmas.Map.Entries.{place_from_lookup}
 use Rattle.map_nums.specs.Grids.{Grid}
 use Rattle.map_defs.specs.Ops.{Name, Op}
 use Rattle.map_defs.specs.Nodes.{Node, find_node}
@@ -23,9 +24,10 @@ use Rattle.map_edits.proofs.Heads.{head_of, head_undotted}
 use Rattle.map_edits.proofs.Looks.{made_node, find_node-making}
 use Rattle.map_edits.proofs.Groups.{def_layers, outsider, group_making, making_by_head}
 use Rattle.map_edits.proofs.LawfulEdits.{IsGoodChange}
+use Rattle.map_waves.proofs.Making.{all_get}
+use Rattle.op_jobs.specs.Ranges.{HasRanges}
 use Rattle.edit_plans.specs.Planned.{FlatDef, is_source_node, AreSources}
 use Rattle.edit_plans.proofs.Positions.{position_push}
-use Rattle.op_jobs.specs.Ranges.{HasRanges}
 use Rattle.kept_map.specs.Maps.{source_in, def_by, entries_in}
 use Rattle.kept_map.specs.Keeps.{IsItem, IsNamed, IsKept}
 use Rattle.kept_map.specs.Flats.{flat_def, item_flats, flats_after}
@@ -33,56 +35,56 @@ use Rattle.kept_map.specs.declared.maps.Item.{Item}
 use Rattle.kept_map.specs.declared.maps.Item.TheVariants.{Source, Statement}
 use Rattle.kept_map.specs.declared.maps.KeptMap.{KeptMap}
 use Rattle.kept_map.proofs.SourceLayers.{find_item}
-use Rattle.kept_map.proofs.Given.{undotted, node_source}
-use Rattle.kept_map.proofs.EditedFlats.{op_of, flag_found, in_item, item_flag, item_makes, item_made, IsWrittenAs, written_makes, written_made, after_own, after_other}
-
-never : (b : Bool) → (b ≡ true → ⊥) → b ≡ false
-never true h = absurd (h refl)
-never false h = refl
+use Rattle.kept_map.proofs.Given.{group_there, undotted, node_source}
+use Rattle.kept_map.proofs.EditedFlats.{op_of, flag_found, in_item, item_flag, item_makes, item_made, IsWrittenAs, written_makes, written_made, after_own, after_other, or_none}
 
 -- ---- what stands for a name
 
 layer_there : (ls : List LayerDef) (n : Name) → list_any (λ (l : LayerDef). bytes_eq l.name n) ls ≡ is_some (find_making ls n)
 layer_there [] n = refl
-layer_there (l ∷ ls) n = go (bytes_eq l.name n) (layer_there ls n)
-  where
-    go : (b : Bool) → list_any (λ (l : LayerDef). bytes_eq l.name n) ls ≡ is_some (find_making ls n)
-        → (b || list_any (λ (l : LayerDef). bytes_eq l.name n) ls) ≡ is_some (option_map (λ (q : LayerDef). q.making) (cond b (Some l) (find (λ (q : LayerDef). bytes_eq q.name n) ls)))
-    go true rest = refl
-    go false rest = rest
+layer_there (l ∷ ls) n = elim (cases_Bool (bytes_eq l.name n)) [ inl h ↦ rw h refl | inr h ↦ rw h (layer_there ls n) ]
 
 -- a definition of name m has a layer n
 abbrev has_layer : Name → Name → Option Def → Bool
 has_layer m n None = false
 has_layer m n (Some d) = is_some (find_making (def_layers m d) n)
 
-or_none : (b : Bool) → (b || false) ≡ b
-or_none true = refl
-or_none false = refl
+or_false : (b : Bool) → (b || false) ≡ b
+or_false true = refl
+or_false false = refl
 
 stands_is : (es : List Entry) (m n : Name) → IsApart es → stands_for es m n ≡ has_layer m n (find_def es m)
 stands_is [] m n apart = refl
-stands_is (e ∷ es) m n apart = go (bytes_eq e.name m) refl (stands_is es m n apart.1)
+stands_is (e ∷ es) m n apart = elim (cases_Bool (bytes_eq e.name m)) [
+  | inl h ↦ (let at : e.name ≡ m = same_name e.name m h in
+      rw h (ap (λ b. own || b) (stands_is es m n apart.1 ∙ ap (has_layer m n) (ap (find_def es) (sym at) ∙ apart.0))
+      ∙ or_false own ∙ layer_there (layers_of e) n ∙ ap (λ q. is_some (find_making (def_layers q e.def) n)) at))
+  | inr h ↦ rw h (stands_is es m n apart.1)
+]
   where
     own : Bool
     own = list_any (λ (l : LayerDef). bytes_eq l.name n) (layers_of e)
 
-    go : (b : Bool) → bytes_eq e.name m ≡ b → stands_for es m n ≡ has_layer m n (find_def es m)
-        → ((b && own) || stands_for es m n) ≡ has_layer m n (option_map (λ (q : Entry). q.def) (cond b (Some e) (find (λ (q : Entry). bytes_eq q.name m) es)))
-    go true same rest =
-        let at : e.name ≡ m = same_name e.name m same in
-        ap (λ b. own || b) (rest ∙ ap (has_layer m n) (ap (find_def es) (sym at) ∙ apart.0))
-        ∙ or_none own ∙ layer_there (layers_of e) n ∙ ap (λ q. is_some (find_making (def_layers q e.def) n)) at
-    go false differs rest = rest
-
 -- the layers of a name that is there are a group
 pub group_at : (es : List Entry) (n : Name) (d : Def) → AreGroups es → find_def es n ≡ Some d → IsGroup n d
-group_at [] n d groups e = absurd (none-some d e)
-group_at (x ∷ xs) n d groups e = go (bytes_eq x.name n) refl e (group_at xs n d groups.2)
-  where
-    go : (b : Bool) → bytes_eq x.name n ≡ b → option_map (λ (q : Entry). q.def) (cond b (Some x) (find (λ (q : Entry). bytes_eq q.name n) xs)) ≡ Some d → (find_def xs n ≡ Some d → IsGroup n d) → IsGroup n d
-    go true same e rest = subst (λ q. IsGroup n q) (same_Some x.def d e) (subst (λ q. IsGroup q x.def) (same_name x.name n same) groups.1)
-    go false differs e rest = rest e
+group_at es n d groups e = (group_there es n d groups e).1
+
+-- ---- ranges
+
+abbrev IsRanged : Flat → Type 0
+IsRanged f = HasRanges (op_view f.op)
+
+ranged_flat : (b : Bool) (fs : List Flat) (n : Name) (f : FlatDef) → All IsRanged fs → lookup (bytes_eq n) (map (flat_def b) fs) ≡ Some f → HasRanges (op_view f.op)
+ranged_flat b fs n f all e =
+    let r = place_from_lookup (bytes_eq n) (map (flat_def b) fs) f e in
+    all_get (λ (q : List ℕ × FlatDef). HasRanges (op_view q.1.op)) (map (flat_def b) fs) (All-map (λ (q : List ℕ × FlatDef). HasRanges (op_view q.1.op)) (flat_def b) fs all) r.0 (r.1, f) r.2
+
+ranged_item : (item : Item) (n : Name) (f : FlatDef) → IsItem item → lookup (bytes_eq n) (item_flats item) ≡ Some f → HasRanges (op_view f.op)
+ranged_item Source n f is e = absurd (none-some f e)
+ranged_item (Statement w flats) n f is e = ranged_flat false flats.items n f is.1 e
+
+pub item_named : (items : List (List ℕ × Item)) (n : Name) (item : Item) → AllByRecursion IsNamed items → lookup (bytes_eq n) items ≡ Some item → IsItem item
+item_named items n item all e = let r = place_from_lookup (bytes_eq n) items item e in (all_get IsNamed items (All-from_recursion IsNamed items all) r.0 (r.1, item) r.2).1
 
 -- ---- the flat statements
 
@@ -111,26 +113,24 @@ module _ (m : KeptMap) (keeps : IsKept m) (new : List Entry) (edited : Name) (wr
       ∙ ap (group_making n) (find_item m.extent (source_in m.sources) m.names.entries (head_of n))
 
   pub flats_make : (n : Name) (f : FlatDef) → found_after n ≡ Some f → find_making (layers new) n ≡ Some (by_op (op_view f.op))
-  flats_make n f e = go (bytes_eq edited (head_of n)) refl
+  flats_make n f e = elim (cases_Bool (bytes_eq edited (head_of n))) [
+    | inl same ↦ making_own n same ∙ written_makes n written (find_def new edited) f wrote (sym (found_own n same) ∙ e)
+    | inr differs ↦ making_other n differs ∙ by_item (item_at n) (sym (found_other n differs) ∙ e)
+  ]
     where
       by_item : (o : Option Item) → in_item n o ≡ Some f → group_making n (option_map (def_by m.extent (source_in m.sources (head_of n))) o) ≡ Some (op_of f)
       by_item None e = absurd (none-some f e)
       by_item (Some item) e = item_makes m.extent (source_in m.sources (head_of n)) (head_of n) n item f e
 
-      go : (b : Bool) → bytes_eq edited (head_of n) ≡ b → find_making (layers new) n ≡ Some (op_of f)
-      go true same = making_own n same ∙ written_makes n written (find_def new edited) f wrote (sym (found_own n same) ∙ e)
-      go false differs = making_other n differs ∙ by_item (item_at n) (sym (found_other n differs) ∙ e)
-
   pub flats_made : (n : Name) (op : Op) → find_making (layers new) n ≡ Some (by_op op) → (f : FlatDef) × (found_after n ≡ Some f)
-  flats_made n op e = go (bytes_eq edited (head_of n)) refl
+  flats_made n op e = elim (cases_Bool (bytes_eq edited (head_of n))) [
+    | inl same ↦ (let r = written_made n written (find_def new edited) op wrote (sym (making_own n same) ∙ e) in (r.0, found_own n same ∙ r.1))
+    | inr differs ↦ (let r = by_item (item_at n) (sym (making_other n differs) ∙ e) in (r.0, found_other n differs ∙ r.1))
+  ]
     where
       by_item : (o : Option Item) → group_making n (option_map (def_by m.extent (source_in m.sources (head_of n))) o) ≡ Some (by_op op) → (f : FlatDef) × (in_item n o ≡ Some f)
       by_item None e = absurd (none-some (by_op op) e)
       by_item (Some item) e = item_made m.extent (source_in m.sources (head_of n)) (head_of n) n item op e
-
-      go : (b : Bool) → bytes_eq edited (head_of n) ≡ b → (f : FlatDef) × (found_after n ≡ Some f)
-      go true same = let r = written_made n written (find_def new edited) op wrote (sym (making_own n same) ∙ e) in (r.0, found_own n same ∙ r.1)
-      go false differs = let r = by_item (item_at n) (sym (making_other n differs) ∙ e) in (r.0, found_other n differs ∙ r.1)
 
   pub flats_touched : (n : Name) (f : FlatDef) → found_after n ≡ Some f → f.written ≡ is_whole new (whole edited) n
   flats_touched n f e = go (bytes_eq edited (head_of n)) refl ∙ sym (stands_is new edited n change.good.apart)
@@ -149,51 +149,22 @@ module _ (m : KeptMap) (keeps : IsKept m) (new : List Entry) (edited : Name) (wr
           ∙ there (find_def new edited) (same_name edited (head_of n) same) (sym (making_own n same) ∙ flats_make n f e)
       go false differs = item_flag n (item_at n) f (sym (found_other n differs) ∙ e) ∙ away (find_def new edited) group differs
 
--- ---- ranges
-
-abbrev IsRanged : Flat → Type 0
-IsRanged f = HasRanges (op_view f.op)
-
-ranged_flat : (b : Bool) (fs : List Flat) (n : Name) (f : FlatDef) → AllByRecursion IsRanged fs → lookup (bytes_eq n) (map (flat_def b) fs) ≡ Some f → HasRanges (op_view f.op)
-ranged_flat b [] n f all e = absurd (none-some f e)
-ranged_flat b (x ∷ xs) n f all e = go (bytes_eq n x.name) e (ranged_flat b xs n f all.1)
-  where
-    go : (c : Bool) → cond c (Some (record { op = x.op; written = b })) (lookup (bytes_eq n) (map (flat_def b) xs)) ≡ Some f → (lookup (bytes_eq n) (map (flat_def b) xs) ≡ Some f → HasRanges (op_view f.op)) → HasRanges (op_view f.op)
-    go true e rest = let same : record { op = x.op; written = b } ≡ f = same_Some _ f e in subst (λ (q : FlatDef). HasRanges (op_view q.op)) same all.0
-    go false e rest = rest e
-
-ranged_item : (item : Item) (n : Name) (f : FlatDef) → IsItem item → lookup (bytes_eq n) (item_flats item) ≡ Some f → HasRanges (op_view f.op)
-ranged_item Source n f is e = absurd (none-some f e)
-ranged_item (Statement w flats) n f is e = ranged_flat false flats.items n f (recursion_from_All IsRanged flats.items is.1) e
-
-pub item_named : (items : List (List ℕ × Item)) (n : Name) (item : Item) → AllByRecursion IsNamed items → lookup (bytes_eq n) items ≡ Some item → IsItem item
-item_named [] n item all e = absurd (none-some item e)
-item_named (x ∷ xs) n item all e = go (bytes_eq n x.0) e (item_named xs n item all.1)
-  where
-    go : (b : Bool) → cond b (Some x.1) (lookup (bytes_eq n) xs) ≡ Some item → (lookup (bytes_eq n) xs ≡ Some item → IsItem item) → IsItem item
-    go true e rest = subst IsItem (same_Some x.1 item e) all.0.1
-    go false e rest = rest e
-
-module _ (m : KeptMap) (keeps : IsKept m) (new : List Entry) (edited : Name) (written : List Flat) (plain : IsUndotted edited) (change : IsGoodChange (entries_in m) edited new) (wrote : IsWrittenAs (find_def new edited) written) where
   pub flats_ranged : All (λ (f : Flat). HasRanges (op_view f.op)) written → (n : Name) (f : FlatDef) → lookup (bytes_eq n) (flats_after m.names.entries edited written) ≡ Some f → HasRanges (op_view f.op)
-  flats_ranged all n f e = go (bytes_eq edited (head_of n)) refl
+  flats_ranged all n f e = elim (cases_Bool (bytes_eq edited (head_of n))) [
+    | inl same ↦ ranged_flat true written n f all (sym (found_own n same) ∙ e)
+    | inr differs ↦ by_item (lookup (bytes_eq (head_of n)) m.names.entries) refl (sym (found_other n differs) ∙ e)
+  ]
     where
       by_item : (o : Option Item) → lookup (bytes_eq (head_of n)) m.names.entries ≡ o → in_item n o ≡ Some f → HasRanges (op_view f.op)
       by_item None at e = absurd (none-some f e)
       by_item (Some item) at e = ranged_item item n f (item_named m.names.entries (head_of n) item (recursion_from_All IsNamed m.names.entries keeps.named) at) e
 
-      go : (b : Bool) → bytes_eq edited (head_of n) ≡ b → HasRanges (op_view f.op)
-      go true same = ranged_flat true written n f (recursion_from_All IsRanged written all) (sym (found_own m keeps new edited written plain change wrote n same) ∙ e)
-      go false differs = by_item (lookup (bytes_eq (head_of n)) m.names.entries) refl (sym (found_other m keeps new edited written plain change wrote n differs) ∙ e)
-
 -- ---- the sources
 
 module _ (m : KeptMap) (keeps : IsKept m) (new : List Entry) (edited : Name) (plain : IsUndotted edited) (change : IsGoodChange (entries_in m) edited new) where
-  node_stays : (n : Name) → bytes_eq edited (head_of n) ≡ false → find_node (nodes_of new) n ≡ find_node (nodes_of (entries_in m)) n
-  node_stays n differs = find_node-making (layers new) n ∙ ap (option_map (made_node n)) (change.makings n differs) ∙ sym (find_node-making (layers (entries_in m)) n)
-
   place_stays : (n : Name) (node : Node) → bytes_eq edited (head_of n) ≡ false → find_node (nodes_of new) n ≡ Some node → is_some (position (bytes_eq n) m.sources.names.keys) ≡ is_source_node (Some node)
-  place_stays n node differs e = keeps.sources.stand n ∙ ap is_source_node (sym (node_stays n differs) ∙ e)
+  place_stays n node differs e =
+      keeps.sources.stand n ∙ ap is_source_node (find_node-making (layers (entries_in m)) n ∙ ap (option_map (made_node n)) (sym (change.makings n differs)) ∙ sym (find_node-making (layers new) n) ∙ e)
 
   own_node : (n : Name) (o : Option Def) → bytes_eq edited (head_of n) ≡ true → find_def new edited ≡ o → find_node (nodes_of new) n ≡ option_map (made_node n) (group_making n o)
   own_node n o same is =
@@ -201,11 +172,10 @@ module _ (m : KeptMap) (keeps : IsKept m) (new : List Entry) (edited : Name) (pl
       ∙ ap (option_map (made_node n)) (making_by_head new n change.good.groups change.good.apart ∙ ap (λ q. group_making n (find_def new q)) (sym (same_name edited (head_of n) same)) ∙ ap (group_making n) is)
 
   pub stand_dropped : find_def new edited ≡ None → AreSources (nodes_of new) m.sources.names.keys
-  stand_dropped gone n node e = go (bytes_eq edited (head_of n)) refl
-    where
-      go : (b : Bool) → bytes_eq edited (head_of n) ≡ b → is_some (position (bytes_eq n) m.sources.names.keys) ≡ is_source_node (Some node)
-      go true same = absurd (none-some node (sym (own_node n None same gone) ∙ e))
-      go false differs = place_stays n node differs e
+  stand_dropped gone n node e = elim (cases_Bool (bytes_eq edited (head_of n))) [
+    | inl same ↦ absurd (none-some node (sym (own_node n None same gone) ∙ e))
+    | inr differs ↦ place_stays n node differs e
+  ]
 
   pub stand_added : (grid : Grid) → find_def new edited ≡ Some (source grid) → AreSources (nodes_of new) (m.sources.names.keys ++ edited ∷ [])
   stand_added grid there n node e = ap is_some (position_push (bytes_eq n) m.sources.names.keys edited) ∙ go (bytes_eq edited (head_of n)) refl
@@ -213,10 +183,6 @@ module _ (m : KeptMap) (keeps : IsKept m) (new : List Entry) (edited : Name) (pl
       last : (o : Option ℕ) (k : ℕ) → is_some (option_or o (Some k)) ≡ true
       last None k = refl
       last (Some i) k = refl
-
-      first : (o : Option ℕ) → is_some (option_or o None) ≡ is_some o
-      first None = refl
-      first (Some i) = refl
 
       of_own : (b : Bool) → bytes_eq (head_of n) n ≡ b → edited ≡ head_of n → option_map (made_node n) (option_map (λ (q : LayerDef). q.making) (cond b (Some (record { name = head_of n; making = given_grid grid })) None)) ≡ Some node
           → is_some (option_or (position (bytes_eq n) m.sources.names.keys) (if bytes_eq n edited then Some (length m.sources.names.keys) else None)) ≡ is_source_node (Some node)
@@ -232,10 +198,16 @@ module _ (m : KeptMap) (keeps : IsKept m) (new : List Entry) (edited : Name) (pl
 
       go : (b : Bool) → bytes_eq edited (head_of n) ≡ b → is_some (option_or (position (bytes_eq n) m.sources.names.keys) (if bytes_eq n edited then Some (length m.sources.names.keys) else None)) ≡ is_source_node (Some node)
       go true same = of_own (bytes_eq (head_of n) n) refl (same_name edited (head_of n) same) (sym (own_node n (Some (source grid)) same there) ∙ e)
-      go false differs = ap (λ b. is_some (option_or (position (bytes_eq n) m.sources.names.keys) (if b then Some (length m.sources.names.keys) else None))) (never (bytes_eq n edited) (apart differs)) ∙ first (position (bytes_eq n) m.sources.names.keys) ∙ place_stays n node differs e
+      go false differs =
+          ap (λ b. is_some (option_or (position (bytes_eq n) m.sources.names.keys) (if b then Some (length m.sources.names.keys) else None))) (false_from_ne_true (bytes_eq n edited) (apart differs))
+          ∙ ap is_some (or_none (position (bytes_eq n) m.sources.names.keys)) ∙ place_stays n node differs e
 
   pub stand_defined : (w : statements.Written) (flats : List statements.Flat) → find_def new edited ≡ Some (statement w flats) → ((grid : Grid) → find_def (entries_in m) edited ≡ Some (source grid) → ⊥) → AreSources (nodes_of new) m.sources.names.keys
-  stand_defined w flats there other n node e = go (bytes_eq edited (head_of n)) refl
+  stand_defined w flats there other n node e = elim (cases_Bool (bytes_eq edited (head_of n))) [
+    | inl same ↦ (let at = same_name edited (head_of n) same in
+        false_from_ne_true (is_some (position (bytes_eq n) m.sources.names.keys)) (no_place at) ∙ sym (false_from_ne_true (is_source_node (Some node)) (no_node at)))
+    | inr differs ↦ place_stays n node differs e
+  ]
     where
       own : (es : List Entry) (grid : Grid) → AreGroups es → edited ≡ head_of n → find_def es n ≡ Some (source grid) → find_def es edited ≡ Some (source grid)
       own es grid groups at is = ap (find_def es) (at ∙ head_undotted n (undotted es n (source grid) groups is)) ∙ is
@@ -250,9 +222,3 @@ module _ (m : KeptMap) (keeps : IsKept m) (new : List Entry) (edited : Name) (pl
           let r = node_source new n change.good.groups change.good.apart (ap is_source_node e ∙ is) in
           let both : Some (statement w flats) ≡ Some (source r.0) = sym there ∙ own new r.0 change.good.groups at r.1 in
           cc
-
-      go : (b : Bool) → bytes_eq edited (head_of n) ≡ b → is_some (position (bytes_eq n) m.sources.names.keys) ≡ is_source_node (Some node)
-      go true same =
-          let at = same_name edited (head_of n) same in
-          never (is_some (position (bytes_eq n) m.sources.names.keys)) (no_place at) ∙ sym (never (is_source_node (Some node)) (no_node at))
-      go false differs = place_stays n node differs e

@@ -1,10 +1,9 @@
 -- A map without names.
-use Rattle.std.proofs.Common.{◌≡◌, [], None, slice_get, refl, sym, ap, subst, ◌∙◌, arith}
-use Rattle.map_nums.specs.Grids.{Size, IsSize}
+use Rattle.std.proofs.Common.{◌≡◌, [], slice_get, refl, sym, ap, subst, ◌∙◌, arith}
+use Rattle.map_nums.specs.Grids.{IsSize}
 use Rattle.std.specs.List.{IsDistinct}
 use Rattle.std.proofs.lemmas.Option.{none-some}
 use Rattle.map_defs.specs.Depths.{by_depth}
-use Rattle.map_edits.specs.EngineStates.{no_entries}
 use Rattle.map_edits.specs.Faults.{fault_of}
 use Rattle.map_edits.specs.WholeStates.{WholeState, no_names}
 use Rattle.map_edits.specs.GroupLaws.{IsLawful}
@@ -13,16 +12,12 @@ use Rattle.kept_map.specs.Maps.{seen}
 use Rattle.kept_map.specs.Keeps.{IsKept}
 use Rattle.kept_map.specs.declared.maps.KeptMap.{KeptMap}
 
-faultless : (size : Size) → fault_of (no_entries size) ≡ None
-unfolding fault_of by_depth
-faultless size = refl
-
 module _ (m : KeptMap) (names : m.names.entries ≡ []) (procedures : m.procedures ≡ []) (labels : m.labels ≡ []) (symbols : m.symbols ≡ []) (number : m.number ≡ 0) where
   pub seen_empty : seen m ≡ no_names m.extent
   seen_empty = rw (names, procedures, labels, symbols, number) refl
 
   pub kept_empty : IsSize m.extent → m.graph ≡ [] → m.sources.names.keys ≡ [] → m.sources.layers.items ≡ [] → m.planned.names.keys ≡ [] → m.planned.steps.items ≡ [] → m.kept.items ≡ [] → IsKept m
-  unfolding by_depth IsDistinct
+  unfolding by_depth fault_of IsDistinct
   kept_empty size graph sources layers planned steps kept = record {
     size = size;
     named = rw names (λ k d h. absurd (omega arith));
@@ -31,7 +26,7 @@ module _ (m : KeptMap) (names : m.names.entries ≡ []) (procedures : m.procedur
     sources_few = rw names (omega arith);
     flats_few = rw names (omega arith);
     graph_is = rw (graph, names) refl;
-    faultless = ap (λ (s : WholeState). fault_of s.names) seen_empty ∙ faultless m.extent;
+    faultless = ap (λ (s : WholeState). fault_of s.names) seen_empty;
     sources = record {
       stand = λ n. rw (sources, names) refl;
       apart = rw sources tt;

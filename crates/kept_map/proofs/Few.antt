@@ -48,13 +48,10 @@ ones {X} (x ∷ xs) = let rest = ones xs in let one = sum_by-cons (λ (x : X). 1
 few_kept : {X : Type 0} (p : X → Bool) (xs : List X) → length (filter p xs) ≤ length xs
 few_kept p xs = let same = length-filter p xs in let few = count_by-le-length p xs in omega arith
 
-listed_is : (nodes : List Node) → length (by_depth nodes) ≡ length (flats_within (length nodes) nodes)
-unfolding by_depth
-listed_is nodes = sym (ones (by_depth nodes)) ∙ depth_is_place (λ (node : Node). 1) (length nodes) nodes ∙ ones (flats_within (length nodes) nodes)
-
 few_by_depth : (nodes : List Node) → length (by_depth nodes) ≤ length nodes
+unfolding by_depth
 few_by_depth nodes =
-    let same = listed_is nodes in
+    let same : length (by_depth nodes) ≡ length (flats_within (length nodes) nodes) = sym (ones (by_depth nodes)) ∙ depth_is_place (λ (node : Node). 1) (length nodes) nodes ∙ ones (flats_within (length nodes) nodes) in
     let few : length (flats_within (length nodes) nodes) ≤ length nodes = few_kept _ nodes in
     omega arith
 

@@ -1,7 +1,7 @@
 -- The sources of a state, as layers, as nodes and by value.
-use Rattle.std.proofs.Common.{◌≡◌, Bool, true, false, cond, List, [], ◌∷◌, find, Option, Some, None, option_map, bytes_eq, refl, sym, ap, ◌∙◌}
-use Rattle.std.proofs.lemmas.Bool.{false≢true}
-use Rattle.std.proofs.lemmas.Option.{none-some}
+use Rattle.std.proofs.Common.{◌≡◌, inl, inr, subst, true, cond, List, [], ◌∷◌, Option, Some, None, option_map, bytes_eq, refl, sym, ap, ◌∙◌}
+use Rattle.std.proofs.lemmas.Bool.{false≢true, cases_Bool}
+use Rattle.std.proofs.lemmas.Option.{none-some, same_Some}
 use Rattle.map_nums.specs.Grids.{Grid}
 use Rattle.map_defs.specs.Ops.{Name}
 use Rattle.map_defs.specs.Nodes.{find_node}
@@ -10,7 +10,7 @@ use Rattle.map_edits.specs.Entries.{Def, source, statement, Entry, find_def}
 use Rattle.map_edits.specs.LayerDefs.{Making, given_grid, by_op, LayerDef, layers, find_making, nodes_of}
 use Rattle.map_edits.specs.EngineStates.{EngineState, made, value_of}
 use Rattle.map_edits.specs.Laws.{IsApart, HasNoCycle}
-use Rattle.map_edits.specs.GroupLaws.{AreGroups}
+use Rattle.map_edits.specs.GroupLaws.{IsGroup, AreGroups}
 use Rattle.map_edits.proofs.Among.{same_name, bytes_eq-self}
 use Rattle.map_edits.proofs.Heads.{head_of, head_undotted}
 use Rattle.map_edits.proofs.Looks.{made_node, find_node-making}
@@ -19,14 +19,16 @@ use Rattle.map_edits.proofs.Groups.{def_layers, group_making, making_by_head}
 use Rattle.edit_plans.specs.Planned.{is_source_node}
 use Rattle.edit_plans.proofs.TouchedAlone.{never_given, given_named}
 
--- a name that is there has no dot
+-- a name that is there has no dot, and its layers are a group
+pub group_there : (es : List Entry) (n : Name) (d : Def) → AreGroups es → find_def es n ≡ Some d → IsUndotted n × IsGroup n d
+group_there [] n d groups e = absurd (none-some d e)
+group_there (x ∷ es) n d groups e = elim (cases_Bool (bytes_eq x.name n)) [
+  | inl h ↦ (let is : find_def (x ∷ es) n ≡ Some x.def = rw h refl in subst (λ q. IsUndotted q × IsGroup q d) (same_name x.name n h) (groups.0, subst (IsGroup x.name) (same_Some x.def d (sym is ∙ e)) groups.1))
+  | inr h ↦ (let next : find_def (x ∷ es) n ≡ find_def es n = rw h refl in group_there es n d groups.2 (sym next ∙ e))
+]
+
 pub undotted : (es : List Entry) (n : Name) (d : Def) → AreGroups es → find_def es n ≡ Some d → IsUndotted n
-undotted [] n d groups e = absurd (none-some d e)
-undotted (x ∷ es) n d groups e = go (bytes_eq x.name n) refl e (undotted es n d groups.2)
-  where
-    go : (b : Bool) → bytes_eq x.name n ≡ b → option_map (λ (q : Entry). q.def) (cond b (Some x) (find (λ (q : Entry). bytes_eq q.name n) es)) ≡ Some d → (find_def es n ≡ Some d → IsUndotted n) → IsUndotted n
-    go true h e rest = rw (← same_name x.name n h) groups.0
-    go false h e rest = rest e
+undotted es n d groups e = (group_there es n d groups e).0
 
 module _ (es : List Entry) (n : Name) (groups : AreGroups es) (apart : IsApart es) where
   pub source_making : (grid : Grid) → find_def es n ≡ Some (source grid) → find_making (layers es) n ≡ Some (given_grid grid)

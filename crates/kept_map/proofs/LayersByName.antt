@@ -1,24 +1,31 @@
 -- The layers of a kept map by their names.
-use Rattle.std.proofs.Common.{◌≡◌, ℕ, Bool, true, false, List, [], position, Option, Some, None, is_some, option_map, unwrap_or, bytes_eq, refl, ap, ◌∙◌, if◌then◌else◌}
+use Rattle.std.proofs.Common.{◌≡◌, ℕ, Bool, true, false, not, List, [], position, Option, Some, None, is_some, option_map, unwrap_or, slice_get, bytes_eq, refl, sym, ap, ◌∙◌, if◌then◌else◌}
+use Rattle.std.specs.List.{list_any}
 use Rattle.std.specs.Option.{option_or}
-use Rattle.std.proofs.lemmas.Bool.{true≢false, false≢true}
+use Rattle.std.proofs.lemmas.Bool.{true≢false, false≢true, and_from}
 use Rattle.std.proofs.lemmas.Option.{none-some}
 use Rattle.map_nums.specs.Grids.{Grid}
-use Rattle.map_defs.specs.Ops.{Name, Op}
-use Rattle.map_defs.specs.Nodes.{find_node}
+use Rattle.map_defs.specs.Ops.{Name, Op, needs_of}
+use Rattle.map_defs.specs.Nodes.{find_node, lacks}
+use Rattle.map_defs.specs.Depths.{by_depth}
 use Rattle.layer_tiles.specs.Layers.{LayerState}
 use Rattle.map_edits.specs.LayerDefs.{Making, given_grid, by_op, layers, find_making, nodes_of}
-use Rattle.map_edits.specs.EngineStates.{EngineState, value_of}
+use Rattle.map_edits.specs.EngineStates.{EngineState, made, value_of}
 use Rattle.map_edits.specs.WholeStates.{stamps_of}
+use Rattle.map_edits.specs.Laws.{HasNoCycle, is_named_in}
 use Rattle.map_edits.proofs.Looks.{made_node, find_node-making}
 use Rattle.map_edits.proofs.Stamped.{kept_found, value_there}
+use Rattle.map_edits.proofs.Order.{all_flats_listed}
+use Rattle.map_edits.proofs.Defined.{value_is_defined}
+use Rattle.map_edits.proofs.Unfolds.{value_unfolds}
 use Rattle.map_waves.specs.declared.keeping.Kept.{Kept}
 use Rattle.map_waves.specs.declared.plans.Step.{Step}
 use Rattle.statement_parser.specs.declared.op.Op.{Op as Given}
 use Rattle.op_jobs.specs.declared.beside.Beside.{Beside}
-use Rattle.edit_plans.specs.Planned.{is_source_node}
+use Rattle.edit_plans.specs.Planned.{is_source_node, whole_names}
 use Rattle.edit_plans.proofs.Forming.{step_at}
-use Rattle.edit_plans.proofs.Positions.{position_at}
+use Rattle.edit_plans.proofs.Operands.{kept_named}
+use Rattle.edit_plans.proofs.Positions.{some_position, position_at}
 use Rattle.kept_map.specs.Maps.{at_place, source_in, kept_in, layer_in, names_in, stamps_seen}
 use Rattle.kept_map.specs.Keeps.{AreKeptSources, IsKeptStep, IsKept}
 use Rattle.kept_map.specs.declared.maps.Sources.{Sources}
@@ -48,16 +55,45 @@ module _ (s : EngineState) (sources : Sources) (are : AreKeptSources s sources) 
 
 -- ---- statements
 
--- what is kept is that of a step
-pub kept_step : (m : KeptMap) → IsKept m → (n : Name) (own : Kept Beside) → kept_in m n ≡ Some own → (x : Step Given) × IsKeptStep (names_in m) n x own
-kept_step m kept n own e = go (position (bytes_eq n) m.planned.names.keys) refl e
-  where
-    go : (o : Option ℕ) → position (bytes_eq n) m.planned.names.keys ≡ o → at_place m.kept.items o ≡ Some own → (x : Step Given) × IsKeptStep (names_in m) n x own
-    go None at is = absurd (none-some own is)
-    go (Some k) at is =
-        let named = position_at n m.planned.names.keys k at in
-        let step = step_at m.planned.names.keys m.planned.steps.items kept.statements.planned_are.count k n named in
-        (step.0, kept.statements.each k n step.0 own named step.1 is)
+module _ (s : EngineState) (none : HasNoCycle (nodes_of s.entries)) (n : Name) where
+  -- a flat statement with a grid is one of those that lack no name
+  pub statement_listed : (op : Op) → find_making (layers s.entries) n ≡ Some (by_op op) → is_some (value_of s n) ≡ true → list_any (bytes_eq n) (whole_names (nodes_of s.entries) (by_depth (nodes_of s.entries))) ≡ true
+  statement_listed op making defined =
+      let nodes = nodes_of s.entries in
+      kept_named (λ q. not (is_some (lacks nodes q))) n (by_depth nodes)
+      ∙ and_from (is_named_in n (by_depth nodes)) (not (is_some (lacks nodes n)))
+      (all_flats_listed nodes none n (record { name = n; needs = Some (needs_of op) }) (needs_of op) (node_made s n (by_op op) making) refl)
+      (sym (value_is_defined s none n) ∙ defined)
+
+  -- what has a grid is a source, or one of them
+  defined_listed : is_source_node (find_node (nodes_of s.entries) n) ≡ false → (g : Grid) → value_of s n ≡ Some g → list_any (bytes_eq n) (whole_names (nodes_of s.entries) (by_depth (nodes_of s.entries))) ≡ true
+  defined_listed away g e = go (find_making (layers s.entries) n) refl
+    where
+      go : (o : Option Making) → find_making (layers s.entries) n ≡ o → list_any (bytes_eq n) (whole_names (nodes_of s.entries) (by_depth (nodes_of s.entries))) ≡ true
+      go None making = absurd (none-some g (sym (value_unfolds s none n ∙ ap (made s.size (value_of s)) making) ∙ e))
+      go (Some (given_grid grid)) making = absurd (true≢false (sym (ap is_source_node (node_made s n (given_grid grid) making)) ∙ away))
+      go (Some (by_op op)) making = statement_listed op making (ap is_some e)
+
+module _ (m : KeptMap) (kept : IsKept m) where
+  -- a statement with a grid has its place in the plan
+  pub defined_placed : (n : Name) → is_some (position (bytes_eq n) m.sources.names.keys) ≡ false → (g : Grid) → value_of (names_in m) n ≡ Some g → is_some (position (bytes_eq n) m.planned.names.keys) ≡ true
+  defined_placed n away g e =
+      some_position (bytes_eq n) m.planned.names.keys
+      ∙ ap (list_any (bytes_eq n)) kept.statements.planned_are.names_are
+      ∙ defined_listed (names_in m) kept.lawful.none_looped n (sym (kept.sources.stand n) ∙ away) g e
+
+  -- what is kept at its place is that of a step
+  pub step_kept : (i : ℕ) (n : Name) (own : Kept Beside) → slice_get m.planned.names.keys i ≡ Some n → slice_get m.kept.items i ≡ Some own → (x : Step Given) × IsKeptStep (names_in m) n x own
+  step_kept i n own named here =
+      let step = step_at m.planned.names.keys m.planned.steps.items kept.statements.planned_are.count i n named in
+      (step.0, kept.statements.each i n step.0 own named step.1 here)
+
+  pub kept_step : (n : Name) (own : Kept Beside) → kept_in m n ≡ Some own → (x : Step Given) × IsKeptStep (names_in m) n x own
+  kept_step n own e = go (position (bytes_eq n) m.planned.names.keys) refl e
+    where
+      go : (o : Option ℕ) → position (bytes_eq n) m.planned.names.keys ≡ o → at_place m.kept.items o ≡ Some own → (x : Step Given) × IsKeptStep (names_in m) n x own
+      go None at is = absurd (none-some own is)
+      go (Some k) at is = step_kept k n own (position_at n m.planned.names.keys k at) is
 
 -- a statement's layer is what is kept of it
 pub layer_kept : (m : KeptMap) (n : Name) (own : Kept Beside) → source_in m.sources n ≡ None → kept_in m n ≡ Some own → layer_in m n ≡ Some own.layer

@@ -1,37 +1,93 @@
--- What is prepared of all statements can be put in place of what was kept.
-use Rattle.std.proofs.Common.{◌≡◌, ℕ, ◌<◌, zero, suc, List, [], ◌∷◌, map, filter, not, length, get_or, position, Option, Some, None, is_some, slice_get, slice_index_or, bytes_eq, refl, sym, ap, subst, ◌∙◌, arith}
+-- What is prepared of all statements can be put in place of what was kept, and the steps at rest are a plan.
+use Rattle.std.proofs.Common.{◌≡◌, ℕ, zero, suc, false, not, List, [], ◌∷◌, map, filter, length, position, Some, is_some, slice_get, bytes_eq, refl, sym, ap, subst, ◌∙◌, arith, ◌<◌, get_or, Option, None, slice_index_or, option_map}
+use Rattle.std.specs.List.{AllByRecursion, IsDistinct}
+use Rattle.std.proofs.lemmas.Bool.{or_parts}
+use Rattle.std.proofs.lemmas.Option.{same_Some}
 use Rattle.std.proofs.lemmas.List.Quantifiers.{position-Some}
-use Rattle.std.proofs.lemmas.Option.{same_Some, slice_get_within, slice_get-get_or}
 use Rattle.map_defs.specs.Ops.{Name}
 use Rattle.map_defs.specs.Nodes.{Node, lacks}
-use Rattle.map_defs.specs.Depths.{by_depth}
+use Rattle.map_defs.specs.Depths.{depth_in, by_depth}
+use Rattle.statement_parser.specs.Views.{op_view}
+use Rattle.statement_parser.specs.declared.op.Op.{Op as Given}
+use Rattle.map_edits.specs.Laws.{is_named_in}
 use Rattle.map_edits.specs.LayerDefs.{nodes_of}
 use Rattle.map_edits.specs.WholeStates.{WholeState}
 use Rattle.map_edits.specs.WholeEdits.{WholeEdit}
-use Rattle.map_edits.proofs.GroupsOnce.{groups_once}
+use Rattle.map_edits.proofs.Among.{bytes_eq-turned}
 use Rattle.map_edits.proofs.Once.{IsOnce, once_filter, by_depth_once}
-use Rattle.statement_parser.specs.Views.{op_view}
-use Rattle.statement_parser.specs.declared.op.Op.{Op as Given}
-use Rattle.op_jobs.specs.declared.beside.Beside.{Beside}
+use Rattle.map_edits.proofs.GroupsOnce.{groups_once}
 use Rattle.map_waves.specs.Prepared.{IsReady}
 use Rattle.map_waves.specs.Placing.{slot_of, HaveOwnSlots, AreReady}
 use Rattle.map_waves.specs.Plans.{StepDef}
+use Rattle.map_waves.specs.declared.plans.Step.{Step}
 use Rattle.map_waves.specs.declared.keeping.Kept.{Kept}
 use Rattle.map_waves.specs.declared.keeping.Made.{Made}
 use Rattle.map_waves.specs.declared.plans.Ref.{Ref}
-use Rattle.map_waves.specs.declared.plans.Step.{Step}
 use Rattle.map_waves.specs.declared.plans.Shift.{Shift}
-use Rattle.edit_plans.specs.Orderly.{IsOrderly}
+use Rattle.op_jobs.specs.declared.beside.Beside.{Beside}
 use Rattle.edit_plans.specs.PlansFor.{AreRefsFor}
+use Rattle.edit_plans.specs.Planned.{whole_names, IsPlanned}
+use Rattle.edit_plans.specs.Orderly.{IsOrderly}
+use Rattle.edit_plans.proofs.Forming.{step_at}
 use Rattle.edit_plans.proofs.Positions.{position_at}
 use Rattle.edit_plans.proofs.TouchedAlone.{order_is_kept}
+use Rattle.edit_plans.proofs.Ordered.{named_step}
+use Rattle.kept_map.specs.Flats.{flats_of_steps}
+use Rattle.kept_map.specs.Commits.{IsAtRest, Rests}
 use Rattle.kept_map.specs.Maps.{at_place, seen}
 use Rattle.kept_map.specs.Keeps.{IsKept}
 use Rattle.kept_map.specs.Edits.{IsSetUp}
 use Rattle.kept_map.specs.Repairs.{step_in, plan_in, IsUnder, AreMadeOf}
-use Rattle.kept_map.specs.Commits.{IsAtRest, Rests}
 use Rattle.kept_map.specs.declared.maps.KeptMap.{KeptMap}
-use Rattle.kept_map.proofs.Resting.{own_place}
+use Rattle.kept_map.proofs.SettingUp.{place_is}
+use Rattle.kept_map.proofs.EditedFlats.{flat_by, flat_is}
+
+-- ---- names that stand apart
+
+others_named : (n : Name) (xs : List Node) → is_named_in n xs ≡ false → AllByRecursion (λ y. bytes_eq n y ≡ false) (map (λ (x : Node). x.name) xs)
+others_named n [] none = tt
+others_named n (x ∷ xs) none = let r = or_parts (bytes_eq x.name n) (is_named_in n xs) none in (bytes_eq-turned x.name n r.0, others_named n xs r.1)
+
+once_distinct : (xs : List Node) → IsOnce xs → IsDistinct bytes_eq (map (λ (x : Node). x.name) xs)
+unfolding IsDistinct
+once_distinct [] once = tt
+once_distinct (x ∷ xs) once = (others_named x.name xs once.0, once_distinct xs once.1)
+
+-- each name of a plan stands at one place
+whole_place : (nodes : List Node) → IsOnce nodes → (names : List Name) → names ≡ whole_names nodes (by_depth nodes) → (k : ℕ) (n : Name) → slice_get names k ≡ Some n → position (bytes_eq n) names ≡ Some k
+whole_place nodes once names whole =
+    let listed : List Node = filter (λ (node : Node). not (is_some (lacks nodes node.name))) (by_depth nodes) in
+    let apart = once_distinct listed (once_filter (λ (node : Node). not (is_some (lacks nodes node.name))) (by_depth nodes) (by_depth_once nodes once)) in
+    place_is names (subst (IsDistinct bytes_eq) (sym whole) apart)
+
+-- ---- steps at rest
+
+module _ (nodes : List Node) (once : IsOnce nodes) (sources names : List Name) (old new : List (Step Given)) (whole : names ≡ whole_names nodes (by_depth nodes)) (old_count : length old ≡ length names) (new_count : length new ≡ length old)
+    (depths : (k : ℕ) (n : Name) (x : Step Given) → slice_get names k ≡ Some n → slice_get old k ≡ Some x → x.depth ≡ depth_in nodes n)
+    (rest : (k : ℕ) (x y : Step Given) → slice_get old k ≡ Some x → slice_get new k ≡ Some y → IsAtRest k x y × AreRefsFor sources names k (op_view x.op).terms y.refs.items) where
+  place : (k : ℕ) (n : Name) → slice_get names k ≡ Some n → position (bytes_eq n) names ≡ Some k
+  place = whole_place nodes once names whole
+
+  -- steps at rest are planned from their own statements
+  pub rest_planned : IsPlanned nodes sources (flats_of_steps names new) names names new
+  rest_planned = record {
+    names_are = whole;
+    count = new_count ∙ old_count;
+    each = λ k n y at here.
+        let x = step_at names old old_count k n at in
+        let rested = rest k x.0 y x.1 here in
+        record {
+          flat = flat_by y;
+          from = flat_is names new (new_count ∙ old_count) n ∙ ap (λ o. option_map flat_by (at_place new o)) (place k n at) ∙ ap (option_map flat_by) here;
+          op = refl;
+          written = refl;
+          refs = subst (λ (o : Given). AreRefsFor sources names k (op_view o).terms y.refs.items) (sym rested.0.op) rested.1;
+          depth = rested.0.depth ∙ depths k n x.0 at x.1;
+          kept = rested.0.kept ∙ sym (place k n at);
+        };
+  }
+
+-- ---- what is prepared can be put in place of what was kept
 
 -- what was kept, as slots
 pub slot_kept : (kept : List (Kept Beside)) (i : Option ℕ) → slot_of (map (λ k. Some k) kept) i ≡ at_place kept i
@@ -46,7 +102,7 @@ slot_kept kept (Some i) = go kept i
 module _ (m : KeptMap) (e : WholeEdit) (t : WholeState) (shift : Shift) (sources names : List Name) (steps : List (Step Given)) (kept : IsKept m) (under : IsUnder m e t shift sources names steps) where
   -- a step has a name
   name_at : (k : ℕ) (x : Step Given) → slice_get steps k ≡ Some x → (n : Name) × (slice_get names k ≡ Some n)
-  name_at k x here = (get_or names k [], slice_get-get_or names k [] (let within = slice_get_within steps k x here in let count = under.count in omega (arith, within, count)))
+  name_at k x here = (get_or names k [], named_step names steps under.count k x here)
 
   -- what was kept of it stood under its name
   stood_named : (k i : ℕ) (n : Name) (x : Step Given) → slice_get names k ≡ Some n → slice_get steps k ≡ Some x → x.kept ≡ Some i → slice_get m.planned.names.keys i ≡ Some n
@@ -66,11 +122,7 @@ module _ (m : KeptMap) (e : WholeEdit) (t : WholeState) (shift : Shift) (sources
 
     -- each name stands at one place of the plan
     pub one_place : (k : ℕ) (n : Name) → slice_get names k ≡ Some n → position (bytes_eq n) names ≡ Some k
-    one_place k n at =
-        let nodes = nodes_of t.names.entries in
-        let listed = filter (λ (node : Node). not (is_some (lacks nodes node.name))) (by_depth nodes) in
-        let once : IsOnce listed = once_filter (λ (node : Node). not (is_some (lacks nodes node.name))) (by_depth nodes) (by_depth_once nodes (groups_once t.names.entries orderly.groups orderly.apart)) in
-        ap (position (bytes_eq n)) under.whole ∙ own_place listed once k n (ap (λ ns. slice_get ns k) (sym under.whole) ∙ at)
+    one_place = whole_place (nodes_of t.names.entries) (groups_once t.names.entries orderly.groups orderly.apart) names under.whole
 
     pub own_slots : HaveOwnSlots steps
     own_slots j k i x y here there is was =

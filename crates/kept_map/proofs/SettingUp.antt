@@ -1,13 +1,14 @@
 -- What an edit makes of the sources of a map, and of their stamps.
-use Rattle.std.proofs.Common.{◌≡◌, ℕ, zero, suc, ℤ, Bool, true, false, List, [], ◌∷◌, ◌++◌, length, position, Option, Some, None, is_some, option_map, slice_get, bytes_eq, refl, sym, ap, subst, ◌∙◌, ◌⊎◌, inl, inr, arith, Bor}
-use Rattle.std.specs.List.{IsDistinct, AllByRecursion}
-use Rattle.std.proofs.lemmas.Bool.{true≢false, false≢true}
-use Rattle.std.proofs.lemmas.Map.Keys.{IsDistinct-head, IsDistinct-tail}
-use Rattle.std.proofs.lemmas.Option.{none-some, same_Some, slice_get_past}
+use Rattle.std.proofs.Common.{◌≡◌, ℕ, zero, suc, ℤ, false, List, [], ◌∷◌, ◌++◌, length, position, Option, Some, None, is_some, option_map, slice_get, bytes_eq, refl, sym, ap, subst, ◌∙◌, ◌⊎◌, inl, inr, arith, Bor, ◌<◌, get_or}
+use Rattle.std.specs.List.{IsDistinct}
+use Rattle.std.proofs.lemmas.Bool.{true≢false, false≢true, cases_order, cases_Bool}
+use Rattle.std.proofs.lemmas.Map.Keys.{apart_from_distinct}
+use Rattle.std.proofs.lemmas.Option.{none-some, same_Some, slice_get_past, slice_get_within, get_or_from_slice_get}
 use Rattle.map_nums.specs.Grids.{Size, IsSize, Grid, Cells, constant}
 use Rattle.map_defs.specs.Damage.{changed_tiles}
 use Rattle.map_defs.specs.Ops.{Name}
 use Rattle.map_defs.specs.MadeProcedures.{IsUndotted}
+use Rattle.map_defs.proofs.Unchanged.{changed_none}
 use Rattle.layer_tiles.specs.Changes.{same_change, constant_change}
 use Rattle.layer_tiles.specs.Layers.{LayerState, IsLayer, layer_of}
 use Rattle.layer_tiles.specs.Tiles.{tiles_in}
@@ -26,7 +27,6 @@ use Rattle.map_waves.specs.Bases.{source_by}
 use Rattle.map_waves.specs.Operands.{IsOperand}
 use Rattle.map_waves.specs.declared.plans.Shift.{Shift}
 use Rattle.map_waves.specs.declared.plans.Shift.TheVariants.{Nothing, Loaded}
-use Rattle.map_defs.proofs.Unchanged.{changed_none}
 use Rattle.map_waves.proofs.Making.{all_get}
 use Rattle.edit_plans.specs.PlansFor.{IsChangeOf}
 use Rattle.edit_plans.proofs.Positions.{some_position, position_at, any_at_place}
@@ -42,22 +42,17 @@ use Rattle.kept_map.proofs.Naming.{source_def}
 
 -- ---- names that stand apart
 
-all_at : (P : Name → Type 0) (ks : List Name) (i : ℕ) (n : Name) → AllByRecursion P ks → slice_get ks i ≡ Some n → P n
-all_at P [] i n all e = absurd (none-some n e)
-all_at P (k ∷ ks) zero n all e = subst P (same_Some k n e) all.0
-all_at P (k ∷ ks) (suc i) n all e = all_at P ks i n all.1 e
+no_place_later : (ks : List Name) → IsDistinct bytes_eq ks → (i j : ℕ) (n : Name) → slice_get ks i ≡ Some n → slice_get ks j ≡ Some n → i < j → ⊥
+no_place_later ks distinct i j n a b below =
+    let apart : bytes_eq (get_or ks i []) (get_or ks j []) ≡ false = apart_from_distinct bytes_eq ks i j [] distinct below (slice_get_within ks j n b) in
+    true≢false (sym (bytes_eq-self n) ∙ ap (λ q. bytes_eq q n) (sym (get_or_from_slice_get ks i n [] a)) ∙ ap (bytes_eq (get_or ks i [])) (sym (get_or_from_slice_get ks j n [] b)) ∙ apart)
 
 -- a name stands at one place
 pub one_place : (ks : List Name) → IsDistinct bytes_eq ks → (i j : ℕ) (n : Name) → slice_get ks i ≡ Some n → slice_get ks j ≡ Some n → i ≡ j
-one_place [] distinct i j n a b = absurd (none-some n a)
-one_place (k ∷ ks) distinct zero zero n a b = refl
-one_place (k ∷ ks) distinct zero (suc j) n a b =
-    let apart : bytes_eq k n ≡ false = all_at (λ y. bytes_eq k y ≡ false) ks j n (IsDistinct-head bytes_eq k ks distinct) b in
-    absurd (true≢false (sym (bytes_eq-self k) ∙ ap (bytes_eq k) (same_Some k n a) ∙ apart))
-one_place (k ∷ ks) distinct (suc i) zero n a b =
-    let apart : bytes_eq k n ≡ false = all_at (λ y. bytes_eq k y ≡ false) ks i n (IsDistinct-head bytes_eq k ks distinct) a in
-    absurd (true≢false (sym (bytes_eq-self k) ∙ ap (bytes_eq k) (same_Some k n b) ∙ apart))
-one_place (k ∷ ks) distinct (suc i) (suc j) n a b = ap suc (one_place ks (IsDistinct-tail bytes_eq k ks distinct) i j n a b)
+one_place ks distinct i j n a b = elim (cases_order i j) [
+  | inl same ↦ same
+  | inr differ ↦ elim differ [ inl below ↦ absurd (no_place_later ks distinct i j n a b below) | inr above ↦ absurd (no_place_later ks distinct j i n b a above) ]
+]
 
 -- and is found there
 pub place_is : (ks : List Name) → IsDistinct bytes_eq ks → (i : ℕ) (n : Name) → slice_get ks i ≡ Some n → position (bytes_eq n) ks ≡ Some i
@@ -164,16 +159,12 @@ module _ (m : KeptMap) (keeps : IsKept m) where
 -- what an edit of a name leaves of the other sources
 module _ (m : KeptMap) (keeps : IsKept m) (t : EngineState) (edited : Name) (change : IsGoodChange (entries_in m) edited t.entries) where
   pub others_left : ((grid : Grid) → find_def (entries_in m) edited ≡ Some (source grid) → find_def t.entries edited ≡ None) → (n : Name) (grid : Grid) → find_def (entries_in m) n ≡ Some (source grid) → IsLeft m keeps t change.good.none_looped n
-  others_left gone n grid def = go (bytes_eq edited (head_of n)) refl
-    where
-      head : head_of n ≡ n
-      head = head_undotted n (undotted (entries_in m) n (source grid) keeps.lawful.groups def)
-
-      go : (b : Bool) → bytes_eq edited (head_of n) ≡ b → IsLeft m keeps t change.good.none_looped n
-      go true same =
-          let at : edited ≡ head_of n = same_name edited (head_of n) same in
-          inl (making_by_head t.entries n change.good.groups change.good.apart ∙ ap (group_making n) (ap (find_def t.entries) (sym at) ∙ gone grid (ap (find_def (entries_in m)) (at ∙ head) ∙ def)))
-      go false differs = inr (change.makings n differs)
+  others_left gone n grid def = elim (cases_Bool (bytes_eq edited (head_of n))) [
+    | inl same ↦ (let at : edited ≡ head_of n = same_name edited (head_of n) same in
+        let head = head_undotted n (undotted (entries_in m) n (source grid) keeps.lawful.groups def) in
+        inl (making_by_head t.entries n change.good.groups change.good.apart ∙ ap (group_making n) (ap (find_def t.entries) (sym at) ∙ gone grid (ap (find_def (entries_in m)) (at ∙ head) ∙ def))))
+    | inr differs ↦ inr (change.makings n differs)
+  ]
 
 -- ---- stamps
 

@@ -1,19 +1,21 @@
 -- The layers of sources by name, and the entries that a map's names are.
-use Rattle.std.proofs.Common.{◌≡◌, ◌≢◌, inl, inr, ℕ, zero, suc, Bool, true, false, cond, not, List, [], ◌∷◌, ◌++◌, length, set, find, position, Option, Some, None, is_some, option_map, slice_get, bytes_eq, refl, sym, ap, ◌∙◌, arith, if◌then◌else◌}
+use Rattle.std.proofs.Common.{◌≡◌, ◌≢◌, inl, inr, ℕ, true, false, List, [], ◌∷◌, ◌++◌, length, set, position, Option, Some, None, is_some, option_map, slice_get, bytes_eq, refl, sym, ap, ◌∙◌, arith, if◌then◌else◌}
 use Rattle.std.specs.Map.{lookup, remove_entry}
 use Rattle.std.specs.Option.{option_or}
 use Rattle.std.specs.Cmp.Lexicographic.{nat_list_eq_equiv}
-use Rattle.std.proofs.lemmas.Bool.{true≢false}
+use Rattle.std.proofs.lemmas.Bool.{true≢false, cases_Bool}
 use Rattle.std.proofs.lemmas.Option.{none-some, same_Some, slice_get_cases}
 use Rattle.std.proofs.lemmas.List.Quantifiers.{position-Some}
+use Rattle.std.proofs.lemmas.Map.Entries.{lookup_head, lookup_tail}
 use Rattle.indexmap.specs.IndexMap.{insert_entry}
 use Rattle.map_nums.specs.Grids.{Size}
 use Rattle.map_defs.specs.Ops.{Name}
 use Rattle.layer_tiles.specs.Layers.{LayerState, IsLayer}
-use Rattle.map_edits.specs.Entries.{source, Entry, find_def, put_entry, drop_entry}
+use Rattle.map_edits.specs.Entries.{source, find_def, put_entry, drop_entry}
 use Rattle.map_edits.specs.EngineStates.{EngineState}
 use Rattle.map_edits.specs.Laws.{IsApart}
-use Rattle.map_edits.proofs.Among.{same_name}
+use Rattle.map_edits.proofs.Among.{same_name, bytes_eq-self}
+use Rattle.map_edits.proofs.PutBack.{drop_none}
 use Rattle.map_waves.proofs.Making.{all_get}
 use Rattle.map_waves.proofs.SetPlaces.{slice_get-set_same, slice_get-set_other}
 use Rattle.edit_plans.proofs.Positions.{position_push, position_at, get_more}
@@ -23,11 +25,15 @@ use Rattle.kept_map.specs.declared.maps.Item.{Item}
 use Rattle.kept_map.specs.declared.maps.Item.TheVariants.{Source}
 use Rattle.kept_map.specs.declared.maps.Sources.{Sources}
 
--- ---- lists
-
 get_last : {X : Type 0} (xs : List X) (x : X) → slice_get (xs ++ x ∷ []) (length xs) ≡ Some x
 get_last [] x = refl
 get_last (y ∷ xs) x = get_last xs x
+
+-- names that differ stand at different places
+pub places_differ : (ks : List Name) (i j : ℕ) (n m : Name) → bytes_eq n m ≡ false → slice_get ks i ≡ Some n → slice_get ks j ≡ Some m → i ≢ j
+places_differ ks i j n m other a b same =
+    let own : n ≡ m = same_Some n m (sym a ∙ ap (slice_get ks) same ∙ b) in
+    true≢false (sym (bytes_eq-self m) ∙ ap (λ q. bytes_eq q m) (sym own) ∙ other)
 
 -- ---- the layer of a source
 
@@ -103,9 +109,7 @@ module _ (old new : Sources) (painted : Name) (i : ℕ) (was l : LayerState) (na
   source_unpainted n other = go (position (bytes_eq n) old.names.keys) refl
     where
       apart : (j : ℕ) → position (bytes_eq n) old.names.keys ≡ Some j → j ≢ i
-      apart j here same =
-          let own : n ≡ painted = same_Some n painted (sym (position_at n old.names.keys j here) ∙ ap (slice_get old.names.keys) same ∙ position_at painted old.names.keys i at) in
-          true≢false (sym (nat_list_eq_equiv.refl painted) ∙ ap (λ m. bytes_eq m painted) (sym own) ∙ other)
+      apart j here = places_differ old.names.keys j i n painted other (position_at n old.names.keys j here) (position_at painted old.names.keys i at)
 
       go : (o : Option ℕ) → position (bytes_eq n) old.names.keys ≡ o → source_in new n ≡ source_in old n
       go None here = source_none new n (same_place n ∙ here) ∙ sym (source_none old n here)
@@ -117,41 +121,27 @@ module _ (old new : Sources) (painted : Name) (i : ℕ) (was l : LayerState) (na
 pub bytes_eq_swaps : (a b : Name) → bytes_eq a b ≡ bytes_eq b a
 bytes_eq_swaps a b = nat_list_eq_equiv.symm a b
 
-none_before : {X Y : Type 0} (f : X → Y) (o : Option X) → option_map f o ≡ None → o ≡ None
-none_before f None e = refl
-none_before f (Some x) e = absurd (none-some (f x) (sym e))
-
--- nothing is dropped where the name isn't there
-drop_absent : (es : List Entry) (n : Name) → find_def es n ≡ None → drop_entry es n ≡ es
-drop_absent [] n none = refl
-drop_absent (e ∷ es) n none = go (bytes_eq e.name n) none (drop_absent es n)
-  where
-    go : (b : Bool) → option_map (λ (x : Entry). x.def) (cond b (Some e) (find (λ (x : Entry). bytes_eq x.name n) es)) ≡ None → (find_def es n ≡ None → drop_entry es n ≡ es)
-        → cond (not b) (e ∷ drop_entry es n) (drop_entry es n) ≡ e ∷ es
-    go true none rest = absurd (none-some e.def (sym none))
-    go false none rest = ap (λ xs. e ∷ xs) (rest none)
+pub map_none : {X Y : Type 0} (f : X → Y) (o : Option X) → option_map f o ≡ None → o ≡ None
+map_none f None e = refl
+map_none f (Some x) e = absurd (none-some (f x) (sym e))
 
 module _ (size : Size) (ls : Name → Option LayerState) where
   pub find_item : (items : List (List ℕ × Item)) (n : Name) → find_def (entries_by size ls items) n ≡ option_map (def_by size (ls n)) (lookup (bytes_eq n) items)
   find_item [] n = refl
-  find_item (e ∷ es) n = rw (bytes_eq_swaps e.0 n) (go (bytes_eq n e.0) refl (find_item es n))
-    where
-      go : (b : Bool) → bytes_eq n e.0 ≡ b → find_def (entries_by size ls es) n ≡ option_map (def_by size (ls n)) (lookup (bytes_eq n) es)
-          → option_map (λ (x : Entry). x.def) (cond b (Some (entry_by size ls e)) (find (λ (x : Entry). bytes_eq x.name n) (entries_by size ls es))) ≡ option_map (def_by size (ls n)) (cond b (Some e.1) (lookup (bytes_eq n) es))
-      go true h rest = ap (λ m. Some (def_by size (ls m) e.1)) (sym (same_name n e.0 h))
-      go false h rest = rest
+  find_item (e ∷ es) n = elim (cases_Bool (bytes_eq n e.0)) [
+    | inl h ↦ rw (bytes_eq_swaps e.0 n, h) (ap (λ m. Some (def_by size (ls m) e.1)) (sym (same_name n e.0 h)))
+    | inr h ↦ rw (bytes_eq_swaps e.0 n, h) (find_item es n)
+  ]
 
   pub entries_insert : (items : List (List ℕ × Item)) (n : Name) (item : Item) → entries_by size ls (insert_entry bytes_eq items n item) ≡ put_entry (entries_by size ls items) n (def_by size (ls n) item)
   entries_insert [] n item = refl
-  entries_insert (e ∷ es) n item = rw (bytes_eq_swaps e.0 n) (go (bytes_eq n e.0) refl (entries_insert es n item))
-    where
-      go : (b : Bool) → bytes_eq n e.0 ≡ b → entries_by size ls (insert_entry bytes_eq es n item) ≡ put_entry (entries_by size ls es) n (def_by size (ls n) item)
-          → entries_by size ls (cond b ((e.0, item) ∷ es) (e ∷ insert_entry bytes_eq es n item)) ≡ cond b (record (entry_by size ls e) { def = def_by size (ls n) item } ∷ entries_by size ls es) (entry_by size ls e ∷ put_entry (entries_by size ls es) n (def_by size (ls n) item))
-      go true h rest = ap (λ m. record { name = e.0; def = def_by size (ls m) item } ∷ entries_by size ls es) (sym (same_name n e.0 h))
-      go false h rest = ap (λ xs. entry_by size ls e ∷ xs) rest
+  entries_insert (e ∷ es) n item = elim (cases_Bool (bytes_eq n e.0)) [
+    | inl h ↦ rw (bytes_eq_swaps e.0 n, h) (ap (λ m. record { name = e.0; def = def_by size (ls m) item } ∷ entries_by size ls es) (sym (same_name n e.0 h)))
+    | inr h ↦ rw (bytes_eq_swaps e.0 n, h) (ap (λ xs. entry_by size ls e ∷ xs) (entries_insert es n item))
+  ]
 
   item_none : (items : List (List ℕ × Item)) (n : Name) → find_def (entries_by size ls items) n ≡ None → lookup (bytes_eq n) items ≡ None
-  item_none items n e = none_before (def_by size (ls n)) (lookup (bytes_eq n) items) (sym (find_item items n) ∙ e)
+  item_none items n e = map_none (def_by size (ls n)) (lookup (bytes_eq n) items) (sym (find_item items n) ∙ e)
 
   -- other layers of one name
   module _ (ks : Name → Option LayerState) (n : Name) (same : (m : Name) → bytes_eq n m ≡ false → ks m ≡ ls m) where
@@ -160,12 +150,10 @@ module _ (size : Size) (ls : Name → Option LayerState) where
 
     pub entries_elsewhere : (items : List (List ℕ × Item)) → lookup (bytes_eq n) items ≡ None → entries_by size ks items ≡ entries_by size ls items
     entries_elsewhere [] none = refl
-    entries_elsewhere (e ∷ es) none = go (bytes_eq n e.0) refl none (entries_elsewhere es)
-      where
-        go : (b : Bool) → bytes_eq n e.0 ≡ b → cond b (Some e.1) (lookup (bytes_eq n) es) ≡ None → (lookup (bytes_eq n) es ≡ None → entries_by size ks es ≡ entries_by size ls es)
-            → entry_by size ks e ∷ entries_by size ks es ≡ entry_by size ls e ∷ entries_by size ls es
-        go true h none rest = absurd (none-some e.1 (sym none))
-        go false h none rest = ap (λ x. x ∷ entries_by size ks es) (entry_elsewhere e h) ∙ ap (λ xs. entry_by size ls e ∷ xs) (rest none)
+    entries_elsewhere (e ∷ es) none = elim (cases_Bool (bytes_eq n e.0)) [
+      | inl h ↦ absurd (none-some e.1 (sym none ∙ lookup_head (bytes_eq n) e es h))
+      | inr h ↦ ap (λ x. x ∷ entries_by size ks es) (entry_elsewhere e h) ∙ ap (λ xs. entry_by size ls e ∷ xs) (entries_elsewhere es (sym (lookup_tail (bytes_eq n) e es h) ∙ none))
+    ]
 
     after_named : (e : List ℕ × Item) (es : List (List ℕ × Item)) → IsApart (entries_by size ls (e ∷ es)) → bytes_eq n e.0 ≡ true → lookup (bytes_eq n) es ≡ None
     after_named e es apart h = item_none es n (ap (find_def (entries_by size ls es)) (same_name n e.0 h) ∙ apart.0)
@@ -173,22 +161,22 @@ module _ (size : Size) (ls : Name → Option LayerState) where
     -- a source is painted
     pub entries_painted : (items : List (List ℕ × Item)) → IsApart (entries_by size ls items) → lookup (bytes_eq n) items ≡ Some Source → entries_by size ks items ≡ put_entry (entries_by size ls items) n (source (source_grid size (ks n)))
     entries_painted [] apart there = absurd (none-some Source there)
-    entries_painted (e ∷ es) apart there = rw (bytes_eq_swaps e.0 n) (go (bytes_eq n e.0) refl there (entries_painted es apart.1))
-      where
-        go : (b : Bool) → bytes_eq n e.0 ≡ b → cond b (Some e.1) (lookup (bytes_eq n) es) ≡ Some Source
-            → (lookup (bytes_eq n) es ≡ Some Source → entries_by size ks es ≡ put_entry (entries_by size ls es) n (source (source_grid size (ks n))))
-            → entry_by size ks e ∷ entries_by size ks es ≡ cond b (record (entry_by size ls e) { def = source (source_grid size (ks n)) } ∷ entries_by size ls es) (entry_by size ls e ∷ put_entry (entries_by size ls es) n (source (source_grid size (ks n))))
-        go true h there rest =
-            ap (λ i. record { name = e.0; def = def_by size (ks e.0) i } ∷ entries_by size ks es) (same_Some e.1 Source there)
-            ∙ ap (λ m. record { name = e.0; def = source (source_grid size (ks m)) } ∷ entries_by size ks es) (sym (same_name n e.0 h))
-            ∙ ap (λ xs. record { name = e.0; def = source (source_grid size (ks n)) } ∷ xs) (entries_elsewhere es (after_named e es apart h))
-        go false h there rest = ap (λ x. x ∷ entries_by size ks es) (entry_elsewhere e h) ∙ ap (λ xs. entry_by size ls e ∷ xs) (rest there)
+    entries_painted (e ∷ es) apart there = elim (cases_Bool (bytes_eq n e.0)) [
+      | inl h ↦ rw (bytes_eq_swaps e.0 n, h) (
+          ap (λ i. record { name = e.0; def = def_by size (ks e.0) i } ∷ entries_by size ks es) (same_Some e.1 Source (sym (lookup_head (bytes_eq n) e es h) ∙ there))
+          ∙ ap (λ m. record { name = e.0; def = source (source_grid size (ks m)) } ∷ entries_by size ks es) (sym (same_name n e.0 h))
+          ∙ ap (λ xs. record { name = e.0; def = source (source_grid size (ks n)) } ∷ xs) (entries_elsewhere es (after_named e es apart h)))
+      | inr h ↦ rw (bytes_eq_swaps e.0 n, h) (
+          ap (λ x. x ∷ entries_by size ks es) (entry_elsewhere e h)
+          ∙ ap (λ xs. entry_by size ls e ∷ xs) (entries_painted es apart.1 (sym (lookup_tail (bytes_eq n) e es h) ∙ there)))
+    ]
 
     pub entries_remove : (items : List (List ℕ × Item)) → IsApart (entries_by size ls items) → entries_by size ks (remove_entry (bytes_eq n) items) ≡ drop_entry (entries_by size ls items) n
     entries_remove [] apart = refl
-    entries_remove (e ∷ es) apart = rw (bytes_eq_swaps e.0 n) (go (bytes_eq n e.0) refl (entries_remove es apart.1))
-      where
-        go : (b : Bool) → bytes_eq n e.0 ≡ b → entries_by size ks (remove_entry (bytes_eq n) es) ≡ drop_entry (entries_by size ls es) n
-            → entries_by size ks (cond b es (e ∷ remove_entry (bytes_eq n) es)) ≡ cond (not b) (entry_by size ls e ∷ drop_entry (entries_by size ls es) n) (drop_entry (entries_by size ls es) n)
-        go true h rest = entries_elsewhere es (after_named e es apart h) ∙ sym (drop_absent (entries_by size ls es) n (ap (find_def (entries_by size ls es)) (same_name n e.0 h) ∙ apart.0))
-        go false h rest = ap (λ x. x ∷ entries_by size ks (remove_entry (bytes_eq n) es)) (entry_elsewhere e h) ∙ ap (λ xs. entry_by size ls e ∷ xs) rest
+    entries_remove (e ∷ es) apart = elim (cases_Bool (bytes_eq n e.0)) [
+      | inl h ↦ rw (bytes_eq_swaps e.0 n, h) (
+          entries_elsewhere es (after_named e es apart h)
+          ∙ sym (drop_none (entries_by size ls es) n (ap (find_def (entries_by size ls es)) (same_name n e.0 h) ∙ apart.0)))
+      | inr h ↦ rw (bytes_eq_swaps e.0 n, h) (
+          ap (λ x. x ∷ entries_by size ks (remove_entry (bytes_eq n) es)) (entry_elsewhere e h) ∙ ap (λ xs. entry_by size ls e ∷ xs) (entries_remove es apart.1))
+    ]

@@ -1,11 +1,13 @@
 -- Names among names.
-use Rattle.std.proofs.Common.{◌≡◌, ℕ, ◌≤◌, max, Bool, true, false, ◌||◌, List, [], ◌∷◌, map, fold, bytes_eq, refl, sym, ap, ◌∙◌, arith}
+use Rattle.std.proofs.Common.{◌≡◌, ℕ, ◌≤◌, max, Bool, true, false, List, [], ◌∷◌, map, fold, bytes_eq, inl, inr, refl, sym, ap, ◌∙◌, arith, Option, Some, None}
 use Rattle.std.specs.List.{list_any}
 use Rattle.std.proofs.Math.Nat.{max-le}
 use Rattle.std.proofs.lemmas.Slice.Eq.{bytes_eq-Decides}
-use Rattle.std.proofs.lemmas.Bool.{false≢true, both_ways, or_left, or_right, false_from_ne_true}
+use Rattle.std.proofs.lemmas.Bool.{false≢true, both_ways, or_cases, or_left, or_right, false_from_ne_true}
+use Rattle.std.proofs.lemmas.Option.{none-some}
 use Rattle.map_defs.specs.Ops.{Name}
 use Rattle.map_edits.specs.Laws.{is_among}
+use Rattle.map_nums.specs.Options.{first_some}
 
 pub same_name : (a b : Name) → bytes_eq a b ≡ true → a ≡ b
 same_name a b h = (bytes_eq-Decides a b).0 h
@@ -17,22 +19,20 @@ bytes_eq-self a = (bytes_eq-Decides a a).1 refl
 
 pub any_at : (f : Name → Bool) (ms : List Name) (m : Name) → is_among m ms ≡ true → f m ≡ true → list_any f ms ≡ true
 any_at f [] m e h = absurd (false≢true e)
-any_at f (x ∷ xs) m e h = go (bytes_eq x m) refl e (λ r. any_at f xs m r h)
-  where
-    go : (b : Bool) → bytes_eq x m ≡ b → (b || is_among m xs) ≡ true → (is_among m xs ≡ true → list_any f xs ≡ true) → (f x || list_any f xs) ≡ true
-    go true same e rest = or_left (f x) (list_any f xs) (ap f (same_name x m same) ∙ h)
-    go false differs e rest = or_right (f x) (list_any f xs) (rest e)
+any_at f (x ∷ xs) m e h = elim (or_cases (bytes_eq x m) (is_among m xs) e) [
+  | inl same ↦ or_left (f x) (list_any f xs) (ap f (same_name x m same) ∙ h)
+  | inr later ↦ or_right (f x) (list_any f xs) (any_at f xs m later h)
+]
 
 abbrev IsFound : (Name → Bool) → List Name → Type 0
 IsFound f ms = (m : Name) × (is_among m ms ≡ true) × (f m ≡ true)
 
 pub any_found : (f : Name → Bool) (ms : List Name) → list_any f ms ≡ true → IsFound f ms
 any_found f [] e = absurd (false≢true e)
-any_found f (x ∷ xs) e = go (f x) refl e (any_found f xs)
-  where
-    go : (b : Bool) → f x ≡ b → (b || list_any f xs) ≡ true → (list_any f xs ≡ true → IsFound f xs) → IsFound f (x ∷ xs)
-    go true h e rest = (x, or_left (bytes_eq x x) (is_among x xs) (bytes_eq-self x), h)
-    go false h e rest = let r = rest e in (r.0, or_right (bytes_eq x r.0) (is_among r.0 xs) r.1, r.2)
+any_found f (x ∷ xs) e = elim (or_cases (f x) (list_any f xs) e) [
+  | inl h ↦ (x, or_left (bytes_eq x x) (is_among x xs) (bytes_eq-self x), h)
+  | inr later ↦ let r = any_found f xs later in (r.0, or_right (bytes_eq x r.0) (is_among r.0 xs) r.1, r.2)
+]
 
 pub none_at : (f : Name → Bool) (ms : List Name) (m : Name) → is_among m ms ≡ true → list_any f ms ≡ false → f m ≡ false
 none_at f ms m a e = false_from_ne_true (f m) (λ h. both_ways (list_any f ms) e (any_at f ms m a h))
@@ -66,11 +66,10 @@ fold_max_from f d (x ∷ xs) = let rest = fold_max_from f (max d (f x)) xs in om
 
 pub fold_max_at : (f : Name → ℕ) (d : ℕ) (ms : List Name) (m : Name) → is_among m ms ≡ true → f m ≤ fold (λ a m. max a (f m)) d ms
 fold_max_at f d [] m a = absurd (false≢true a)
-fold_max_at f d (x ∷ xs) m a = go (bytes_eq x m) refl a (fold_max_at f (max d (f x)) xs m)
-  where
-    go : (b : Bool) → bytes_eq x m ≡ b → (b || is_among m xs) ≡ true → (is_among m xs ≡ true → f m ≤ fold (λ a m. max a (f m)) (max d (f x)) xs) → f m ≤ fold (λ a m. max a (f m)) (max d (f x)) xs
-    go true same e rest = let named : f x ≡ f m = ap f (same_name x m same) in let from = fold_max_from f (max d (f x)) xs in omega arith
-    go false differs e rest = rest e
+fold_max_at f d (x ∷ xs) m a = elim (or_cases (bytes_eq x m) (is_among m xs) a) [
+  | inl same ↦ let named : f x ≡ f m = ap f (same_name x m same) in let from = fold_max_from f (max d (f x)) xs in omega arith
+  | inr later ↦ fold_max_at f (max d (f x)) xs m later
+]
 
 pub fold_max_agree : (f g : Name → ℕ) (d : ℕ) (ms : List Name) → ((m : Name) → is_among m ms ≡ true → f m ≡ g m) → fold (λ a m. max a (f m)) d ms ≡ fold (λ a m. max a (g m)) d ms
 fold_max_agree f g d [] same = refl
@@ -80,3 +79,13 @@ fold_max_agree f g d (x ∷ xs) same =
 
 pub bytes_eq-turned : (a b : Name) → bytes_eq a b ≡ false → bytes_eq b a ≡ false
 bytes_eq-turned a b h = false_from_ne_true (bytes_eq b a) (λ e. both_ways (bytes_eq a b) h ((bytes_eq-Decides a b).1 (sym (same_name b a e))))
+
+-- ---- where none of a list has something, what is named in it hasn't
+
+pub none_of_named : {X Y : Type 0} (name : X → Name) (f : Name → Option Y) (n : Name) (xs : List X) → first_some (map (λ x. f (name x)) xs) ≡ None → list_any (λ x. bytes_eq (name x) n) xs ≡ true → f n ≡ None
+none_of_named name f n [] none named = absurd (false≢true named)
+none_of_named {X} {Y} name f n (x ∷ xs) none named = go (f (name x)) refl none (none_of_named name f n xs)
+  where
+    go : (o : Option Y) → f (name x) ≡ o → first_some (o ∷ map (λ y. f (name y)) xs) ≡ None → (first_some (map (λ y. f (name y)) xs) ≡ None → list_any (λ y. bytes_eq (name y) n) xs ≡ true → f n ≡ None) → f n ≡ None
+    go (Some y) is none rest = absurd (none-some y (sym none))
+    go None is none rest = elim (or_cases (bytes_eq (name x) n) (list_any (λ y. bytes_eq (name y) n) xs) named) [ inl same ↦ ap f (sym (same_name (name x) n same)) ∙ is | inr later ↦ rest none later ]

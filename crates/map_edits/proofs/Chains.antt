@@ -1,12 +1,12 @@
 -- Without a cycle each chain of names, each needed by the one before, ends: it visits new nodes all along, so it is no longer than there are nodes.
-use Rattle.std.proofs.Common.{◌≡◌, ℕ, zero, suc, ◌+◌, ◌<◌, ◌≤◌, max, Bool, true, false, cond, ◌||◌, List, [], ◌∷◌, fold, length, Option, Some, None, bytes_eq, ◌⊎◌, refl, sym, ap, subst, ◌∙◌, arith, inl, inr}
+use Rattle.std.proofs.Common.{◌≡◌, ℕ, zero, suc, ◌+◌, ◌<◌, ◌≤◌, max, Bool, true, false, cond, List, [], ◌∷◌, fold, length, Option, Some, None, bytes_eq, ◌⊎◌, refl, sym, ap, subst, ◌∙◌, arith, inl, inr}
 use Rattle.std.specs.List.{list_any}
-use Rattle.std.proofs.lemmas.Bool.{true≢false, false≢true, both_ways, or_cases, or_left, or_right, false_from_ne_true}
+use Rattle.std.proofs.lemmas.Bool.{true≢false, false≢true, both_ways, or_cases, or_left, or_right, false_from_ne_true, cases_Bool}
 use Rattle.map_defs.specs.Ops.{Name}
 use Rattle.map_defs.specs.Nodes.{Node, find_node, needs_in}
 use Rattle.map_defs.specs.Depths.{depth_within, reaches, is_looped}
 use Rattle.map_edits.specs.Laws.{is_among, HasNoCycle}
-use Rattle.map_edits.proofs.Among.{same_name, bytes_eq-self, any_at, any_found, none_at, any_more, fold_max_le, fold_max_at}
+use Rattle.map_edits.proofs.Among.{same_name, bytes_eq-self, bytes_eq-turned, any_at, any_found, none_at, any_more, fold_max_le, fold_max_at}
 
 -- ---- what is reached
 
@@ -15,24 +15,22 @@ pub reaches_then : (j : ℕ) (nodes : List Node) (n m : Name) → is_among m (ne
 reaches_then zero nodes n m a t e =
     let here : is_among m (needs_in nodes t) ≡ true = subst (λ q. is_among m (needs_in nodes q) ≡ true) (sym (same_name t n e)) a in
     or_right (bytes_eq t m) (list_any (reaches zero nodes m) (needs_in nodes t)) (any_at (reaches zero nodes m) (needs_in nodes t) m here (bytes_eq-self m))
-reaches_then (suc j) nodes n m a t e = go (or_cases (bytes_eq t n) (list_any (reaches j nodes n) (needs_in nodes t)) e) (reaches_then j nodes n m a)
-  where
-    go : (bytes_eq t n ≡ true) ⊎ (list_any (reaches j nodes n) (needs_in nodes t) ≡ true) → ((q : Name) → reaches j nodes n q ≡ true → reaches (suc j) nodes m q ≡ true) → reaches (suc (suc j)) nodes m t ≡ true
-    go (inl h) rest =
-        let here : is_among m (needs_in nodes t) ≡ true = subst (λ q. is_among m (needs_in nodes q) ≡ true) (sym (same_name t n h)) a in
-        or_right (bytes_eq t m) (list_any (reaches (suc j) nodes m) (needs_in nodes t)) (any_at (reaches (suc j) nodes m) (needs_in nodes t) m here (or_left (bytes_eq m m) (list_any (reaches j nodes m) (needs_in nodes m)) (bytes_eq-self m)))
-    go (inr h) rest = or_right (bytes_eq t m) (list_any (reaches (suc j) nodes m) (needs_in nodes t)) (any_more (reaches j nodes n) (reaches (suc j) nodes m) (needs_in nodes t) rest h)
+reaches_then (suc j) nodes n m a t e = elim (or_cases (bytes_eq t n) (list_any (reaches j nodes n) (needs_in nodes t)) e) [
+  | inl h ↦
+      let here : is_among m (needs_in nodes t) ≡ true = subst (λ q. is_among m (needs_in nodes q) ≡ true) (sym (same_name t n h)) a in
+      or_right (bytes_eq t m) (list_any (reaches (suc j) nodes m) (needs_in nodes t)) (any_at (reaches (suc j) nodes m) (needs_in nodes t) m here (or_left (bytes_eq m m) (list_any (reaches j nodes m) (needs_in nodes m)) (bytes_eq-self m)))
+  | inr h ↦ or_right (bytes_eq t m) (list_any (reaches (suc j) nodes m) (needs_in nodes t)) (any_more (reaches j nodes n) (reaches (suc j) nodes m) (needs_in nodes t) (reaches_then j nodes n m a) h)
+]
 
 -- in more steps no less is reached
 pub reaches_up : (j k : ℕ) (nodes : List Node) (n : Name) → j ≤ k → (t : Name) → reaches j nodes n t ≡ true → reaches k nodes n t ≡ true
 reaches_up zero zero nodes n h t e = e
 reaches_up zero (suc k) nodes n h t e = or_left (bytes_eq t n) (list_any (reaches k nodes n) (needs_in nodes t)) e
 reaches_up (suc j) zero nodes n h t e = absurd (omega arith)
-reaches_up (suc j) (suc k) nodes n h t e = go (or_cases (bytes_eq t n) (list_any (reaches j nodes n) (needs_in nodes t)) e) (reaches_up j k nodes n (omega arith))
-  where
-    go : (bytes_eq t n ≡ true) ⊎ (list_any (reaches j nodes n) (needs_in nodes t) ≡ true) → ((q : Name) → reaches j nodes n q ≡ true → reaches k nodes n q ≡ true) → reaches (suc k) nodes n t ≡ true
-    go (inl same) rest = or_left (bytes_eq t n) (list_any (reaches k nodes n) (needs_in nodes t)) same
-    go (inr later) rest = or_right (bytes_eq t n) (list_any (reaches k nodes n) (needs_in nodes t)) (any_more (reaches j nodes n) (reaches k nodes n) (needs_in nodes t) rest later)
+reaches_up (suc j) (suc k) nodes n h t e = elim (or_cases (bytes_eq t n) (list_any (reaches j nodes n) (needs_in nodes t)) e) [
+  | inl same ↦ or_left (bytes_eq t n) (list_any (reaches k nodes n) (needs_in nodes t)) same
+  | inr later ↦ or_right (bytes_eq t n) (list_any (reaches k nodes n) (needs_in nodes t)) (any_more (reaches j nodes n) (reaches k nodes n) (needs_in nodes t) (reaches_up j k nodes n (omega arith)) later)
+]
 
 -- ---- how many nodes weren't visited
 
@@ -44,40 +42,22 @@ unseen_all : (nodes : List Node) → unseen [] nodes ≤ length nodes
 unseen_all [] = omega arith
 unseen_all (x ∷ xs) = let rest = unseen_all xs in omega arith
 
-counts_le : (b : Bool) (x y : ℕ) → x ≤ y → cond b 0 1 + x ≤ cond b 0 1 + y
-counts_le true x y h = omega arith
-counts_le false x y h = omega arith
-
-counts_lt : (b : Bool) (x y : ℕ) → x < y → cond b 0 1 + x < cond b 0 1 + y
-counts_lt true x y h = omega arith
-counts_lt false x y h = omega arith
-
 unseen_le : (n : Name) (seen : List Name) (nodes : List Node) → unseen (n ∷ seen) nodes ≤ unseen seen nodes
 unseen_le n seen [] = omega arith
-unseen_le n seen (x ∷ xs) = go (bytes_eq n x.name) (unseen_le n seen xs)
-  where
-    go : (b : Bool) → unseen (n ∷ seen) xs ≤ unseen seen xs → cond (b || is_among x.name seen) 0 1 + unseen (n ∷ seen) xs ≤ cond (is_among x.name seen) 0 1 + unseen seen xs
-    go true h = omega arith
-    go false h = counts_le (is_among x.name seen) (unseen (n ∷ seen) xs) (unseen seen xs) h
+unseen_le n seen (x ∷ xs) = let rest = unseen_le n seen xs in elim (cases_Bool (bytes_eq n x.name)) [ inl h ↦ rw h (omega arith) | inr h ↦ rw h (omega arith) ]
 
 -- a visit to a node that wasn't visited leaves fewer
 unseen_lt : (n : Name) (seen : List Name) (nodes : List Node) (node : Node) → find_node nodes n ≡ Some node → is_among n seen ≡ false → unseen (n ∷ seen) nodes < unseen seen nodes
 unseen_lt n seen [] node e new = absurd cc
-unseen_lt n seen (x ∷ xs) node e new = go (bytes_eq x.name n) refl e (λ r. unseen_lt n seen xs node r new)
-  where
-    later : (b : Bool) → unseen (n ∷ seen) xs < unseen seen xs → cond (b || is_among x.name seen) 0 1 + unseen (n ∷ seen) xs < cond (is_among x.name seen) 0 1 + unseen seen xs
-    later true h = omega arith
-    later false h = counts_lt (is_among x.name seen) (unseen (n ∷ seen) xs) (unseen seen xs) h
-
-    go : (b : Bool) → bytes_eq x.name n ≡ b → cond b (Some x) (find_node xs n) ≡ Some node → (find_node xs n ≡ Some node → unseen (n ∷ seen) xs < unseen seen xs)
-        → cond (bytes_eq n x.name || is_among x.name seen) 0 1 + unseen (n ∷ seen) xs < cond (is_among x.name seen) 0 1 + unseen seen xs
-    go true same found rest =
-        let named : x.name ≡ n = same_name x.name n same in
-        let before : is_among x.name seen ≡ false = ap (λ q. is_among q seen) named ∙ new in
-        let now : bytes_eq n x.name ≡ true = ap (bytes_eq n) named ∙ bytes_eq-self n in
-        let le = unseen_le n seen xs in
-        rw (before, now) (omega arith)
-    go false differs found rest = later (bytes_eq n x.name) (rest found)
+unseen_lt n seen (x ∷ xs) node e new = elim (cases_Bool (bytes_eq x.name n)) [
+  | inl same ↦
+      let named : x.name ≡ n = same_name x.name n same in
+      let before : is_among x.name seen ≡ false = ap (λ q. is_among q seen) named ∙ new in
+      let now : bytes_eq n x.name ≡ true = ap (bytes_eq n) named ∙ bytes_eq-self n in
+      let le = unseen_le n seen xs in
+      rw (before, now) (omega arith)
+  | inr differs ↦ let rest = unseen_lt n seen xs node (rw differs at e) new in rw (bytes_eq-turned x.name n differs) (omega arith)
+]
 
 -- ---- a trail: the names visited, each of which reaches the name where it stands
 
@@ -170,11 +150,10 @@ goes_on_less (suc k) nodes n e = any_more (goes_on (suc k) nodes) (goes_on k nod
 -- a chain goes on from what reaches a name from which one does
 reached_goes_on : (j k : ℕ) (nodes : List Node) (n : Name) → goes_on k nodes n ≡ true → (t : Name) → reaches j nodes n t ≡ true → goes_on k nodes t ≡ true
 reached_goes_on zero k nodes n g t e = ap (goes_on k nodes) (same_name t n e) ∙ g
-reached_goes_on (suc j) k nodes n g t e = go (or_cases (bytes_eq t n) (list_any (reaches j nodes n) (needs_in nodes t)) e) (reached_goes_on j k nodes n g)
-  where
-    go : (bytes_eq t n ≡ true) ⊎ (list_any (reaches j nodes n) (needs_in nodes t) ≡ true) → ((q : Name) → reaches j nodes n q ≡ true → goes_on k nodes q ≡ true) → goes_on k nodes t ≡ true
-    go (inl h) rest = ap (goes_on k nodes) (same_name t n h) ∙ g
-    go (inr h) rest = goes_on_less k nodes t (any_more (reaches j nodes n) (goes_on k nodes) (needs_in nodes t) rest h)
+reached_goes_on (suc j) k nodes n g t e = elim (or_cases (bytes_eq t n) (list_any (reaches j nodes n) (needs_in nodes t)) e) [
+  | inl h ↦ ap (goes_on k nodes) (same_name t n h) ∙ g
+  | inr h ↦ goes_on_less k nodes t (any_more (reaches j nodes n) (goes_on k nodes) (needs_in nodes t) (reached_goes_on j k nodes n g) h)
+]
 
 -- round a cycle a chain goes on for ever
 looped_goes_on : (k : ℕ) (nodes : List Node) (n : Name) → is_looped nodes n ≡ true → goes_on k nodes n ≡ true

@@ -1,39 +1,30 @@
 -- What a refused edit may read is what it might read if it had no fault, cut at a depth.
-use Rattle.std.proofs.Common.{◌≡◌, ℕ, ◌≤◌, Bool, true, false, cond, nat_le, List, [], ◌∷◌, length, filter, sum_by, Option, Some, None, Result, Ok, Err, refl, sym, ap, subst, arith}
-use Rattle.std.proofs.lemmas.Bool.{false≢true, le-leb}
+use Rattle.std.proofs.Common.{◌≡◌, ℕ, ◌≤◌, Bool, true, nat_le, List, [], ◌∷◌, length, filter, sum_by, Option, Some, None, inl, inr, refl, sym, ap, subst, ◌∙◌, arith}
+use Rattle.std.proofs.lemmas.Bool.{le-leb, cases_Bool}
 use Rattle.std.proofs.lemmas.List.Sums.{sum_by-cons}
 use Rattle.map_defs.specs.Depths.{depth_in}
 use Rattle.map_edits.specs.LayerDefs.{LayerDef, layers, nodes_of}
 use Rattle.map_edits.specs.EngineStates.{EngineState}
 use Rattle.map_edits.specs.Faults.{Fault}
-use Rattle.map_edits.specs.Refusals.{Refusal}
-use Rattle.map_edits.specs.WholeStates.{WholeState}
-use Rattle.map_edits.specs.WholeEdits.{WholeEdit}
-use Rattle.map_edits.specs.Attempts.{attempted}
 use Rattle.map_edits.specs.Touches.{Touch, touch_of}
 use Rattle.map_edits.specs.EditCounts.{Counts, defined_layers, counts_over, counts_of}
 use Rattle.map_edits.specs.LayerChanges.{damage_of, work_of}
-use Rattle.map_edits.specs.Counted.{Accepted, fault_after, done, unless_fault, of_attempt, accept_counted}
+use Rattle.map_edits.specs.Counted.{Accepted, fault_after}
 use Rattle.map_edits.specs.Allowances.{Reads, reads_for, faulty_name, layers_to, counts_to, reads_of_attempt, edit_reads}
 use Rattle.map_edits.specs.CountLaws.{NoneIsDeeper, IsWithin, AcceptedReads, FaultReads, OtherReads}
+use Rattle.map_edits.proofs.LawfulEdits.{done_is}
 use Rattle.map_edits.proofs.Unfolds.{depth_in_le_nodes}
 use Rattle.map_edits.proofs.Looks.{length-nodes}
 
-filter_all : {X : Type 0} (p : X → Bool) → ((x : X) → p x ≡ true) → (xs : List X) → filter p xs ≡ xs
+pub filter_all : {X : Type 0} (p : X → Bool) → ((x : X) → p x ≡ true) → (xs : List X) → filter p xs ≡ xs
 filter_all p all [] = refl
-filter_all {X} p all (x ∷ xs) = go (p x) (all x) (filter_all p all xs)
-  where
-    go : (b : Bool) → b ≡ true → filter p xs ≡ xs → cond b (x ∷ filter p xs) (filter p xs) ≡ x ∷ xs
-    go true e rest = ap (λ ys. x ∷ ys) rest
-    go false e rest = absurd (false≢true e)
+filter_all p all (x ∷ xs) = rw (all x) (ap (λ ys. x ∷ ys) (filter_all p all xs))
 
 sum_fewer : {X : Type 0} (f : X → ℕ) (p : X → Bool) (xs : List X) → sum_by f (filter p xs) ≤ sum_by f xs
 sum_fewer f p [] = omega arith
-sum_fewer {X} f p (x ∷ xs) = go (p x) (sum_fewer f p xs)
-  where
-    go : (b : Bool) → sum_by f (filter p xs) ≤ sum_by f xs → sum_by f (cond b (x ∷ filter p xs) (filter p xs)) ≤ sum_by f (x ∷ xs)
-    go true rest = let a = sum_by-cons f x (filter p xs) in let b = sum_by-cons f x xs in omega arith
-    go false rest = let b = sum_by-cons f x xs in omega arith
+sum_fewer f p (x ∷ xs) =
+    let kept = sum_by-cons f x (filter p xs) in let all = sum_by-cons f x xs in let rest = sum_fewer f p xs in
+    elim (cases_Bool (p x)) [ inl h ↦ rw h (omega arith) | inr h ↦ rw h (omega arith) ]
 
 pub none_is_deeper : NoneIsDeeper
 none_is_deeper t none =
@@ -64,15 +55,8 @@ pub other_reads : OtherReads
 unfolding edit_reads
 other_reads s e r is = ap (reads_of_attempt s e) is
 
-module _ (s : WholeState) (e : WholeEdit) (a : Accepted) where
-  by_fault : (t : WholeState) (o : Option Fault) → unless_fault (touch_of e) s t o ≡ Ok a → reads_for (counts_to (touch_of e) s.names t.names o) ≡ reads_for a.counts
-  by_fault t None is = let same : done (touch_of e) s t ≡ a = cc in ap (λ (b : Accepted). reads_for b.counts) same
-  by_fault t (Some f) is = absurd cc
-
-  by_attempt : (r : Result WholeState Refusal) → of_attempt s e r ≡ Ok a → reads_of_attempt s e r ≡ reads_for a.counts
-  by_attempt (Err r) is = absurd cc
-  by_attempt (Ok t) is = by_fault t (fault_after e t) is
-
 pub accepted_reads : AcceptedReads
-unfolding accept_counted edit_reads
-accepted_reads s e a is = by_attempt s e a (attempted s e) is
+unfolding edit_reads
+accepted_reads s e a is =
+    let r = done_is s e a is in
+    ap (reads_of_attempt s e) r.is ∙ ap (λ o. reads_for (counts_to (touch_of e) s.names r.state.names o)) r.faultless ∙ ap (λ (b : Accepted). reads_for b.counts) r.same

@@ -10,12 +10,8 @@ use Rattle.map_edits.specs.EngineStates.{EngineState, all_some, term_cells, made
 use Rattle.map_edits.specs.Laws.{is_among, HasNoCycle}
 use Rattle.map_edits.proofs.Among.{bytes_eq-self, none_at}
 use Rattle.map_edits.proofs.Chains.{goes_on, chains_end}
-use Rattle.map_edits.proofs.Looks.{making_needs, needs_in-layers, is_some-layers}
+use Rattle.map_edits.proofs.Looks.{making_needs, needs_in-layers, is_some-option_map, is_some-layers}
 use Rattle.map_edits.proofs.Unfolds.{lacks_unfolds, value_unfolds}
-
-is_some-option_map : {X Y : Type 0} (f : X → Y) (o : Option X) → is_some (option_map f o) ≡ is_some o
-is_some-option_map f None = refl
-is_some-option_map f (Some x) = refl
 
 -- whether all cells are there, with one list more in front
 all_some-cons : (o : Option Cells) (os : List (Option Cells)) → is_some (all_some (o ∷ os)) ≡ cond (is_some o) (is_some (all_some os)) false

@@ -1,14 +1,16 @@
--- By depth each name is listed once.
-use Rattle.std.proofs.Common.{◌≡◌, ℕ, zero, suc, ◌+◌, ◌<◌, Bool, true, false, cond, ◌||◌, List, [], ◌∷◌, ◌++◌, filter, length, Some, None, bytes_eq, refl, sym, ap, ◌∙◌, arith}
+-- Where no name stands twice, each node is found by its name, and by depth each is listed once.
+use Rattle.std.proofs.Common.{◌≡◌, ℕ, zero, suc, ◌+◌, ◌<◌, Bool, true, false, List, [], ◌∷◌, ◌++◌, map, filter, length, None, is_some, bytes_eq, refl, sym, ap, ◌∙◌, inl, inr, arith}
 use Rattle.std.specs.Bool.{⊤}
-use Rattle.std.proofs.lemmas.Bool.{or_parts, or_from, false_from_ne_true}
+use Rattle.std.proofs.lemmas.Bool.{or_parts, or_from, false_from_ne_true, cases_Bool}
 use Rattle.std.proofs.lemmas.List.Folds.{list_any-append}
 use Rattle.map_defs.specs.Ops.{Name}
+use Rattle.map_defs.specs.FlatNames.{IsIn, AreApart}
 use Rattle.map_defs.specs.Nodes.{Node, find_node}
 use Rattle.map_defs.specs.Depths.{depth_in, by_depth}
 use Rattle.map_edits.specs.Laws.{is_named_in}
 use Rattle.map_edits.proofs.Among.{same_name, bytes_eq-turned}
-use Rattle.map_edits.proofs.Listed.{Each}
+use Rattle.map_edits.proofs.Looks.{none_there}
+use Rattle.map_edits.proofs.Listed.{Each, IsFoundIn, one_more, IsListed, found_listed}
 use Rattle.map_edits.proofs.Order.{AllFrom, AllAt, none_from, filter_at, ranked, ranked_from, depth_at, is_flat_at, flat_at}
 
 -- no name stands twice
@@ -16,36 +18,44 @@ abbrev pub IsOnce : List Node → Type 0
 IsOnce [] = ⊤
 IsOnce (x ∷ xs) = (is_named_in x.name xs ≡ false) × IsOnce xs
 
--- ---- nodes
+-- ---- what is found, and what is named
+
+pub find_named : (xs : List Node) (n : Name) → is_some (find_node xs n) ≡ is_named_in n xs
+find_named [] n = refl
+find_named (x ∷ xs) n = elim (cases_Bool (bytes_eq x.name n)) [ inl h ↦ rw h refl | inr h ↦ rw h (find_named xs n) ]
 
 pub not_found : (xs : List Node) (n : Name) → find_node xs n ≡ None → is_named_in n xs ≡ false
-not_found [] n e = refl
-not_found (x ∷ xs) n e = go (bytes_eq x.name n) refl e (not_found xs n)
-  where
-    go : (b : Bool) → bytes_eq x.name n ≡ b → cond b (Some x) (find_node xs n) ≡ None → (find_node xs n ≡ None → is_named_in n xs ≡ false) → (bytes_eq x.name n || is_named_in n xs) ≡ false
-    go true h e rest = absurd cc
-    go false h e rest = or_from (bytes_eq x.name n) (is_named_in n xs) h (rest e)
+not_found xs n e = sym (find_named xs n) ∙ ap is_some e
+
+-- what isn't there by its name isn't named
+pub not_named : (n : Name) (xs : List Node) → (IsIn n (map (λ (x : Node). x.name) xs) → ⊥) → is_named_in n xs ≡ false
+not_named n [] away = refl
+not_named n (x ∷ xs) away = or_from (bytes_eq x.name n) (is_named_in n xs) (false_from_ne_true (bytes_eq x.name n) (λ same. away (inl (sym (same_name x.name n same))))) (not_named n xs (λ at. away (inr at)))
+
+pub once_apart : (xs : List Node) → AreApart (map (λ (x : Node). x.name) xs) → IsOnce xs
+once_apart [] apart = tt
+once_apart (x ∷ xs) apart = (not_named x.name xs apart.0, once_apart xs apart.1)
+
+-- each is the one that is found by its name
+pub once_found : (xs : List Node) → IsOnce xs → Each (IsFoundIn xs) xs
+once_found [] once = tt
+once_found (x ∷ xs) once = one_more x xs (none_there (find_node xs x.name) (find_named xs x.name ∙ once.0)) (once_found xs once.1)
+
+pub once_listed : (nodes : List Node) → IsOnce nodes → Each (IsListed nodes) (by_depth nodes)
+once_listed nodes once = found_listed nodes (once_found nodes once)
 
 -- ---- parts of a list, and two in a row
 
 named_filter : (p : Node → Bool) (n : Name) (xs : List Node) → is_named_in n xs ≡ false → is_named_in n (filter p xs) ≡ false
 named_filter p n [] e = refl
-named_filter p n (x ∷ xs) e = go (p x) (named_filter p n xs parts.1)
-  where
-    parts : (bytes_eq x.name n ≡ false) × (is_named_in n xs ≡ false)
-    parts = or_parts (bytes_eq x.name n) (is_named_in n xs) e
-
-    go : (b : Bool) → is_named_in n (filter p xs) ≡ false → is_named_in n (cond b (x ∷ filter p xs) (filter p xs)) ≡ false
-    go true rest = or_from (bytes_eq x.name n) (is_named_in n (filter p xs)) parts.0 rest
-    go false rest = rest
+named_filter p n (x ∷ xs) e =
+    let parts = or_parts (bytes_eq x.name n) (is_named_in n xs) e in
+    let rest = named_filter p n xs parts.1 in
+    elim (cases_Bool (p x)) [ inl h ↦ rw h (or_from (bytes_eq x.name n) (is_named_in n (filter p xs)) parts.0 rest) | inr h ↦ rw h rest ]
 
 pub once_filter : (p : Node → Bool) (xs : List Node) → IsOnce xs → IsOnce (filter p xs)
 once_filter p [] once = tt
-once_filter p (x ∷ xs) once = go (p x) (once_filter p xs once.1)
-  where
-    go : (b : Bool) → IsOnce (filter p xs) → IsOnce (cond b (x ∷ filter p xs) (filter p xs))
-    go true rest = (named_filter p x.name xs once.0, rest)
-    go false rest = rest
+once_filter p (x ∷ xs) once = elim (cases_Bool (p x)) [ inl h ↦ rw h (named_filter p x.name xs once.0, once_filter p xs once.1) | inr h ↦ rw h (once_filter p xs once.1) ]
 
 pub once_append : (xs ys : List Node) → IsOnce xs → IsOnce ys → Each (λ x. is_named_in x.name ys ≡ false) xs → IsOnce (xs ++ ys)
 once_append [] ys first rest apart = rest

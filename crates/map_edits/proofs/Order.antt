@@ -1,14 +1,16 @@
 -- In the order by depth each flat statement stands after those that it needs.
-use Rattle.std.proofs.Common.{◌≡◌, ℕ, zero, suc, ◌+◌, ◌<◌, ◌≤◌, Bool, true, false, cond, ◌==◌, ◌&&◌, ◌||◌, List, [], ◌∷◌, ◌++◌, filter, flat_map, length, Some, is_some, bytes_eq, ◌⊎◌, refl, sym, ap, subst, ◌∙◌, arith, inl, inr}
+use Rattle.std.proofs.Common.{◌≡◌, ℕ, zero, suc, ◌+◌, ◌<◌, ◌≤◌, Bool, true, false, cond, ◌==◌, ◌&&◌, List, [], ◌∷◌, ◌++◌, filter, flat_map, length, Some, is_some, bytes_eq, refl, sym, ap, subst, ◌∙◌, arith, inl, inr}
 use Rattle.std.specs.Bool.{⊤}
 use Rattle.std.specs.List.{list_any, range_with_len}
-use Rattle.std.proofs.lemmas.Bool.{false≢true, or_cases, or_left, or_right, and_parts, and_from, eqb-true, eq-eqb, cases_lt}
+use Rattle.std.proofs.lemmas.Bool.{false≢true, or_cases, or_left, or_right, and_parts, and_from, eqb-true, eq-eqb, cases_lt, cases_Bool}
+use Rattle.std.proofs.lemmas.Option.{same_Some}
 use Rattle.std.proofs.lemmas.List.Folds.{list_any-append}
 use Rattle.map_defs.specs.Ops.{Name}
 use Rattle.map_defs.specs.Nodes.{Node, find_node, needs_in}
 use Rattle.map_defs.specs.Depths.{depth_in, by_depth}
 use Rattle.map_edits.specs.Laws.{is_among, is_named_in, HasNoCycle}
 use Rattle.map_edits.proofs.Among.{same_name}
+use Rattle.map_edits.proofs.Listed.{Each, each_more, each_append}
 use Rattle.map_edits.proofs.Looks.{find_node-name}
 use Rattle.map_edits.proofs.Unfolds.{depth_of_flat, depth_in_le_nodes, needed_is_less_deep}
 
@@ -16,24 +18,20 @@ use Rattle.map_edits.proofs.Unfolds.{depth_of_flat, depth_in_le_nodes, needed_is
 
 module _ (rank : Node → ℕ) where
   abbrev pub AllFrom : ℕ → List Node → Type 0
-  AllFrom d [] = ⊤
-  AllFrom d (x ∷ xs) = (d ≤ rank x) × AllFrom d xs
+  AllFrom d xs = Each (λ x. d ≤ rank x) xs
 
   abbrev pub AllAt : ℕ → List Node → Type 0
-  AllAt d [] = ⊤
-  AllAt d (x ∷ xs) = (rank x ≡ d) × AllAt d xs
+  AllAt d xs = Each (λ x. rank x ≡ d) xs
 
-  abbrev IsRising : List Node → Type 0
+  abbrev pub IsRising : List Node → Type 0
   IsRising [] = ⊤
   IsRising (x ∷ xs) = AllFrom (rank x) xs × IsRising xs
 
   pub from_less : (d e : ℕ) (xs : List Node) → d ≤ e → AllFrom e xs → AllFrom d xs
-  from_less d e [] h all = tt
-  from_less d e (x ∷ xs) h all = let first : e ≤ rank x = all.0 in (omega arith, from_less d e xs h all.1)
+  from_less d e xs h all = each_more (λ x. e ≤ rank x) (λ x. d ≤ rank x) (λ x above. omega arith) xs all
 
   from_append : (d : ℕ) (xs ys : List Node) → AllAt d xs → AllFrom d ys → AllFrom d (xs ++ ys)
-  from_append d [] ys at from = from
-  from_append d (x ∷ xs) ys at from = let first : rank x ≡ d = at.0 in (omega arith, from_append d xs ys at.1 from)
+  from_append d xs ys at from = each_append (λ x. d ≤ rank x) xs ys (each_more (λ x. rank x ≡ d) (λ x. d ≤ rank x) (λ x same. omega arith) xs at) from
 
   rising_append : (d : ℕ) (xs ys : List Node) → AllAt d xs → AllFrom d ys → IsRising ys → IsRising (xs ++ ys)
   rising_append d [] ys at from rising = rising
@@ -42,35 +40,28 @@ module _ (rank : Node → ℕ) where
   -- what passes a test that only lower ranks pass is not among the higher
   pub none_from : (q : Node → Bool) (d : ℕ) → ((y : Node) → q y ≡ true → rank y < d) → (xs : List Node) → AllFrom d xs → list_any q xs ≡ true → ⊥
   none_from q d low [] all e = false≢true e
-  none_from q d low (x ∷ xs) all e = go (or_cases (q x) (list_any q xs) e) (none_from q d low xs all.1)
-    where
-      go : (q x ≡ true) ⊎ (list_any q xs ≡ true) → (list_any q xs ≡ true → ⊥) → ⊥
-      go (inl h) rest = let below : rank x < d = low x h in let above : d ≤ rank x = all.0 in absurd (omega arith)
-      go (inr h) rest = rest h
+  none_from q d low (x ∷ xs) all e = elim (or_cases (q x) (list_any q xs) e) [
+    | inl h ↦ let below : rank x < d = low x h in let above : d ≤ rank x = all.0 in absurd (omega arith)
+    | inr h ↦ none_from q d low xs all.1 h
+  ]
 
   stands_before : (q : Node → Bool) (node : Node) (after : List Node) → ((y : Node) → q y ≡ true → rank y < rank node) → (before : List Node) → IsRising (before ++ node ∷ after)
       → list_any q (before ++ node ∷ after) ≡ true → list_any q before ≡ true
-  stands_before q node after low [] rising e = go (or_cases (q node) (list_any q after) e)
-    where
-      go : (q node ≡ true) ⊎ (list_any q after ≡ true) → false ≡ true
-      go (inl h) = let less : rank node < rank node = low node h in absurd (omega arith)
-      go (inr h) = absurd (none_from q (rank node) low after rising.0 h)
-  stands_before q node after low (b ∷ before) rising e = go (or_cases (q b) (list_any q (before ++ node ∷ after)) e) (stands_before q node after low before rising.1)
-    where
-      go : (q b ≡ true) ⊎ (list_any q (before ++ node ∷ after) ≡ true) → (list_any q (before ++ node ∷ after) ≡ true → list_any q before ≡ true) → (q b || list_any q before) ≡ true
-      go (inl h) rest = or_left (q b) (list_any q before) h
-      go (inr h) rest = or_right (q b) (list_any q before) (rest h)
+  stands_before q node after low [] rising e = elim (or_cases (q node) (list_any q after) e) [
+    | inl h ↦ let less : rank node < rank node = low node h in absurd (omega arith)
+    | inr h ↦ absurd (none_from q (rank node) low after rising.0 h)
+  ]
+  stands_before q node after low (b ∷ before) rising e = elim (or_cases (q b) (list_any q (before ++ node ∷ after)) e) [
+    | inl h ↦ or_left (q b) (list_any q before) h
+    | inr h ↦ or_right (q b) (list_any q before) (stands_before q node after low before rising.1 h)
+  ]
 
   -- ---- rank by rank
 
   module _ (p : ℕ → Node → Bool) (at : (d : ℕ) (x : Node) → p d x ≡ true → rank x ≡ d) (nodes : List Node) where
     pub filter_at : (d : ℕ) (xs : List Node) → AllAt d (filter (p d) xs)
     filter_at d [] = tt
-    filter_at d (x ∷ xs) = go (p d x) refl (filter_at d xs)
-      where
-        go : (b : Bool) → p d x ≡ b → AllAt d (filter (p d) xs) → AllAt d (cond b (x ∷ filter (p d) xs) (filter (p d) xs))
-        go true h rest = (at d x h, rest)
-        go false h rest = rest
+    filter_at d (x ∷ xs) = elim (cases_Bool (p d x)) [ inl h ↦ rw h (at d x h, filter_at d xs) | inr h ↦ rw h (filter_at d xs) ]
 
     abbrev pub ranked : ℕ → ℕ → List Node
     ranked a k = flat_map (λ d. filter (p d) nodes) (range_with_len a k)
@@ -79,36 +70,30 @@ module _ (rank : Node → ℕ) where
     ranked_from a zero = tt
     ranked_from a (suc k) = from_append a (filter (p a) nodes) (ranked (a + 1) k) (filter_at a nodes) (from_less a (a + 1) (ranked (a + 1) k) (omega arith) (ranked_from (a + 1) k))
 
-    ranked_rising : (a k : ℕ) → IsRising (ranked a k)
+    pub ranked_rising : (a k : ℕ) → IsRising (ranked a k)
     ranked_rising a zero = tt
     ranked_rising a (suc k) = rising_append a (filter (p a) nodes) (ranked (a + 1) k) (filter_at a nodes) (from_less a (a + 1) (ranked (a + 1) k) (omega arith) (ranked_from (a + 1) k)) (ranked_rising (a + 1) k)
 
     -- what is at one rank is among all
     ranked_any : (q : Node → Bool) (d a k : ℕ) → a ≤ d → d < a + k → list_any q (filter (p d) nodes) ≡ true → list_any q (ranked a k) ≡ true
     ranked_any q d a zero low high e = absurd (omega arith)
-    ranked_any q d a (suc k) low high e = list_any-append q (filter (p a) nodes) (ranked (a + 1) k) ∙ go (cases_lt a d) (ranked_any q d (a + 1) k)
-      where
-        go : (a < d) ⊎ (d ≤ a) → (a + 1 ≤ d → d < a + 1 + k → list_any q (filter (p d) nodes) ≡ true → list_any q (ranked (a + 1) k) ≡ true)
-            → (list_any q (filter (p a) nodes) || list_any q (ranked (a + 1) k)) ≡ true
-        go (inl h) rest = or_right (list_any q (filter (p a) nodes)) (list_any q (ranked (a + 1) k)) (rest (omega arith) (omega arith) e)
-        go (inr h) rest = let same : d ≡ a = omega arith in or_left (list_any q (filter (p a) nodes)) (list_any q (ranked (a + 1) k)) (ap (λ c. list_any q (filter (p c) nodes)) (sym same) ∙ e)
+    ranked_any q d a (suc k) low high e = list_any-append q (filter (p a) nodes) (ranked (a + 1) k) ∙ elim (cases_lt a d) [
+      | inl h ↦ or_right (list_any q (filter (p a) nodes)) (list_any q (ranked (a + 1) k)) (ranked_any q d (a + 1) k (omega arith) (omega arith) e)
+      | inr h ↦ let same : d ≡ a = omega arith in or_left (list_any q (filter (p a) nodes)) (list_any q (ranked (a + 1) k)) (ap (λ c. list_any q (filter (p c) nodes)) (sym same) ∙ e)
+    ]
 
 -- ---- the order by depth
 
 filter_finds : (p : Node → Bool) (n : Name) (node : Node) (xs : List Node) → find_node xs n ≡ Some node → p node ≡ true → is_named_in n (filter p xs) ≡ true
 filter_finds p n node [] e h = absurd cc
-filter_finds p n node (x ∷ xs) e h = go (bytes_eq x.name n) refl e (λ r. filter_finds p n node xs r h)
+filter_finds p n node (x ∷ xs) e h = elim (cases_Bool (bytes_eq x.name n)) [
+  | inl same ↦ let found : Some x ≡ Some node = rw same at e in let is : x ≡ node = same_Some x node found in rw (ap p is ∙ h) (or_left (bytes_eq x.name n) (is_named_in n (filter p xs)) same)
+  | inr differs ↦ later (p x) (filter_finds p n node xs (rw differs at e) h)
+]
   where
     later : (b : Bool) → is_named_in n (filter p xs) ≡ true → is_named_in n (cond b (x ∷ filter p xs) (filter p xs)) ≡ true
     later true rest = or_right (bytes_eq x.name n) (is_named_in n (filter p xs)) rest
     later false rest = rest
-
-    go : (b : Bool) → bytes_eq x.name n ≡ b → cond b (Some x) (find_node xs n) ≡ Some node → (find_node xs n ≡ Some node → is_named_in n (filter p xs) ≡ true) → is_named_in n (cond (p x) (x ∷ filter p xs) (filter p xs)) ≡ true
-    go true same found rest =
-        let is : x ≡ node = cc in
-        let passes : p x ≡ true = ap p is ∙ h in
-        rw passes (or_left (bytes_eq x.name n) (is_named_in n (filter p xs)) same)
-    go false differs found rest = later (p x) (rest found)
 
 abbrev pub depth_at : List Node → Node → ℕ
 depth_at nodes node = depth_in nodes node.name

@@ -1,6 +1,6 @@
 -- The parts of an earlier state are put back, and entries are as they were before one was put or dropped.
-use Rattle.std.proofs.Common.{◌≡◌, ℕ, zero, suc, Bool, true, false, cond, List, [], ◌∷◌, find, not, Some, None, option_map, slice_get, bytes_eq, Ok, refl, sym, ap, ◌∙◌}
-use Rattle.std.proofs.lemmas.Bool.{true≢false}
+use Rattle.std.proofs.Common.{◌≡◌, ℕ, zero, suc, true, false, List, [], ◌∷◌, Some, None, slice_get, bytes_eq, inl, inr, Ok, refl, sym, ap, ◌∙◌}
+use Rattle.std.proofs.lemmas.Bool.{true≢false, cases_Bool}
 use Rattle.std.proofs.lemmas.Option.{none-some, same_Some}
 use Rattle.map_nums.specs.Grids.{Size}
 use Rattle.map_defs.specs.Ops.{Name}
@@ -14,7 +14,6 @@ use Rattle.map_edits.specs.Pasts.{Past, with_parts}
 use Rattle.map_edits.specs.WholeEdits.{put_back}
 use Rattle.map_edits.specs.Counted.{done, accept_counted}
 use Rattle.map_edits.proofs.Among.{same_name, bytes_eq-self}
-use Rattle.map_edits.proofs.Puts.{first_is_not}
 
 -- ---- the whole state
 
@@ -28,75 +27,46 @@ pub fault_by_entries : (size : Size) (es : List Entry) (a b : ℕ) → fault_of 
 unfolding fault_of value_of
 fault_by_entries size es a b = refl
 
--- ---- the first entry
-
-put_first : (e : Entry) (es : List Entry) (n : Name) (d : Def) → bytes_eq e.name n ≡ true → put_entry (e ∷ es) n d ≡ record e { def = d } ∷ es
-put_first e es n d h = rw h refl
-
-put_later : (e : Entry) (es : List Entry) (n : Name) (d : Def) → bytes_eq e.name n ≡ false → put_entry (e ∷ es) n d ≡ e ∷ put_entry es n d
-put_later e es n d h = rw h refl
-
-drop_first : (e : Entry) (es : List Entry) (n : Name) → bytes_eq e.name n ≡ true → drop_entry (e ∷ es) n ≡ drop_entry es n
-drop_first e es n h = rw h refl
-
-drop_later : (e : Entry) (es : List Entry) (n : Name) → bytes_eq e.name n ≡ false → drop_entry (e ∷ es) n ≡ e ∷ drop_entry es n
-drop_later e es n h = rw h refl
-
-find_first : (e : Entry) (es : List Entry) (n : Name) → bytes_eq e.name n ≡ true → find_def (e ∷ es) n ≡ Some e.def
-find_first e es n h = rw h refl
-
 -- a name that isn't there differs from the first
 record IsElsewhere (e : Entry) (es : List Entry) (n : Name) : Type 0 where
   differs : bytes_eq e.name n ≡ false
   rest : find_def es n ≡ None
 
 elsewhere : (e : Entry) (es : List Entry) (n : Name) → find_def (e ∷ es) n ≡ None → IsElsewhere e es n
-elsewhere e es n none = go (bytes_eq e.name n) refl none
-  where
-    go : (b : Bool) → bytes_eq e.name n ≡ b → option_map (λ (q : Entry). q.def) (cond b (Some e) (find (λ (q : Entry). bytes_eq q.name n) es)) ≡ None → IsElsewhere e es n
-    go true h none = absurd cc
-    go false h none = record { differs = h; rest = none }
+elsewhere e es n none = elim (cases_Bool (bytes_eq e.name n)) [ inl h ↦ let there : Some e.def ≡ None = rw h at none in absurd cc | inr h ↦ record { differs = h; rest = rw h at none } ]
 
 -- ---- an entry is put, and dropped or put again
 
 pub drop_none : (es : List Entry) (n : Name) → find_def es n ≡ None → drop_entry es n ≡ es
 drop_none [] n none = refl
-drop_none (e ∷ es) n none = let r = elsewhere e es n none in drop_later e es n r.differs ∙ ap (λ q. e ∷ q) (drop_none es n r.rest)
+drop_none (e ∷ es) n none = let r = elsewhere e es n none in simp r.differs (ap (λ q. e ∷ q) (drop_none es n r.rest))
 
 pub drop_put : (es : List Entry) (n : Name) (d : Def) → find_def es n ≡ None → drop_entry (put_entry es n d) n ≡ es
-drop_put [] n d none = drop_first (record { name = n; def = d }) [] n (bytes_eq-self n)
-drop_put (e ∷ es) n d none =
-    let r = elsewhere e es n none in
-    ap (λ q. drop_entry q n) (put_later e es n d r.differs) ∙ drop_later e (put_entry es n d) n r.differs ∙ ap (λ q. e ∷ q) (drop_put es n d r.rest)
+drop_put [] n d none = simp bytes_eq-self
+drop_put (e ∷ es) n d none = let r = elsewhere e es n none in simp r.differs (ap (λ q. e ∷ q) (drop_put es n d r.rest))
 
 pub put_put : (es : List Entry) (n : Name) (d c : Def) → put_entry (put_entry es n d) n c ≡ put_entry es n c
-put_put [] n d c = put_first (record { name = n; def = d }) [] n c (bytes_eq-self n)
-put_put (e ∷ es) n d c = go (bytes_eq e.name n) refl (put_put es n d c)
-  where
-    go : (b : Bool) → bytes_eq e.name n ≡ b → put_entry (put_entry es n d) n c ≡ put_entry es n c → put_entry (cond b (record e { def = d } ∷ es) (e ∷ put_entry es n d)) n c ≡ cond b (record e { def = c } ∷ es) (e ∷ put_entry es n c)
-    go true h rest = put_first (record e { def = d }) es n c h
-    go false h rest = put_later e (put_entry es n d) n c h ∙ ap (λ q. e ∷ q) rest
+put_put [] n d c = simp bytes_eq-self
+put_put (e ∷ es) n d c = elim (cases_Bool (bytes_eq e.name n)) [ inl h ↦ simp h | inr h ↦ simp h (ap (λ q. e ∷ q) (put_put es n d c)) ]
 
 pub put_same : (es : List Entry) (n : Name) (d : Def) → find_def es n ≡ Some d → put_entry es n d ≡ es
 put_same [] n d found = absurd (none-some d found)
-put_same (e ∷ es) n d found = go (bytes_eq e.name n) found (put_same es n d)
-  where
-    go : (b : Bool) → option_map (λ (q : Entry). q.def) (cond b (Some e) (find (λ (q : Entry). bytes_eq q.name n) es)) ≡ Some d → (find_def es n ≡ Some d → put_entry es n d ≡ es)
-        → cond b (record e { def = d } ∷ es) (e ∷ put_entry es n d) ≡ e ∷ es
-    go true found rest = ap (λ q. record e { def = q } ∷ es) (sym (same_Some e.def d found))
-    go false found rest = ap (λ q. e ∷ q) (rest found)
+put_same (e ∷ es) n d found = elim (cases_Bool (bytes_eq e.name n)) [
+  | inl h ↦ let own : Some e.def ≡ Some d = rw h at found in simp h (ap (λ q. record e { def = q } ∷ es) (sym (same_Some e.def d own)))
+  | inr h ↦ simp h (ap (λ q. e ∷ q) (put_same es n d (rw h at found)))
+]
 
--- ---- an entry stands at a place
+-- ---- an entry is put at its place
 
 pub find_at : (es : List Entry) (k : ℕ) (n : Name) (d : Def) → find_def es n ≡ None → find_def (entry_at es k n d) n ≡ Some d
-find_at es zero n d none = find_first (record { name = n; def = d }) es n (bytes_eq-self n)
-find_at [] (suc k) n d none = find_first (record { name = n; def = d }) [] n (bytes_eq-self n)
-find_at (e ∷ es) (suc k) n d none = let r = elsewhere e es n none in first_is_not e (entry_at es k n d) n r.differs ∙ find_at es k n d r.rest
+find_at es zero n d none = simp bytes_eq-self
+find_at [] (suc k) n d none = simp bytes_eq-self
+find_at (e ∷ es) (suc k) n d none = let r = elsewhere e es n none in simp r.differs (find_at es k n d r.rest)
 
 pub drop_at : (es : List Entry) (k : ℕ) (n : Name) (d : Def) → find_def es n ≡ None → drop_entry (entry_at es k n d) n ≡ es
-drop_at es zero n d none = drop_first (record { name = n; def = d }) es n (bytes_eq-self n) ∙ drop_none es n none
-drop_at [] (suc k) n d none = drop_first (record { name = n; def = d }) [] n (bytes_eq-self n)
-drop_at (e ∷ es) (suc k) n d none = let r = elsewhere e es n none in drop_later e (entry_at es k n d) n r.differs ∙ ap (λ q. e ∷ q) (drop_at es k n d r.rest)
+drop_at es zero n d none = simp bytes_eq-self (drop_none es n none)
+drop_at [] (suc k) n d none = simp bytes_eq-self
+drop_at (e ∷ es) (suc k) n d none = let r = elsewhere e es n none in simp r.differs (ap (λ q. e ∷ q) (drop_at es k n d r.rest))
 
 -- what stands at a place is there
 never_at : (es : List Entry) (k : ℕ) (n : Name) (d : Def) → slice_get es k ≡ Some (record { name = n; def = d }) → find_def es n ≡ None → ⊥
@@ -112,10 +82,9 @@ at_dropped [] k n d apart at = absurd (none-some (record { name = n; def = d }) 
 at_dropped (e ∷ es) zero n d apart at =
     let is : e ≡ record { name = n; def = d } = same_Some e (record { name = n; def = d }) at in
     let named : e.name ≡ n = ap (λ (q : Entry). q.name) is in
-    let others : drop_entry (e ∷ es) n ≡ es = drop_first e es n (ap (λ q. bytes_eq q n) named ∙ bytes_eq-self n) ∙ drop_none es n (ap (find_def es) (sym named) ∙ apart.0) in
-    ap (λ q. record { name = n; def = d } ∷ q) others ∙ ap (λ q. q ∷ es) (sym is)
-at_dropped (e ∷ es) (suc k) n d apart at = go (bytes_eq e.name n) refl (at_dropped es k n d apart.1 at)
-  where
-    go : (b : Bool) → bytes_eq e.name n ≡ b → entry_at (drop_entry es n) k n d ≡ es → entry_at (cond (not b) (e ∷ drop_entry es n) (drop_entry es n)) (suc k) n d ≡ e ∷ es
-    go true h rest = absurd (never_at es k n d at (ap (find_def es) (sym (same_name e.name n h)) ∙ apart.0))
-    go false h rest = ap (λ q. e ∷ q) rest
+    let same : bytes_eq e.name n ≡ true = ap (λ q. bytes_eq q n) named ∙ bytes_eq-self n in
+    simp same (ap (λ q. record { name = n; def = d } ∷ q) (drop_none es n (ap (find_def es) (sym named) ∙ apart.0)) ∙ ap (λ q. q ∷ es) (sym is))
+at_dropped (e ∷ es) (suc k) n d apart at = elim (cases_Bool (bytes_eq e.name n)) [
+  | inl h ↦ absurd (never_at es k n d at (ap (find_def es) (sym (same_name e.name n h)) ∙ apart.0))
+  | inr h ↦ simp h (ap (λ q. e ∷ q) (at_dropped es k n d apart.1 at))
+]

@@ -1,5 +1,6 @@
 -- The stamps that are kept are those of the layers that are defined.
 use Rattle.std.proofs.Common.{◌≡◌, ℕ, Bool, true, false, cond, ◌&&◌, List, [], ◌∷◌, map, filter, find, Option, Some, None, is_some, option_map, bytes_eq, refl, sym, ap, ◌∙◌, if◌then◌else◌}
+use Rattle.std.proofs.lemmas.Bool.{and_right}
 use Rattle.map_defs.specs.Ops.{Name}
 use Rattle.map_edits.specs.LayerDefs.{Making, LayerDef, layers, find_making}
 use Rattle.map_edits.specs.EngineStates.{EngineState, value_of}
@@ -8,10 +9,6 @@ use Rattle.map_edits.specs.StampsAfter.{stamps_at}
 use Rattle.map_edits.specs.StampLaws.{StampsAreKept}
 use Rattle.map_edits.proofs.Among.{same_name}
 use Rattle.map_edits.proofs.LawfulEdits.{done_is}
-
-and_none : (b : Bool) → (b && false) ≡ false
-and_none true = refl
-and_none false = refl
 
 module _ (f : Name → List ℕ) (p : Name → Bool) (n : Name) where
   abbrev pub kept : List LayerDef → List Stamps
@@ -31,7 +28,7 @@ module _ (f : Name → List ℕ) (p : Name → Bool) (n : Name) where
       go true h false differs rest = rw differs rest
       go false h true same rest =
           let no : p n ≡ false = ap p (sym (same_name l.name n same)) ∙ h in
-          rest ∙ ap told (ap (λ b. is_some (find_making ls n) && b) no ∙ and_none (is_some (find_making ls n)) ∙ sym no)
+          rest ∙ ap told (ap (λ b. is_some (find_making ls n) && b) no ∙ and_right (is_some (find_making ls n)) false refl ∙ sym no)
       go false h false differs rest = rest
 
 pub value_there : (s : EngineState) (n : Name) → (is_some (find_making (layers s.entries) n) && is_some (value_of s n)) ≡ is_some (value_of s n)

@@ -11,7 +11,7 @@ use Rattle.map_edits.specs.EngineStates.{EngineState, all_some, term_cells, made
 use Rattle.map_edits.specs.Laws.{is_among, HasNoCycle}
 use Rattle.map_edits.proofs.Among.{bytes_eq-self, map_agree, fold_max_agree}
 use Rattle.map_edits.proofs.Chains.{chains_end, settles, depth_le_nodes, depth_step}
-use Rattle.map_edits.proofs.Looks.{making_needs, needs_in-layers, length-nodes}
+use Rattle.map_edits.proofs.Looks.{found_needs, making_needs, needs_in-layers, length-nodes}
 
 -- ---- lacks
 
@@ -48,14 +48,6 @@ depth_steps k nodes n = go (find_node nodes n) refl
     go None e = rw e refl
     go (Some node) e = depth_parts k nodes n node.name node.needs e
 
-abbrev found_needs : Option Node → List Name
-found_needs None = []
-found_needs (Some node) = of_needs node.needs
-  where
-    of_needs : Option (List Name) → List Name
-    of_needs None = []
-    of_needs (Some ns) = ns
-
 by_parts : (f g : Name → ℕ) (a : Name) (o : Option (List Name)) → ((m : Name) → is_among m (found_needs (Some (record { name = a; needs = o }))) ≡ true → f m ≡ g m)
     → depth_by f (Some (record { name = a; needs = o })) ≡ depth_by g (Some (record { name = a; needs = o }))
 by_parts f g a None same = refl
@@ -65,22 +57,11 @@ by_agree : (f g : Name → ℕ) (o : Option Node) → ((m : Name) → is_among m
 by_agree f g None same = refl
 by_agree f g (Some node) same = by_parts f g node.name node.needs same
 
-needs_parts : (nodes : List Node) (n a : Name) (o : Option (List Name)) → find_node nodes n ≡ Some (record { name = a; needs = o }) → needs_in nodes n ≡ found_needs (Some (record { name = a; needs = o }))
-needs_parts nodes n a None e = rw e refl
-needs_parts nodes n a (Some ns) e = rw e refl
-
-needs_found : (nodes : List Node) (n : Name) → needs_in nodes n ≡ found_needs (find_node nodes n)
-needs_found nodes n = go (find_node nodes n) refl
-  where
-    go : (o : Option Node) → find_node nodes n ≡ o → needs_in nodes n ≡ found_needs o
-    go None e = rw e refl
-    go (Some node) e = needs_parts nodes n node.name node.needs e
-
 depth_settles : (nodes : List Node) (k : ℕ) (n : Name) → ((m : Name) → is_among m (needs_in nodes n) ≡ true → depth_within k nodes m ≡ depth_within (suc k) nodes m)
     → depth_within (suc k) nodes n ≡ depth_within (suc (suc k)) nodes n
 depth_settles nodes k n same =
     depth_steps k nodes n
-    ∙ by_agree (depth_within k nodes) (depth_within (suc k) nodes) (find_node nodes n) (λ m a. same m (ap (is_among m) (needs_found nodes n) ∙ a))
+    ∙ by_agree (depth_within k nodes) (depth_within (suc k) nodes) (find_node nodes n) same
     ∙ sym (depth_steps (suc k) nodes n)
 
 depth_stays : (nodes : List Node) → HasNoCycle nodes → (n : Name) → depth_in nodes n ≡ depth_within (suc (suc (length nodes))) nodes n

@@ -1,9 +1,9 @@
 -- A patch of every tile, of which those that differ from a layer are left.
-use Rattle.std.proofs.Common.{◌≡◌, ℕ, suc, ◌<◌, ◌==◌, Bool, true, false, not, cond, List, [], ◌∷◌, filter, get_or, Option, Some, None, is_some, refl, sym, ap, subst, ◌∙◌, arith}
+use Rattle.std.proofs.Common.{◌≡◌, ℕ, ◌<◌, ◌==◌, Bool, true, false, not, cond, List, [], ◌∷◌, filter, get_or, Option, Some, None, is_some, refl, sym, ap, subst, ◌∙◌, arith}
 use Rattle.std.specs.List.{All}
 use Rattle.std.proofs.lemmas.Bool.{true≢false, false≢true, eqb-true}
 use Rattle.std.proofs.lemmas.List.{ext_get_or, get_or_default}
-use Rattle.std.proofs.lemmas.List.Elements.{All-filter}
+use Rattle.std.proofs.lemmas.List.Elements.{All-head, All-tail, All-filter}
 use Rattle.std.proofs.lemmas.Option.{none-some}
 use Rattle.map_nums.specs.Grids.{Size, Cells, cells_in}
 use Rattle.map_nums.specs.Tiles.{tiles, tiles_in, tile_of}
@@ -17,16 +17,10 @@ use Rattle.layer_tiles.proofs.Patching.{length-patched, tile_kept, tile_replaced
 use Rattle.layer_tiles.proofs.Rounds.{back}
 use Rattle.map_waves.proofs.Unchanged.{same_of_quiet, quiet_of_same, cell_of_tile}
 
-all_first : {X : Type 0} (P : X → Type 0) (x : X) (xs : List X) → All P (x ∷ xs) → P x
-all_first P x xs all = all 0 x (omega arith)
-
-all_rest : {X : Type 0} (P : X → Type 0) (x : X) (xs : List X) → All P (x ∷ xs) → All P xs
-all_rest P x xs all k d h = all (suc k) d (omega arith)
-
 -- the numbers of the entries that pass are those that pass
 filter_numbers : (q : ℕ × Block → Bool) (h : ℕ → Bool) (tiles : List (ℕ × Block)) → All (λ (e : ℕ × Block). q e ≡ h e.0) tiles → numbers_of (filter q tiles) ≡ filter h (numbers_of tiles)
 filter_numbers q h [] all = refl
-filter_numbers q h (e ∷ tiles) all = go (q e) (h e.0) (all_first (λ (e : ℕ × Block). q e ≡ h e.0) e tiles all) (filter_numbers q h tiles (all_rest (λ (e : ℕ × Block). q e ≡ h e.0) e tiles all))
+filter_numbers q h (e ∷ tiles) all = go (q e) (h e.0) (All-head (λ (e : ℕ × Block). q e ≡ h e.0) e tiles all) (filter_numbers q h tiles (All-tail (λ (e : ℕ × Block). q e ≡ h e.0) e tiles all))
   where
     go : (a b : Bool) → a ≡ b → numbers_of (filter q tiles) ≡ filter h (numbers_of tiles) → numbers_of (cond a (e ∷ filter q tiles) (filter q tiles)) ≡ cond b (e.0 ∷ filter h (numbers_of tiles)) (filter h (numbers_of tiles))
     go true true same rest = ap (λ ns. e.0 ∷ ns) rest
@@ -37,12 +31,12 @@ filter_numbers q h (e ∷ tiles) all = go (q e) (h e.0) (all_first (λ (e : ℕ 
 -- a tile that is found is one of the entries
 pub found_all : (P : ℕ → Block → Type 0) (tiles : List (ℕ × Block)) (t : ℕ) (b : Block) → All (λ (e : ℕ × Block). P e.0 e.1) tiles → patch_get tiles t ≡ Some b → P t b
 found_all P [] t b all e = absurd (none-some b e)
-found_all P (x ∷ tiles) t b all e = go (x.0 == t) refl e (found_all P tiles t b (all_rest (λ (e : ℕ × Block). P e.0 e.1) x tiles all))
+found_all P (x ∷ tiles) t b all e = go (x.0 == t) refl e (found_all P tiles t b (All-tail (λ (e : ℕ × Block). P e.0 e.1) x tiles all))
   where
     go : (v : Bool) → (x.0 == t) ≡ v → cond v (Some x.1) (patch_get tiles t) ≡ Some b → (patch_get tiles t ≡ Some b → P t b) → P t b
     go true v e rest =
         let same : x.1 ≡ b = cc in
-        subst (λ (c : Block). P t c) same (subst (λ (u : ℕ). P u x.1) (eqb-true x.0 t v) (all_first (λ (e : ℕ × Block). P e.0 e.1) x tiles all))
+        subst (λ (c : Block). P t c) same (subst (λ (u : ℕ). P u x.1) (eqb-true x.0 t v) (All-head (λ (e : ℕ × Block). P e.0 e.1) x tiles all))
     go false v e rest = rest e
 
 -- a tile that was found and isn't any more doesn't pass

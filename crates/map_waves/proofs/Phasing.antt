@@ -22,11 +22,7 @@ use Rattle.map_waves.proofs.Totals.{total_rises}
 use Rattle.map_waves.proofs.Reading.{prepared_at}
 
 pub faultless_then : (p : Plan) (first mid end : ℕ) → AreFaultless p first mid → AreFaultless p mid end → AreFaultless p first end
-faultless_then p first mid end so_far more j from below = go (cases_lt j mid)
-  where
-    go : (j < mid) ⊎ (mid ≤ j) → fault_at p j ≡ None
-    go (inl less) = so_far j from less
-    go (inr at) = more j at below
+faultless_then p first mid end so_far more j from below = elim (cases_lt j mid) as (λ _. fault_at p j ≡ None) [ inl less ↦ so_far j from less | inr at ↦ more j at below ]
 
 -- ---- elements of a longer list
 
@@ -86,9 +82,7 @@ module _ {O B : Type 0} (means : O → Op) (suits : Size → Op → List Cells �
 pub rises_phase : (f g : ℕ → ℕ) (first end : ℕ) (a b c : TallyState) → first ≤ end → RisesBy (62 * total_of f first) (1000 * total_of g first) a b
     → RisesBy (62 * (total_of f end - total_of f first)) (1000 * (total_of g end - total_of g first)) b c → RisesBy (62 * total_of f end) (1000 * total_of g end) a c
 rises_phase f g first end a b c to so_far here =
-    let low = total_rises f first end to in
-    let low' = total_rises g first end to in
-    rises_within _ _ _ _ a c (omega (arith, low)) (omega (arith, low')) (rises_then _ _ _ _ a b c so_far here)
+    rises_within _ _ _ _ a c (omega (arith, total_rises f first end to)) (omega (arith, total_rises g first end to)) (rises_then _ _ _ _ a b c so_far here)
 
 -- ---- the numbers of one that is prepared
 

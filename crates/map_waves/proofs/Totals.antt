@@ -40,10 +40,9 @@ pub total_same : (f g : ℕ → ℕ) (n : ℕ) → ((i : ℕ) → i < n → f i 
 total_same f g zero same = refl
 total_same f g (suc n) same =
     let rest = total_same f g n (λ i h. same i (omega arith)) in
-    let here = same n (omega arith) in
     let left = total_suc f n in
     let right = total_suc g n in
-    omega (arith, rest, here, left, right)
+    omega (arith, rest, same n (omega arith), left, right)
 
 pub total_split : (f : ℕ → ℕ) (a b : ℕ) → total_of f (a + b) ≡ total_of f a + total_of (λ i. f (a + i)) b
 total_split f a zero = let none = total_start (λ i. f (a + i)) in let same : a + 0 ≡ a = omega arith in ap (total_of f) same ∙ omega (arith, none)
@@ -60,8 +59,7 @@ places_within f stays low end [] between h = let rises = total_rises f low end h
 places_within f stays low end (x ∷ xs) between h =
     let from = between.0 in
     let below = between.1 in
-    let rest = places_within f stays (suc x) end xs between.3 (omega arith) in
     let sum = sum_by-cons f x xs in
     let next = total_suc f x in
     let rises = total_rises f low x from in
-    omega (arith, rest, sum, next, rises)
+    omega (arith, places_within f stays (suc x) end xs between.3 (omega arith), sum, next, rises)

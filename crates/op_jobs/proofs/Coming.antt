@@ -33,8 +33,7 @@ use Rattle.op_jobs.specs.declared.own.TileJobs.{TileJobs}
 use Rattle.op_jobs.proofs.Hits.{is_hit, damage_is, damage_most, tiles_few, was_right, was_narrow, changed_hit, WasRight}
 use Rattle.op_jobs.proofs.Grids.{made_count}
 use Rattle.op_jobs.proofs.Listing.{listed, range_all}
-use Rattle.op_jobs.proofs.Narrow.{narrow_in, position_none, position_wide}
-use Rattle.op_jobs.proofs.Ranging.{narrow_below, fault_is}
+use Rattle.op_jobs.proofs.Ranging.{narrow_in, position_none, position_wide, narrow_below, fault_is}
 
 -- ---- one answer
 

@@ -15,7 +15,7 @@ use Rattle.layer_tiles.proofs.Rising.{rises_then, rises_within}
 use Rattle.map_waves.specs.Found.{AreFound}
 use Rattle.map_waves.specs.Operands.{IsOperand}
 use Rattle.map_waves.specs.Statements.{damage_by}
-use Rattle.op_jobs.specs.Grounds.{ArePathCells, AreFlowCells, IsPart, IsGroundOf, IsGrounded, IsGroundPart, AreGrounded, grounding}
+use Rattle.op_jobs.specs.Grounds.{FillPaths, ArePathCells, AreFlowCells, IsPart, IsGroundOf, IsGrounded, IsGroundPart, AreGrounded, grounding}
 use Rattle.op_jobs.specs.Sound.{first_by}
 use Rattle.op_jobs.specs.declared.ground.FlowCells.{FlowCells}
 use Rattle.op_jobs.specs.declared.ground.PathCells.{PathCells}
@@ -35,30 +35,17 @@ pub grounding_fit : (s : Size) (op : Op) (was : Option Cells) (operands : List C
 grounding_fit s op None operands = omega (arith, fresh_damage s op operands)
 grounding_fit s op (Some was) operands = omega arith
 
-pub begun_rises : (s : Size) (op : Op) (was : Option Cells) (operands : List ChangeState) (a b c : TallyState) → RisesBy (grounding s op was operands) 0 a b → RisesBy (26 * length (damage_by s op was operands)) 0 b c → RisesBy (28 * length (damage_by s op was operands)) 0 a c
-begun_rises s op was operands a b c r q =
+pub begun_rises : (s : Size) (op : Op) (was : Option Cells) (operands : List ChangeState) (looks picks : ℕ) (a b c : TallyState) → 28 * length (damage_by s op was operands) ≤ looks → RisesBy (grounding s op was operands) 0 a b → RisesBy (26 * length (damage_by s op was operands)) 0 b c → RisesBy looks picks a c
+begun_rises s op was operands looks picks a b c most r q =
     let g = grounding s op was operands in
     let d = length (damage_by s op was operands) in
-    rises_within (g + 26 * d) (0 + 0) (28 * d) 0 a c (omega (arith, grounding_fit s op was operands)) (omega arith) (rises_then g 0 (26 * d) 0 a b c r q)
+    rises_within (g + 26 * d) (0 + 0) looks picks a c (omega (arith, grounding_fit s op was operands, most)) (omega arith) (rises_then g 0 (26 * d) 0 a b c r q)
 
 pub first_least : (own : Own) (d : ℕ) → 28 * d ≤ first_by own d
 first_least (an_own.Tiles jobs) d = omega arith
 first_least (an_own.Whole job) d = omega arith
 
 -- ---- a list for each operand
-
-pub path_cells_are : (s : Size) (xs : List ChangeState) (g : PathCells) (limit : ℕ) (a b : ChangeState) → xs ≡ a ∷ b ∷ [] → All (IsOperand s) xs → limit ≤ greatest_value → g.limit ≡ limit → g.sources.items ≡ a.cells → g.friction.items ≡ b.cells → length a.cells ≡ cells_in a.size → length b.cells ≡ cells_in b.size → ArePathCells s xs limit g
-path_cells_are s xs g limit a b both are low is first second count count' =
-    let these : All (IsOperand s) (a ∷ b ∷ []) = subst (λ (ys : List ChangeState). All (IsOperand s) ys) both are in record {
-      fill = record {
-        low = subst (λ n. n ≤ greatest_value) (sym is) low;
-        sources = ap (λ (ys : Cells). length ys) first ∙ count ∙ ap (λ (z : Size). cells_in z) (these 0 a (omega arith)).size;
-        friction = ap (λ (ys : Cells). length ys) second ∙ count' ∙ ap (λ (z : Size). cells_in z) (these 1 a (omega arith)).size;
-      };
-      limit_is = is;
-      sources_are = first ∙ ap (λ (ys : List ChangeState). operand (cells_after ys) 0) (sym both);
-      friction_are = second ∙ ap (λ (ys : List ChangeState). operand (cells_after ys) 1) (sym both);
-    }
 
 pub flow_cells_are : (s : Size) (xs : List ChangeState) (g : FlowCells) (a b : ChangeState) → xs ≡ a ∷ b ∷ [] → All (IsOperand s) xs → g.surface.items ≡ a.cells → g.weights.items ≡ b.cells → length a.cells ≡ cells_in a.size → length b.cells ≡ cells_in b.size → AreFlowCells s xs g
 flow_cells_are s xs g a b both are first second count count' =
@@ -70,6 +57,13 @@ flow_cells_are s xs g a b both are first second count count' =
       surface_is = first ∙ ap (λ (ys : List ChangeState). operand (cells_after ys) 0) (sym both);
       weights_are = second ∙ ap (λ (ys : List ChangeState). operand (cells_after ys) 1) (sym both);
     }
+
+-- the same, and the limit
+pub path_cells_are : (s : Size) (xs : List ChangeState) (g : PathCells) (limit : ℕ) (a b : ChangeState) → xs ≡ a ∷ b ∷ [] → All (IsOperand s) xs → limit ≤ greatest_value → g.limit ≡ limit → g.sources.items ≡ a.cells → g.friction.items ≡ b.cells → length a.cells ≡ cells_in a.size → length b.cells ≡ cells_in b.size → ArePathCells s xs limit g
+path_cells_are s xs g limit a b both are low is first second count count' =
+    let laid = flow_cells_are s xs (record { surface = g.sources; weights = g.friction }) a b both are first second count count' in
+    let fill : FillPaths s g = record { low = subst (λ n. n ≤ greatest_value) (sym is) low; sources = laid.fill.surface; friction = laid.fill.weights } in
+    record { fill = fill; limit_is = is; sources_are = laid.surface_is; friction_are = laid.weights_are }
 
 pub lists_rise : (s : Size) (xs : List ChangeState) (x y : ChangeState) (a b c : TallyState) → xs ≡ x ∷ y ∷ [] → All (IsOperand s) xs → RisesBy (tiles_in x.size) 0 a b → RisesBy (tiles_in y.size) 0 b c → RisesBy (2 * tiles_in s) 0 a c
 lists_rise s xs x y a b c both are r q =

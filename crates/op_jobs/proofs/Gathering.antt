@@ -1,57 +1,78 @@
--- The tiles that changed, piece by piece.
-use Rattle.std.proofs.Common.{◌≡◌, ℕ, zero, suc, ◌+◌, ◌-◌, ◌^◌, ◌<◌, ◌≤◌, Bool, true, false, cond, List, [], ◌∷◌, ◌++◌, append_assoc, length, get_or, Option, Some, None, Result, Ok, refl, sym, ◌∙◌, ap, subst, arith, slice_get, ⊎_elim}
+-- The tiles that changed, piece by piece: what the job of a tile answers, and what all pieces come to.
+use Rattle.std.proofs.Common.{◌≡◌, ℕ, zero, suc, ◌+◌, ◌-◌, ◌^◌, ◌<◌, Bool, true, false, cond, List, [], ◌∷◌, ◌++◌, append_assoc, length, get_or, Option, Some, None, Result, Ok, refl, sym, ◌∙◌, ap, subst, arith, slice_get}
 use Rattle.std.specs.Prelude.{unwrap_or}
-use Rattle.std.specs.List.{filter, range_with_len}
+use Rattle.std.specs.List.{filter, range_with_len, All}
 use Rattle.std.specs.List.Sorted.{IsStrictlyIncreasing}
-use Rattle.std.proofs.lemmas.Bool.{cases_lt}
-use Rattle.std.proofs.lemmas.List.{append-nil, get_or_default}
+use Rattle.std.proofs.lemmas.List.{append-nil, get_or_default, map-append}
 use Rattle.std.proofs.lemmas.Option.{slice_get_within}
 use Rattle.std.proofs.lemmas.List.FromFn.{get_or-range_with_len, length-range_with_len}
 use Rattle.std.proofs.lemmas.List.Kept.{IsStrictlyIncreasing-filter}
-use Rattle.map_nums.specs.Grids.{Size, Cells}
+use Rattle.map_nums.specs.Grids.{Size, Cells, IsSize}
 use Rattle.map_nums.specs.Tiles.{tiles, tiles_in}
 use Rattle.map_defs.specs.Ops.{Op}
 use Rattle.map_defs.specs.Damage.{changed_tiles}
+use Rattle.map_defs.specs.Differences.{differs, tile_has}
 use Rattle.layer_tiles.specs.Changes.{ChangeState}
 use Rattle.layer_tiles.specs.Operands.{cells_after}
 use Rattle.layer_tiles.specs.Patches.{IsAboveLast, numbers_of, patched}
 use Rattle.layer_tiles.specs.Tiles.{Block, tile_block, IsBlockOf}
 use Rattle.layer_tiles.specs.declared.kernels.KernelRefusal.{KernelRefusal}
 use Rattle.layer_tiles.proofs.Whole.{tile_block_is}
+use Rattle.layer_tiles.specs.Answers.{IsTileAnswer}
+use Rattle.tile_work.proofs.Numbers.{rises_far}
 use Rattle.statement_parser.specs.Views.{op_view}
 use Rattle.map_waves.specs.Statements.{damage_by}
 use Rattle.map_waves.specs.Jobs.{was_in, aside_in}
-use Rattle.map_waves.specs.Keeping.{CanPut, IsPut}
+use Rattle.map_waves.specs.Keeping.{CanPut, IsPut, was_of}
 use Rattle.map_waves.specs.Gathered.{IsRepaired}
 use Rattle.map_waves.specs.declared.keeping.Made.{Made}
 use Rattle.map_waves.specs.declared.keeping.Renewal.{Renewal}
+use Rattle.map_waves.specs.declared.keeping.Kept.{Kept}
 use Rattle.op_jobs.specs.Beside.{suits}
 use Rattle.op_jobs.specs.Kernels.{beside_by}
 use Rattle.op_jobs.specs.Changed.{is_changed}
-use Rattle.op_jobs.specs.Pieces.{IsTilePiece, FitsTile, FitTiles, tiles_at, tiles_of}
+use Rattle.op_jobs.specs.Pieces.{IsTilePiece, FitsTile, FitTiles, tiles_at, tiles_of, IsTileMade}
 use Rattle.op_jobs.specs.Sound.{StatementJobs, IsSound, IsPiece, IsPieceOf, ArePieces, IsMadeOf, now_in}
+use Rattle.op_jobs.specs.Others.{IsOther}
 use Rattle.op_jobs.specs.declared.beside.Beside.{Beside}
 use Rattle.op_jobs.specs.declared.pieces.Piece.{Piece}
 use Rattle.op_jobs.specs.declared.pieces.Piece.TheVariants.{Tile, Whole}
 use Rattle.op_jobs.specs.declared.own.Own.{Own}
-use Rattle.op_jobs.specs.declared.own.Own.TheVariants as an_own
 use Rattle.op_jobs.specs.declared.own.TileJobs.{TileJobs}
+use Rattle.op_jobs.specs.declared.own.Own.TheVariants as an_own
 use Rattle.op_jobs.proofs.Grids.{made_count}
-use Rattle.op_jobs.proofs.Hits.{is_hit, damage_is, changed_within, was_right, WasRight}
-use Rattle.op_jobs.proofs.Patching.{numbered, numbers_are, changed_are, changed_makes}
+use Rattle.op_jobs.proofs.Hits.{is_hit, damage_is, changed_within, was_right, WasRight, damage_within}
+use Rattle.op_jobs.proofs.Quiet.{numbered, numbers_are, changed_are, changed_makes, quiet_of_block, block_of_quiet}
 use Rattle.op_jobs.proofs.Sharing.{tile_own}
 
--- ---- ascending tiles
+-- ---- the job of a tile
 
-rises : (ts : List ℕ) → IsStrictlyIncreasing ts → (i k : ℕ) → i < k → k < length ts → get_or ts i 0 < get_or ts k 0
-rises ts up i zero l m = absurd (omega arith)
-rises ts up i (suc k) l m =
-    let next : get_or ts k 0 < get_or ts (k + 1) 0 = up k (omega (arith, m)) in
-    let same : get_or ts (k + 1) 0 ≡ get_or ts (suc k) 0 = ap (λ n. get_or ts n 0) (omega arith) in
-    ⊎_elim
-    (λ (p : i < k). omega (arith, rises ts up i k p (omega (arith, m)), next, same))
-    (λ (p : k ≤ i). let e : i ≡ k = omega (arith, p, l) in omega (arith, ap (λ n. get_or ts n 0) e, next, same))
-    (cases_lt i k)
+-- the tiles of jobs lie in the grid
+module _ (j : StatementJobs) (jobs : TileJobs) (is : IsSound j) (own : j.own ≡ an_own.Tiles jobs) where
+  pub tiles_within : All (λ u. u < tiles_in j.size) jobs.tiles.items
+  tiles_within = subst (All (λ u. u < tiles_in j.size)) (sym (tile_own j jobs is own).tiles) (damage_within j.size (op_view j.op) (was_in j) j.operands)
+
+  pub job_tile : (k t : ℕ) → k < length jobs.tiles.items → t ≡ get_or jobs.tiles.items k t → t < tiles_in j.size
+  job_tile k t l e = subst (λ u. u < tiles_in j.size) (sym e) (tiles_within k t l)
+
+-- the tile is told where it changed
+other_is : (s : Size) (now : Cells) (t : ℕ) (kept : Option (Kept Beside)) (b : Block) (r : Option Block) → IsSize s → t < tiles_in s → ((k : Kept Beside) → kept ≡ Some k → k.layer.size ≡ s) → b ≡ tile_block s now t → IsOther kept t b r → r ≡ cond (is_changed s (was_of kept) now t) (Some (tile_block s now t)) None
+other_is s now t None b r h l size e is = is ∙ ap (λ x. Some x) e
+other_is s now t (Some k) b None h l size e is =
+    let same : tile_block s k.layer.cells t ≡ tile_block s now t = subst (λ z. tile_block z k.layer.cells t ≡ tile_block s now t) (size k refl) (is ∙ e) in
+    sym (ap (λ v. cond v (Some (tile_block s now t)) None) (quiet_of_block s k.layer.cells now h t same))
+other_is s now t (Some k) b (Some c) h l size e is = which (tile_has s (differs k.layer.cells now) t) refl
+  where
+    which : (v : Bool) → v ≡ tile_has s (differs k.layer.cells now) t → Some c ≡ cond (tile_has s (differs k.layer.cells now) t) (Some (tile_block s now t)) None
+    which true f = ap (λ x. Some x) (is.0 ∙ e) ∙ ap (λ v. cond v (Some (tile_block s now t)) None) f
+    which false f =
+        let same = block_of_quiet s k.layer.cells now h t l (sym f) in
+        absurd (is.1 (subst (λ z. tile_block z k.layer.cells t ≡ tile_block s now t) (sym (size k refl)) same ∙ sym e))
+
+pub piece_told : (s : Size) (now : Cells) (t : ℕ) (kept : Option (Kept Beside)) (b : Block) (r : Option Block) → IsSize s → t < tiles_in s → ((k : Kept Beside) → kept ≡ Some k → k.layer.size ≡ s) → IsTileAnswer s now t (Ok b) → IsOther kept t b r → IsTileMade s (was_of kept) now t r
+piece_told s now t kept b r h l size answer is = record { is = other_is s now t kept b r h l size answer.0 is; narrow = answer.1 }
+
+-- ---- ascending tiles
 
 range_up : (n : ℕ) → IsStrictlyIncreasing (range_with_len 0 n)
 range_up n k l =
@@ -74,7 +95,7 @@ below u (t ∷ ts) (p ∷ ps) h k l = at p (λ i m. below u ts ps (λ i l m. h (
     at (Whole made) rest first k l = rest k l
 
 pub above : (ts : List ℕ) (ps : List Piece) → IsStrictlyIncreasing ts → length ps < length ts → IsAboveLast (tiles_of ts ps) (get_or ts (length ps) 0)
-above ts ps up l some = below (get_or ts (length ps) 0) ts ps (λ i m n. rises ts up i (length ps) m l) (length (tiles_of ts ps) - 1) (omega (arith, some))
+above ts ps up l some = below (get_or ts (length ps) 0) ts ps (λ i m n. rises_far ts up i (length ps) m l) (length (tiles_of ts ps) - 1) (omega (arith, some))
 
 -- one more piece
 pub tiles_next : (ts : List ℕ) (ps : List Piece) (p : Piece) → length ps < length ts → tiles_of ts (ps ++ p ∷ []) ≡ tiles_of ts ps ++ tiles_at (get_or ts (length ps) 0) p
@@ -105,10 +126,6 @@ tiles_told s was now t (Tile o) is = told (is_changed s was now t) o is.is
     told false o e = ap (λ (x : Option Block). tiles_at t (Tile x)) e
 tiles_told s was now t (Whole made) is = absurd is
 
-numbered_more : (f : ℕ → Block) (xs ys : List ℕ) → numbered f (xs ++ ys) ≡ numbered f xs ++ numbered f ys
-numbered_more f [] ys = refl
-numbered_more f (x ∷ xs) ys = ap (λ zs. (x, f x) ∷ zs) (numbered_more f xs ys)
-
 -- all pieces: exactly the tiles that changed
 pub tiles_all : (s : Size) (was : Option Cells) (now : Cells) (ts : List ℕ) (ps : List Piece) → length ps ≡ length ts → ((k : ℕ) (p : Piece) → slice_get ps k ≡ Some p → IsTilePiece s was now (get_or ts k 0) (Ok p)) → tiles_of ts ps ≡ numbered (tile_block s now) (filter (is_changed s was now) ts)
 tiles_all s was now [] ps n each = refl
@@ -118,7 +135,7 @@ tiles_all s was now (t ∷ ts) (p ∷ ps) n each =
     let c = is_changed s was now in
     let rest : tiles_of ts ps ≡ numbered f (filter c ts) = tiles_all s was now ts ps (omega (arith, n)) (λ k q e. each (suc k) q e) in
     let here : tiles_at t p ≡ numbered f (cond (c t) (t ∷ []) []) = tiles_told s was now t p (each 0 p refl) in
-    ap (λ (xs : List (ℕ × Block)). xs ++ tiles_of ts ps) here ∙ ap (λ (xs : List (ℕ × Block)). numbered f (cond (c t) (t ∷ []) []) ++ xs) rest ∙ sym (numbered_more f (cond (c t) (t ∷ []) []) (filter c ts)) ∙ ap (numbered f) (first (c t) (filter c ts))
+    ap (λ (xs : List (ℕ × Block)). xs ++ tiles_of ts ps) here ∙ ap (λ (xs : List (ℕ × Block)). numbered f (cond (c t) (t ∷ []) []) ++ xs) rest ∙ sym (map-append (λ u. (u, f u)) (cond (c t) (t ∷ []) []) (filter c ts)) ∙ ap (numbered f) (first (c t) (filter c ts))
   where
     first : (v : Bool) (us : List ℕ) → cond v (t ∷ []) [] ++ us ≡ cond v (t ∷ us) us
     first true us = refl

@@ -1,24 +1,33 @@
--- The damage of a statement as the tiles that pass a test, and what changed in it.
-use Rattle.std.proofs.Common.{◌≡◌, ℕ, ◌+◌, ◌*◌, ◌/◌, ◌<◌, ◌≤◌, Bool, true, List, length, Option, Some, None, refl, sym, ◌∙◌, ap, subst, arith, IsFalse}
-use Rattle.std.specs.Prelude.{not}
-use Rattle.std.specs.List.{All, filter}
+-- The damage of a statement as the tiles that pass a test, how many it is, and what changed in it.
+use Rattle.std.proofs.Common.{◌≡◌, ℕ, ◌*◌, ◌<◌, ◌≤◌, Bool, true, List, [], ◌∷◌, length, get_or, map, Option, Some, None, refl, sym, ◌∙◌, ap, arith, eqb, ◌+◌, ◌/◌, subst, IsFalse}
+use Rattle.std.specs.Prelude.{◌||◌, ◌==◌, unwrap_or, not}
+use Rattle.std.specs.List.{All, filter, list_any, zip}
 use Rattle.std.specs.Option.{IsSome}
+use Rattle.std.proofs.lemmas.Bool.{eqb-true, or_left}
+use Rattle.std.proofs.lemmas.List.Folds.{list_any_at}
+use Rattle.std.proofs.lemmas.List.Sums.{sum_by-le}
+use Rattle.std.proofs.lemmas.Map.Views.{Contains-from_any}
 use Rattle.std.proofs.lemmas.List.{length-map}
 use Rattle.std.proofs.lemmas.List.Elements.{All-filter}
 use Rattle.std.proofs.lemmas.List.Filters.{length-filter_both}
 use Rattle.std.proofs.lemmas.List.FromFn.{length-range_with_len}
 use Rattle.std.proofs.lemmas.Nat.{mul-le}
-use Rattle.map_nums.specs.Grids.{Size, IsSize, Cells, cells_in, cell_at}
-use Rattle.map_nums.specs.Answers.{is_wide}
+use Rattle.map_nums.specs.Grids.{Size, Cells, cells_in, IsSize, cell_at}
 use Rattle.map_nums.specs.Tiles.{tiles, tiles_in, tiles_across, tiles_down}
+use Rattle.map_nums.specs.Answers.{is_wide}
+use Rattle.map_defs.specs.Tiles.{is_in_square}
+use Rattle.map_defs.specs.Differences.{differs, has_changed, tile_has, square_has, changed_tiles}
 use Rattle.map_defs.specs.Facts.{HasTerms}
 use Rattle.map_defs.specs.Ops.{Op}
-use Rattle.map_defs.specs.Damage.{is_damaged, op_damage, changed_tiles, has_work}
+use Rattle.map_defs.specs.Damage.{is_damaged, reach_of, op_damage, has_work}
 use Rattle.map_defs.specs.Work.{op_work}
+use Rattle.map_defs.proofs.Squares.{square_from_near}
 use Rattle.layer_tiles.specs.Changes.{ChangeState, cells_before}
 use Rattle.layer_tiles.specs.Operands.{cells_after}
 use Rattle.layer_tiles.specs.Tallies.{TallyState, RisesBy}
 use Rattle.layer_tiles.proofs.Rising.{rises_within}
+use Rattle.damage_sets.specs.Damage.{touched_in}
+use Rattle.damage_sets.proofs.Whole.{any_so}
 use Rattle.map_waves.specs.Statements.{cells_were, made, damage_by, work_by, fault_in}
 use Rattle.map_waves.specs.Operands.{IsOperand}
 use Rattle.map_waves.specs.Keeping.{was_of, IsRightKept}
@@ -28,13 +37,59 @@ use Rattle.op_jobs.specs.Changed.{is_changed}
 use Rattle.op_jobs.specs.Operands.{IsEdited}
 use Rattle.op_jobs.specs.Owning.{reached_looks}
 use Rattle.op_jobs.specs.declared.beside.Beside.{Beside}
+use Rattle.op_jobs.proofs.Listing.{range_all, filter_fewer, passes, filter_all, filter_within}
+use Rattle.op_jobs.proofs.Quiet.{has_one, changed_are}
 use Rattle.op_jobs.proofs.Grids.{made_count}
-use Rattle.op_jobs.proofs.Listing.{filter_all, filter_within, range_all}
-use Rattle.op_jobs.proofs.Patching.{changed_are}
 use Rattle.op_jobs.proofs.Ranges.{terms_few}
 use Rattle.op_jobs.proofs.Ranging.{narrow_of}
 use Rattle.op_jobs.proofs.Reached.{felt_there}
-use Rattle.op_jobs.proofs.Touched.{touched_few}
+
+-- ---- what the patches of operands hold
+
+zipped : {X : Type 0} (test : Cells → Cells → Bool) (f g : X → Cells) (xs : List X) → list_any (λ p. test p.0 p.1) (zip (map f xs) (map g xs)) ≡ list_any (λ x. test (f x) (g x)) xs
+zipped test f g [] = refl
+zipped test f g (x ∷ xs) = ap (λ b. test (f x) (g x) || b) (zipped test f g xs)
+
+-- a changed cell of one operand is a changed operand cell
+one_changed : (operands : List ChangeState) (k i : ℕ) (d : ChangeState) → k < length operands → differs (cells_before (get_or operands k d)) (get_or operands k d).cells i ≡ true → has_changed (cells_were operands) (cells_after operands) i ≡ true
+one_changed operands k i d l e =
+    zipped (λ b a. differs b a i) (λ (c : ChangeState). cells_before c) (λ (c : ChangeState). c.cells) operands
+    ∙ list_any_at (λ (c : ChangeState). differs (cells_before c) c.cells i) operands k d l e
+
+-- an operand's patch holds no tile but with a changed cell
+touched_is : (s : Size) (c : ChangeState) → IsOperand s c → IsSome c.before → c.touched ≡ filter (tile_has s (differs (cells_before c) c.cells)) (tiles s)
+unfolding changed_tiles
+touched_is s c h some = at c.before refl some
+  where
+    at : (o : Option Cells) → c.before ≡ o → IsSome o → c.touched ≡ filter (tile_has s (differs (cells_before c) c.cells)) (tiles s)
+    at None e there = absurd (cc)
+    at (Some cells) e there = h.exact cells e ∙ ap (λ (o : Option Cells). filter (tile_has s (differs (unwrap_or o []) c.cells)) (tiles s)) (sym e)
+
+module _ (s : Size) (operands : List ChangeState) (r : ℕ) (hit : ℕ → Bool) (felt : (t : ℕ) → square_has r s (has_changed (cells_were operands) (cells_after operands)) t ≡ true → hit t ≡ true) where
+  changed_passes : All (λ c. (t : ℕ) → t < tiles_in s → tile_has s (differs (cells_before c) c.cells) t ≡ true → hit t ≡ true) operands
+  changed_passes k d l t m e =
+      let a = has_one s (differs (cells_before (get_or operands k d)) (get_or operands k d).cells) t e in
+      let near = square_from_near r s t a.0 m a.1 (record { place = a.0; within = a.1; of_tile = a.3; rows = omega arith; columns = omega arith }) in
+      felt t (any_so (is_in_square r s t) (has_changed (cells_were operands) (cells_after operands)) (cells_in s) a.0 a.1 (one_changed operands k a.0 d l a.2) near)
+
+  module _ (are : All (IsOperand s) operands) (there : All (λ c. IsSome c.before) operands) where
+    pub held_passes : All (λ c. (t : ℕ) → t < tiles_in s → list_any (λ u. u == t) c.touched ≡ true → hit t ≡ true) operands
+    held_passes k d l t m e =
+        let c = get_or operands k d in
+        let held = Contains-from_any {eq = λ x y. eqb y x} (λ x y f. sym (eqb-true y x f)) t c.touched e in
+        changed_passes k d l t m (passes (tile_has s (differs (cells_before c) c.cells)) (tiles s) t (rw (touched_is s c (are k d l) (there k d l)) at held))
+
+    pub touched_within : All (λ c. length c.touched ≤ length (filter hit (tiles s))) operands
+    touched_within k d l =
+        let c = get_or operands k d in
+        let test : ℕ → Bool = tile_has s (differs (cells_before c) c.cells) in
+        omega (arith, ap length (touched_is s c (are k d l) (there k d l)), filter_fewer test hit (tiles s) (range_all (λ t. test t ≡ true → hit t ≡ true) (tiles_in s) (changed_passes k d l)))
+
+    -- the tiles that all patches hold
+    pub touched_few : touched_in operands ≤ length operands * length (filter hit (tiles s))
+    touched_few = sum_by-le (λ c. length c.touched) (length (filter hit (tiles s))) operands touched_within
+
+-- ---- the damage
 
 -- tile t is of the damage
 abbrev pub is_hit : Size → Op → Option Cells → List ChangeState → ℕ → Bool
@@ -64,10 +119,12 @@ damage_within s op was operands =
 
 -- the looks that finding it takes
 pub reached_fit : (s : Size) (op : Op) (was : Option Cells) (operands : List ChangeState) → All (IsOperand s) operands → ((w : Cells) → was ≡ Some w → All (λ c. IsSome c.before) operands) → length operands ≤ 8 → reached_looks was operands ≤ 16 * length (damage_by s op was operands)
+unfolding op_damage
 reached_fit s op None operands are there few = omega arith
 reached_fit s op (Some w) operands are there few =
     let d = length (damage_by s op (Some w) operands) in
-    omega (arith, touched_few s op operands w are (there w refl), mul-le (length operands) d 8 d few (omega arith))
+    let touched : touched_in operands ≤ length operands * d = touched_few s operands (reach_of op) (is_hit s op (Some w) operands) (λ t. or_left _ _) are (there w refl) in
+    omega (arith, touched, mul-le (length operands) d 8 d few (omega arith))
 
 -- ---- what is kept
 

@@ -1,5 +1,5 @@
 -- What is kept of a statement, to the functions of its class.
-use Rattle.std.proofs.Common.{◌≡◌, ℕ, ◌*◌, true, List, [], ◌∷◌, length, Option, Some, None, Result, Ok, Err, ℤ, refl, sym, ◌∙◌, ap, subst, arith, IsTrue, IsFalse}
+use Rattle.std.proofs.Common.{◌≡◌, ℕ, true, List, [], ◌∷◌, length, Option, Some, None, Result, Ok, Err, ℤ, refl, sym, ◌∙◌, ap, subst, arith, IsTrue, IsFalse}
 use Rattle.std.specs.Prelude.{is_some, IfSome}
 use Rattle.std.specs.Borrow.{Bor}
 use Rattle.std.specs.Option.{option_copied}
@@ -7,20 +7,19 @@ use Rattle.map_nums.specs.declared.Stat.{Stat}
 use Rattle.map_nums.specs.Grids.{Size, Cells}
 use Rattle.map_defs.specs.Facts.{Class, zonal_class, sight_class, nearest_class, class_of, is_repaired}
 use Rattle.map_defs.specs.Ops.{Op, Term, zonal_op, sight_op}
-use Rattle.map_defs.specs.Operate.{operand}
+use Rattle.map_defs.specs.Operate.{operate, operand}
 use Rattle.map_defs.specs.Sight.{Sighting}
 use Rattle.layer_tiles.specs.Changes.{ChangeState}
 use Rattle.layer_tiles.specs.Layers.{LayerState}
 use Rattle.layer_tiles.specs.Operands.{cells_after}
 use Rattle.layer_tiles.specs.Patches.{PatchState}
-use Rattle.layer_tiles.specs.Tallies.{TallyState, RisesBy}
 use Rattle.layer_tiles.specs.declared.kernels.KernelRefusal.{KernelRefusal}
 use Rattle.layer_tiles.specs.declared.kernels.KernelRefusal.TheVariants.{Overflow, NoMemory}
 use Rattle.damage_sets.specs.Sets.{TileSetState}
 use Rattle.tile_work.specs.Working.{before_of}
 use Rattle.zonal_totals.specs.Books.{BookState}
 use Rattle.statement_parser.specs.Views.{op_view}
-use Rattle.map_waves.specs.Statements.{cells_were, damage_by, work_by}
+use Rattle.map_waves.specs.Statements.{cells_were}
 use Rattle.map_waves.specs.Jobs.{was_in, aside_in}
 use Rattle.map_waves.specs.Keeping.{was_of, IsRightKept}
 use Rattle.map_waves.specs.declared.keeping.Kept.{Kept}
@@ -29,6 +28,7 @@ use Rattle.map_waves.specs.declared.keeping.Aside.TheVariants.{Other}
 use Rattle.map_waves.specs.declared.keeping.Renewal.TheVariants.{Anew}
 use Rattle.op_jobs.specs.Beside.{suits, suits_in, IsBook, AreViewers, book_at, book_in, viewers_at, kept_viewers, layer_in}
 use Rattle.op_jobs.specs.Classes.{is_nearest_in}
+use Rattle.op_jobs.specs.Operands.{IsEdited}
 use Rattle.op_jobs.specs.Owning.{IsOwn, IsWholeJob, reached}
 use Rattle.op_jobs.specs.Pieces.{IsWholeMade, IsWholePiece, IsWholeRepaired}
 use Rattle.op_jobs.specs.Repairs.{IsRepairOf}
@@ -48,12 +48,13 @@ use Rattle.op_jobs.specs.declared.pieces.Piece.{Piece}
 use Rattle.op_jobs.specs.declared.pieces.Piece.TheVariants.{Tile, Whole}
 use Rattle.map_waves.specs.declared.keeping.Made.{Made}
 use Rattle.op_jobs.proofs.Repairing.{alone_other}
-use Rattle.op_jobs.proofs.WholeDamage.{alone_damaged, damage_counted}
-use Rattle.op_jobs.proofs.ZonalStays.{range_from_faultless}
+use Rattle.op_jobs.proofs.WholeTiles.{alone_damaged, damage_counted}
+use Rattle.op_jobs.proofs.Ranging.{wide_none}
 
 -- ---- the book
 
 pub right_book : (s : Size) (stat : Stat) (t u : Term) (operands : List ChangeState) (kept : Option (Kept Beside)) (r : Option (Bor BookState)) → option_copied r ≡ book_in kept → IsRightKept suits s (zonal_op stat t u) operands kept → IfSome r (λ book. IsRightBook stat s operands book.now)
+unfolding operate
 right_book s stat t u operands kept None e is = tt
 right_book s stat t u operands None (Some b) e is = absurd cc
 right_book s stat t u operands (Some k) (Some b) e is = at k.beside e is.beside
@@ -61,32 +62,30 @@ right_book s stat t u operands (Some k) (Some b) e is = at k.beside e is.beside
     at : (x : Aside Beside) → Some b.now ≡ book_at x → IsBook s (operand (cells_were operands) 0) (operand (cells_were operands) 1) x → IsRightBook stat s operands b.now
     at (Other (Book c)) f q =
         let same : b.now ≡ c = cc in
-        subst (IsRightBook stat s operands) (sym same) (record { there = is.there; size = q.0; book = q.1; in_range = range_from_faultless stat t u s (cells_were operands) is.faultless })
+        subst (IsRightBook stat s operands) (sym same) (record { there = is.there; size = q.0; book = q.1; in_range = wide_none s (zonal_op stat t u) (cells_were operands) is.faultless })
     at x f q = absurd q
 
-some_of : {X : Type 0} (x : X) (r : Option (Bor X)) → option_copied r ≡ Some x → true ≡ is_some r
-some_of x None e = absurd cc
-some_of x (Some b) e = refl
+copied_there : {X : Type 0} (r : Option (Bor X)) {o : Option X} → option_copied r ≡ o → is_some o ≡ is_some r
+copied_there None e = sym (ap is_some e)
+copied_there (Some b) e = sym (ap is_some e)
 
-pub book_there : (s : Size) (stat : Stat) (t u : Term) (operands : List ChangeState) (kept : Option (Kept Beside)) (r : Option (Bor BookState)) → option_copied r ≡ book_in kept → IsRightKept suits s (zonal_op stat t u) operands kept → is_some (was_of kept) ≡ is_some r
-book_there s stat t u operands None None e is = refl
-book_there s stat t u operands None (Some b) e is = absurd cc
-book_there s stat t u operands (Some k) r e is = at k.beside e is.beside
+pub book_there : {s : Size} {stat : Stat} {t u : Term} {operands : List ChangeState} (kept : Option (Kept Beside)) (r : Option (Bor BookState)) → option_copied r ≡ book_in kept → IsEdited s (zonal_op stat t u) operands kept → is_some (was_of kept) ≡ is_some r
+book_there None r e is = copied_there r e
+book_there {s} {operands} (Some k) r e is = at k.beside is.right.beside ∙ copied_there r e
   where
-    at : (x : Aside Beside) → option_copied r ≡ book_at x → IsBook s (operand (cells_were operands) 0) (operand (cells_were operands) 1) x → true ≡ is_some r
-    at (Other (Book c)) f q = some_of c r f
-    at x f q = absurd q
+    at : (x : Aside Beside) → IsBook s (operand (cells_were operands) 0) (operand (cells_were operands) 1) x → true ≡ is_some (book_at x)
+    at (Other (Book c)) q = refl
+    at x q = absurd q
 
 -- ---- the viewers
 
-pub viewers_there : (s : Size) (sight : Sighting) (t u : Term) (operands : List ChangeState) (kept : Option (Kept Beside)) (r : Option (Bor (List (ℕ × ℤ)))) → option_copied r ≡ kept_viewers kept → IsRightKept suits s (sight_op sight t u) operands kept → is_some (was_of kept) ≡ is_some r
-viewers_there s sight t u operands None None e is = refl
-viewers_there s sight t u operands None (Some b) e is = absurd cc
-viewers_there s sight t u operands (Some k) r e is = at k.beside e is.beside
+pub viewers_there : {s : Size} {sight : Sighting} {t u : Term} {operands : List ChangeState} (kept : Option (Kept Beside)) (r : Option (Bor (List (ℕ × ℤ)))) → option_copied r ≡ kept_viewers kept → IsEdited s (sight_op sight t u) operands kept → is_some (was_of kept) ≡ is_some r
+viewers_there None r e is = copied_there r e
+viewers_there {s} {operands} (Some k) r e is = at k.beside is.right.beside ∙ copied_there r e
   where
-    at : (x : Aside Beside) → option_copied r ≡ viewers_at x → AreViewers s (operand (cells_were operands) 0) x → true ≡ is_some r
-    at (Other (Viewers v)) f q = some_of v r f
-    at x f q = absurd q
+    at : (x : Aside Beside) → AreViewers s (operand (cells_were operands) 0) x → true ≡ is_some (viewers_at x)
+    at (Other (Viewers v)) q = refl
+    at x q = absurd q
 
 -- ---- the layer
 
@@ -103,14 +102,6 @@ before_is kept o e = ap before_of e ∙ at kept
     at : (k : Option (Kept Beside)) → before_of (layer_in k) ≡ was_of k
     at None = refl
     at (Some k) = refl
-
-pub answer_at_size : (z s : Size) (op : Op) (b was : Option Cells) (operands : List ChangeState) (r : Result _ KernelRefusal) → z ≡ s → b ≡ was → IsWholeAnswer z op b operands r → IsWholeAnswer s op was operands r
-answer_at_size z s op b was operands r e f is = subst (λ y. IsWholeAnswer y op was operands r) e (subst (λ o. IsWholeAnswer z op o operands r) f is)
-
-pub rises_at_size : (z s : Size) (op : Op) (b was : Option Cells) (operands : List ChangeState) (x y : TallyState) → z ≡ s → b ≡ was → RisesBy (32 * length (damage_by z op b operands)) (1000 * work_by z op b operands) x y → RisesBy (32 * length (damage_by s op was operands)) (1000 * work_by s op was operands) x y
-rises_at_size z s op b was operands x y e f is =
-    let P : Size → Option Cells → Type 0 = λ v o. RisesBy (32 * length (damage_by v op o operands)) (1000 * work_by v op o operands) x y in
-    subst (λ v. P v was) e (subst (P z) f is)
 
 pub whole_refusal : (s : Size) (op : Op) (was : Option Cells) (operands : List ChangeState) (e : KernelRefusal) → IsWholeAnswer s op was operands (Err e) → (aside : Option (Aside Beside)) → IsWholePiece s op was aside operands (Err e)
 whole_refusal s op was operands (Overflow at) is aside = is

@@ -7,11 +7,9 @@ use Rattle.map_nums.specs.declared.Stat.{Stat}
 use Rattle.map_nums.specs.declared.Stat.TheVariants.{Product}
 use Rattle.map_nums.specs.declared.Rate.{Rate}
 use Rattle.map_nums.specs.Grids.{Size, Cells, cell_at}
-use Rattle.map_defs.specs.Local.{LocalOp, of_stat, difference, ratio, rating}
-use Rattle.map_defs.specs.Differences.{costs_by}
+use Rattle.map_defs.specs.Local.{LocalOp, difference}
 use Rattle.map_defs.specs.Facts.{Class, zonal_class, sight_class, nearest_class, class_of}
 use Rattle.map_defs.specs.Ops.{Term, layer_term, number_term, Head, rating_head, focal_head, zonal_head, Op}
-use Rattle.map_defs.specs.Operate.{operand}
 use Rattle.layer_tiles.specs.Cells.{IsCell}
 use Rattle.layer_tiles.specs.Changes.{ChangeState}
 use Rattle.layer_tiles.specs.Operands.{cells_after}
@@ -27,7 +25,7 @@ use Rattle.map_waves.specs.Keeping.{IsRightKept}
 use Rattle.map_waves.specs.declared.keeping.Kept.{Kept}
 use Rattle.map_waves.specs.declared.keeping.Aside.{Aside}
 use Rattle.map_waves.specs.declared.keeping.Aside.TheVariants.{Layer, Other}
-use Rattle.op_jobs.specs.Beside.{IsNothing, IsBook, AreViewers, AreCosts, suits, suits_in}
+use Rattle.op_jobs.specs.Beside.{suits, suits_in}
 use Rattle.op_jobs.specs.Grounds.{IsGround, IsGroundOf, IsGrounded}
 use Rattle.op_jobs.specs.Kernels.{CanMake, beside_by}
 use Rattle.op_jobs.specs.Owning.{IsOwn}
@@ -41,7 +39,7 @@ use Rattle.op_jobs.specs.declared.beside.Beside.TheVariants as a_beside
 use Rattle.op_jobs.specs.declared.kernels.Kernel.{Kernel}
 use Rattle.op_jobs.specs.declared.kernels.Kernel.TheVariants as a_kernel
 use Rattle.op_jobs.specs.declared.lists.LayerList.{LayerList}
-use Rattle.op_jobs.specs.declared.lists.LayerList.TheVariants.{Costs, Nearest, Flow, Labels}
+use Rattle.op_jobs.specs.declared.lists.LayerList.TheVariants.{Flow, Labels}
 use Rattle.op_jobs.specs.declared.own.Own.{Own}
 use Rattle.op_jobs.specs.declared.own.Own.TheVariants as an_own
 
@@ -60,7 +58,7 @@ cell_once None = Unit-prop
 cell_once (Some z) = hlevel props
 
 rate_once : (r : Rate) → IsProp (IsRate r)
-rate_once r = let give : IsProp (IsCell r.give) = cell_once r.give in hlevel (give, props)
+rate_once r = hlevel (cell_once r.give, props)
 
 no_product_once : (s : Stat) → IsProp (IsNoProduct s)
 no_product_once Product = hlevel
@@ -71,56 +69,39 @@ radius_once None = Unit-prop
 radius_once (Some r) = hlevel props
 
 head_once : (head : Head) → IsProp (IsHead head)
-head_once (rating_head rs) = let each : IsProp (Each IsRate rs) = each_once IsRate rate_once rs in hlevel (each, props)
+head_once (rating_head rs) = hlevel (each_once IsRate rate_once rs, props)
 head_once (focal_head s r) = ×_prop (no_product_once s) (radius_once r)
 head_once (zonal_head s) = no_product_once s
 head_once head = hlevel props
 
 op_once : (op : Op) → IsProp (HasRanges op)
-op_once op =
-    let head : IsProp (IsHead op.head) = head_once op.head in
-    let each : IsProp (Each IsInRange op.terms) = each_once IsInRange term_once op.terms in
-    hlevel (head, each, props)
+op_once op = hlevel (head_once op.head, each_once IsInRange term_once op.terms, props)
 
 -- ---- what is kept is right
 
-nothing_once : (b : Aside Beside) → IsProp (IsNothing b)
-nothing_once (Other a_beside.Nothing) = Unit-prop
-nothing_once b = hlevel
-
-book_once : (s : Size) (values zones : Cells) (b : Aside Beside) → IsProp (IsBook s values zones b)
-book_once s values zones (Other (a_beside.Book b)) = hlevel props
-book_once s values zones b = hlevel
-
-viewers_once : (s : Size) (cells : Cells) (b : Aside Beside) → IsProp (AreViewers s cells b)
-viewers_once s cells (Other (a_beside.Viewers v)) = hlevel props
-viewers_once s cells b = hlevel
-
-costs_once : (s : Size) (cells : Cells) (b : Aside Beside) → IsProp (AreCosts s cells b)
-costs_once s cells (Layer l) = hlevel props
-costs_once s cells b = hlevel
-
 suits_once : (class : Class) (s : Size) (operands : List Cells) (b : Aside Beside) → IsProp (suits_in class s operands b)
-suits_once (zonal_class stat) s operands b = book_once s (operand operands 0) (operand operands 1) b
-suits_once (sight_class r) s operands b = viewers_once s (operand operands 0) b
-suits_once (nearest_class limit) s operands b = costs_once s (costs_by limit s operands) b
-suits_once class s operands b = nothing_once b
+suits_once (zonal_class stat) s operands (Other (a_beside.Book b)) = hlevel props
+suits_once (zonal_class stat) s operands b = hlevel
+suits_once (sight_class r) s operands (Other (a_beside.Viewers v)) = hlevel props
+suits_once (sight_class r) s operands b = hlevel
+suits_once (nearest_class limit) s operands (Layer l) = hlevel props
+suits_once (nearest_class limit) s operands b = hlevel
+suits_once class s operands (Other a_beside.Nothing) = Unit-prop
+suits_once class s operands b = hlevel
 
 right_once : (s : Size) (op : Op) (operands : List ChangeState) (kept : Option (Kept Beside)) → IsProp (IsRightKept suits s op operands kept)
 right_once s op operands None = Unit-prop
-right_once s op operands (Some k) = let beside : IsProp (suits s op (cells_were operands) k.beside) = suits_once (class_of op) s (cells_were operands) k.beside in hlevel (beside, props)
+right_once s op operands (Some k) = hlevel (suits_once (class_of op) s (cells_were operands) k.beside, props)
 
 -- ---- what jobs share
 
 takes_once : (l : LocalOp) (n : ℕ) → IsProp (Takes l n)
-takes_once (of_stat stat ignoring) n = hlevel props
 takes_once difference n = hlevel props
-takes_once ratio n = hlevel props
-takes_once (rating rates) n = hlevel props
+takes_once l n = hlevel props
 
 even_once : (bands : List FlowBand) → IsProp (AreEven bands)
 even_once [] = Unit-prop
-even_once (b ∷ bands) = let rest : IsProp (AreEven bands) = even_once bands in hlevel (rest, props)
+even_once (b ∷ bands) = hlevel (even_once bands, props)
 
 back_once : (i : ℕ) (label : Option ℤ) → IsProp (IsBack i label)
 back_once i None = Unit-prop
@@ -128,14 +109,10 @@ back_once i (Some (pos zero)) = hlevel
 back_once i (Some (pos (suc place))) = hlevel props
 back_once i (Some (negsuc n)) = hlevel
 
-all_back_once : (labels : Cells) → IsProp (AreBack labels)
-all_back_once labels = Π_prop λ i. Π_prop λ h. back_once i (cell_at labels i)
-
 list_once : (s : Size) (list : LayerList) → IsProp (IsList s list)
-list_once s (Costs list) = hlevel props
-list_once s (Nearest list) = hlevel props
-list_once s (Flow list) = let even : IsProp (AreEven list.bands.items) = even_once list.bands.items in hlevel (even, props)
-list_once s (Labels list) = let back : IsProp (AreBack list.labels.items) = all_back_once list.labels.items in hlevel (back, props)
+list_once s (Flow list) = hlevel (even_once list.bands.items, props)
+list_once s (Labels list) = let back : IsProp (AreBack list.labels.items) = Π_prop λ i. Π_prop λ h. back_once i (cell_at list.labels.items i) in hlevel (back, props)
+list_once s list = hlevel props
 
 can_once : (s : Size) (operands : List ChangeState) (kernel : Kernel) → IsProp (CanMake s operands kernel)
 can_once s operands (a_kernel.Local l) = takes_once (op_of l) (length operands)
@@ -144,45 +121,25 @@ can_once s operands (a_kernel.Fresh fresh) = list_once s fresh.list
 can_once s operands kernel = hlevel props
 
 own_once : (s : Size) (op : Op) (operands : List ChangeState) (was : Option Cells) (own : Own) → IsProp (IsOwn s op operands was own)
-own_once s op operands was (an_own.Tiles jobs) =
-    let can : IsProp (CanMake s operands jobs.kernel) = can_once s operands jobs.kernel in
-    let beside : IsProp (suits s op (cells_after operands) (beside_by jobs.kernel)) = suits_once (class_of op) s (cells_after operands) (beside_by jobs.kernel) in
-    hlevel (can, beside, props)
+own_once s op operands was (an_own.Tiles jobs) = hlevel (can_once s operands jobs.kernel, suits_once (class_of op) s (cells_after operands) (beside_by jobs.kernel), props)
 own_once s op operands was (an_own.Whole job) = hlevel props
 
 -- ---- what parts are found from
 
 ground_of_once : (op : Op) (ground : Ground) → IsProp (IsGroundOf op ground)
-ground_of_once op (a_ground.Costs g) = hlevel props
-ground_of_once op (a_ground.Nearest g) = hlevel props
-ground_of_once op (a_ground.Flow g) = hlevel props
-ground_of_once op (a_ground.Regions cells) = hlevel props
 ground_of_once op a_ground.Zones = hlevel props
+ground_of_once op ground = hlevel props
 
 ground_once : (s : Size) (operands : List ChangeState) (ground : Ground) → IsProp (IsGround s operands ground)
-ground_once s operands (a_ground.Costs g) = hlevel props
-ground_once s operands (a_ground.Nearest g) = hlevel props
-ground_once s operands (a_ground.Flow g) = hlevel props
-ground_once s operands (a_ground.Regions cells) = hlevel props
 ground_once s operands a_ground.Zones = hlevel props
-
-grounded_once : (s : Size) (op : Op) (operands : List ChangeState) (n : ℕ) (ground : Ground) → IsProp (IsGrounded s op operands n ground)
-grounded_once s op operands n ground =
-    let of : IsProp (IsGroundOf op ground) = ground_of_once op ground in
-    let is : IsProp (IsGround s operands ground) = ground_once s operands ground in
-    hlevel (of, is, props)
+ground_once s operands ground = hlevel props
 
 pub grounded_of : (s : Size) (op : Op) (operands : List ChangeState) (n : ℕ) (ground : Ground) → ∥ IsGrounded s op operands n ground ∥₁ → IsGrounded s op operands n ground
-grounded_of s op operands n ground is = ∥∥₁_elim is (grounded_once s op operands n ground) (λ x. x)
+grounded_of s op operands n ground is = ∥∥₁_elim is (hlevel (ground_of_once op ground, ground_once s operands ground, props)) (λ x. x)
 
 -- ---- all of it
 
-sound_once : (j : StatementJobs) → IsProp (IsSound j)
-sound_once j =
-    let formed : IsProp (HasRanges (op_view j.op)) = op_once (op_view j.op) in
-    let right : IsProp (IsRightKept suits j.size (op_view j.op) j.operands j.kept) = right_once j.size (op_view j.op) j.operands j.kept in
-    let own : IsProp (IsOwn j.size (op_view j.op) j.operands (was_in j) j.own) = own_once j.size (op_view j.op) j.operands (was_in j) j.own in
-    hlevel (formed, right, own, props)
-
 pub sound_of : (j : StatementJobs) → ∥ IsSound j ∥₁ → IsSound j
-sound_of j is = ∥∥₁_elim is (sound_once j) (λ x. x)
+sound_of j is =
+    let op = op_view j.op in
+    ∥∥₁_elim is (hlevel (op_once op, right_once j.size op j.operands j.kept, own_once j.size op j.operands (was_in j) j.own, props)) (λ x. x)

@@ -1,5 +1,5 @@
 -- What jobs share is right, by the class of their operation.
-use Rattle.std.proofs.Common.{◌≡◌, ℕ, ◌≤◌, List, length, Option, Some, None, refl, sym, ◌∙◌, subst, arith, IsTrue, IsFalse}
+use Rattle.std.proofs.Common.{◌≡◌, ℕ, ◌≤◌, List, length, Option, Some, None, refl, sym, ◌∙◌, arith, IsTrue, IsFalse}
 use Rattle.std.specs.Prelude.{◌≢◌, Vec, filter, nat_lt, IfSome}
 use Rattle.std.specs.declared.alloc.Global.{Global}
 use Rattle.map_nums.specs.declared.Stat.{Stat}
@@ -13,16 +13,20 @@ use Rattle.map_defs.specs.Operate.{operate, operand}
 use Rattle.map_defs.specs.Sight.{viewer_count, most_viewers}
 use Rattle.layer_tiles.specs.Changes.{ChangeState}
 use Rattle.layer_tiles.specs.Operands.{cells_after}
+use Rattle.layer_tiles.specs.Tallies.{TallyState, RisesBy}
+use Rattle.layer_tiles.proofs.Rising.{rises_within}
 use Rattle.damage_sets.specs.Sets.{has_tile}
-use Rattle.statement_parser.specs.Formed.{IsNoProduct, IsSighting}
+use Rattle.statement_parser.specs.Formed.{IsNoProduct}
 use Rattle.sight_lines.specs.Puts.{sighting_of}
 use Rattle.sight_lines.specs.Viewed.{viewers_of}
 use Rattle.sight_lines.specs.declared.tiles.Sight.{Sight}
 use Rattle.zonal_totals.specs.Books.{BookState, IsBookOf}
 use Rattle.map_waves.specs.Statements.{damage_by}
+use Rattle.map_waves.specs.declared.keeping.Kept.{Kept}
+use Rattle.op_jobs.specs.declared.beside.Beside.{Beside}
 use Rattle.op_jobs.specs.Kernels.{kernel_reach}
 use Rattle.op_jobs.specs.Lists.{IsFreshMade}
-use Rattle.op_jobs.specs.Operands.{AreBoth}
+use Rattle.op_jobs.specs.Operands.{IsEdited}
 use Rattle.op_jobs.specs.Owning.{reached, AreTileJobs}
 use Rattle.op_jobs.specs.Repairs.{IsPlain}
 use Rattle.op_jobs.specs.declared.kernels.Kernel.{Kernel}
@@ -57,11 +61,11 @@ module _ (s : Size) (operands : List ChangeState) (was : Option Cells) (list : V
       }
 
   -- over a book
-  pub zonal_jobs : (stat : Stat) (t u : Term) (book : BookState) → AreBoth s operands → IsNoProduct stat → book.size ≡ s → IsBookOf book (operand (cells_after operands) 0) (operand (cells_after operands) 1) → list.items ≡ damage_by s (zonal_op stat t u) was operands → AreTileJobs s (zonal_op stat t u) operands was (jobs_of list (a_kernel.Zonal stat book))
+  pub zonal_jobs : {stat : Stat} {v w : Term} {kept : Option (Kept Beside)} (t u : Term) (book : BookState) → IsEdited s (zonal_op stat v w) operands kept → book.size ≡ s → IsBookOf book (operand (cells_after operands) 0) (operand (cells_after operands) 1) → list.items ≡ damage_by s (zonal_op stat t u) was operands → AreTileJobs s (zonal_op stat t u) operands was (jobs_of list (a_kernel.Zonal stat book))
   unfolding operate
-  zonal_jobs stat t u book both stats size is listed = record {
+  zonal_jobs {stat} t u book edited size is listed = record {
     tiles = listed;
-    can = (both, no_product stat stats, size, is);
+    can = (record { two = edited.operands_are.count; each = edited.operands_are.each }, no_product stat edited.operands_are.formed.0, size, is);
     cells = refl;
     beside_is = (size, is);
     work_is = sym (work_none s (zonal_op stat t u) was operands refl);
@@ -70,13 +74,14 @@ module _ (s : Size) (operands : List ChangeState) (was : Option Cells) (list : V
   }
 
   -- over the viewers
-  pub sight_jobs : (sight : Sight) (t u : Term) → AreBoth s operands → IsSighting (sighting_of sight) → viewer_count (operand (cells_after operands) 0) ≤ most_viewers → list.items ≡ damage_by s (sight_op (sighting_of sight) t u) was operands → AreTileJobs s (sight_op (sighting_of sight) t u) operands was (jobs_of list (a_kernel.Sight sight (viewers_of s (operand (cells_after operands) 0))))
+  pub sight_jobs : {v w : Term} {kept : Option (Kept Beside)} (sight : Sight) (t u : Term) → IsEdited s (sight_op (sighting_of sight) v w) operands kept → viewer_count (operand (cells_after operands) 0) ≤ most_viewers → list.items ≡ damage_by s (sight_op (sighting_of sight) t u) was operands → AreTileJobs s (sight_op (sighting_of sight) t u) operands was (jobs_of list (a_kernel.Sight sight (viewers_of s (operand (cells_after operands) 0))))
   unfolding operate
-  sight_jobs sight t u both formed few listed =
+  sight_jobs sight t u edited few listed =
+      let formed = edited.operands_are.formed.0 in
       let viewers : IsFalse (nat_lt most_viewers (viewer_count (operand (cells_after operands) 0))) = grind (arith, few) in
       record {
         tiles = listed;
-        can = (both, formed.reach.1, record { from_in_range = formed.from; to_in_range = formed.to }, refl);
+        can = (record { two = edited.operands_are.count; each = edited.operands_are.each }, formed.reach.1, record { from_in_range = formed.from; to_in_range = formed.to }, refl);
         cells = refl;
         beside_is = refl;
         work_is = sym (work_none s (sight_op (sighting_of sight) t u) was operands refl);
@@ -96,6 +101,11 @@ fresh_jobs s op operands list fresh works is listed = record {
   viewers = viewers_none (class_of op) (cells_after operands) works;
 }
 
+-- ---- looks
+
+pub looks_within : {m n : ℕ} {a b : TallyState} → RisesBy m 0 a b → m ≤ n → RisesBy n 0 a b
+looks_within {m} {n} {a} {b} r l = rises_within m 0 n 0 a b l (omega arith) r
+
 -- ---- what is there
 
 pub both_some : {X : Type 0} (P Q : X → Type 0) (o : Option X) → IfSome o P → IfSome o Q → IfSome o (λ x. P x × Q x)
@@ -103,7 +113,7 @@ both_some P Q None p q = tt
 both_some P Q (Some x) p q = (p, q)
 
 pub at_some : {X : Type 0} (P : X → Type 0) (o : Option X) (x : X) → o ≡ Some x → IfSome o P → P x
-at_some {X = X} P o x e p = let R : Option X → Type 0 = λ y. IfSome y P in subst R e p
+at_some P o x e p = rw (e) at p
 
 pub for_some : {X : Type 0} (P Q : X → Type 0) (o : Option X) → ((x : X) → P x → Q x) → IfSome o P → IfSome o Q
 for_some P Q None f p = tt

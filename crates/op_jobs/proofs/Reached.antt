@@ -26,11 +26,8 @@ use Rattle.damage_sets.specs.Sets.{has_tile, set_by}
 use Rattle.damage_sets.specs.Damage.{damage_of}
 use Rattle.map_waves.specs.Statements.{cells_were, made, damage_by}
 use Rattle.op_jobs.specs.Classes.{by_reach, by_reach_in}
-use Rattle.op_jobs.proofs.Felt.{felt, Stays}
-use Rattle.op_jobs.proofs.Following.{by_places, local_stays, focal_stays, form_stays, direction_stays}
-use Rattle.op_jobs.proofs.Near.{same_operand}
+use Rattle.op_jobs.proofs.Following.{felt, Stays, by_places, local_stays, focal_stays, form_stays, direction_stays, same_operand, sight_same}
 use Rattle.op_jobs.proofs.Quiet.{has_one}
-use Rattle.op_jobs.proofs.SightStays.{sight_same}
 use Rattle.op_jobs.proofs.Listing.{range_all, tests_same, filter_all}
 
 -- ---- the tests

@@ -36,9 +36,12 @@ use Rattle.op_jobs.proofs.Reached.{reached_list, all_list}
 
 -- ---- operands
 
+pub size_first : (s : Size) (operands : List ChangeState) → 0 < length operands → All (λ c. c.size ≡ s) operands → size_of operands ≡ s
+size_first s [] some are = absurd (omega arith)
+size_first s (c ∷ rest) some are = are 0 c (omega arith)
+
 pub size_is : (s : Size) (operands : List ChangeState) → 0 < length operands → All (IsOperand s) operands → size_of operands ≡ s
-size_is s [] some are = absurd (omega arith)
-size_is s (c ∷ rest) some are = (are 0 c (omega arith)).size
+size_is s operands some are = size_first s operands some (λ k c l. (are k c l).size)
 
 pub extent_is : (s : Size) (op : Op) (operands : List ChangeState) → AreOperandsOf s op operands → size_of operands ≡ s
 extent_is s op operands are = size_is s operands (omega (arith, are.count, terms_some op are.formed)) are.each

@@ -20,7 +20,7 @@ use Rattle.layer_tiles.specs.Cells.{IsCell, AreCells}
 use Rattle.drainage_flow.specs.Overflows.{IsOverflow}
 use Rattle.changed_cells.proofs.Joining.{filter_most}
 use Rattle.op_jobs.proofs.Listing.{tests_same}
-use Rattle.op_jobs.proofs.Narrow.{position_none, position_wide}
+use Rattle.op_jobs.proofs.Ranging.{position_none, position_wide}
 
 -- ---- numbers in range
 

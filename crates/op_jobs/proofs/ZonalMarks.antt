@@ -3,13 +3,14 @@ use Rattle.std.proofs.Common.{◌≡◌, ◌⊎◌, inl, inr, ℕ, zero, suc, �
 use Rattle.std.specs.List.{AllPairs, Contains}
 use Rattle.std.proofs.lemmas.Bool.{cases_eq, cases_lt}
 use Rattle.std.proofs.lemmas.List.{get_or-set_same, get_or-set_other, length-set}
-use Rattle.std.proofs.lemmas.Option.{same_Some, slice_get-get_or, slice_get_within}
+use Rattle.std.proofs.lemmas.Option.{same_Some, get_or_from_slice_get, slice_get-get_or, slice_get_within}
 use Rattle.map_nums.specs.Grids.{Size, IsSize, Cells}
+use Rattle.map_nums.specs.declared.Stat.{Stat}
 use Rattle.layer_tiles.specs.Tiles.{tiles_in}
 use Rattle.layer_tiles.proofs.Rounds.{back}
 use Rattle.zonal_totals.specs.Tilings.{HasZone, IsZoneTile}
 use Rattle.op_jobs.specs.Zonal.{AreMarked}
-use Rattle.op_jobs.specs.ZonalZones.{AreTilesOf, IsAmongFirst}
+use Rattle.op_jobs.specs.ZonalZones.{AreTilesOf, IsAmongFirst, IsOfOther, HasOtherZone}
 use Rattle.op_jobs.proofs.Listing.{in_all, nothing_in}
 
 -- ---- marks
@@ -41,35 +42,21 @@ marked_one s tile old new l e =
 
 -- one step after another
 module _ (s : Size) (P Q R : ℕ → Type 0) (old mid new : List Bool) (p : AreMarked s P old mid) (q : AreMarked s Q mid new) (split : (t : ℕ) → R t → P t ⊎ Q t) (first : (t : ℕ) → P t → R t) (second : (t : ℕ) → Q t → R t) where
-  then_only : (t : ℕ) → t < tiles_in s → (get_or mid t false ≡ true) ⊎ Q t → (get_or old t false ≡ true) ⊎ R t
-  then_only t l (inl a) = ⊎_elim (λ (x : get_or old t false ≡ true). inl x) (λ (x : P t). inr (first t x)) (p.only t l a)
-  then_only t l (inr h) = inr (second t h)
-
-  then_added : (t : ℕ) → t < tiles_in s → P t ⊎ Q t → get_or new t false ≡ true
-  then_added t l (inl a) = q.kept t l (p.added t l a)
-  then_added t l (inr b) = q.added t l b
-
   pub marked_then : AreMarked s R old new
   marked_then = record {
     count = q.count ∙ p.count;
     kept = λ t l e. q.kept t l (p.kept t l e);
-    added = λ t l h. then_added t l (split t h);
-    only = λ t l e. then_only t l (q.only t l e);
+    added = λ t l h. ⊎_elim (λ (a : P t). q.kept t l (p.added t l a)) (λ (b : Q t). q.added t l b) (split t h);
+    only = λ t l e. elim (q.only t l e) as (λ _. (get_or old t false ≡ true) ⊎ R t) [
+      | inl a ↦ elim (p.only t l a) as (λ _. (get_or old t false ≡ true) ⊎ R t) [ inl x ↦ inl x | inr x ↦ inr (first t x) ]
+      | inr h ↦ inr (second t h)
+    ];
   }
-
--- the same tiles in other words
-pub marked_as : (s : Size) (P R : ℕ → Type 0) (old new : List Bool) → AreMarked s P old new → ((t : ℕ) → P t → R t) → ((t : ℕ) → R t → P t) → AreMarked s R old new
-marked_as s P R old new p to from = record {
-  count = p.count;
-  kept = p.kept;
-  added = λ t l h. p.added t l (from t h);
-  only = λ t l e. ⊎_elim (λ (x : get_or old t false ≡ true). inl x) (λ (x : P t). inr (to t x)) (p.only t l e);
-}
 
 -- ---- places of a list
 
 pub held_at : {X : Type 0} (xs : List X) (k : ℕ) (x : X) → slice_get xs k ≡ Some x → Contains xs x
-held_at xs k x e = let l = slice_get_within xs k x e in (k, l, same_Some (get_or xs k x) x (sym (slice_get-get_or xs k x l) ∙ e))
+held_at xs k x e = (k, slice_get_within xs k x e, get_or_from_slice_get xs k x x e)
 
 pub at_held : {X : Type 0} (xs : List X) (x : X) → (c : Contains xs x) → slice_get xs c.0 ≡ Some x
 at_held xs x c = slice_get-get_or xs c.0 x c.1 ∙ ap Some c.2
@@ -117,9 +104,7 @@ same_rise (x ∷ xs) (y ∷ ys) a b f g =
 -- a number is at least its place
 pub place_most : (xs : List ℕ) → Rises xs → (k : ℕ) (t : ℕ) → slice_get xs k ≡ Some t → k ≤ t
 place_most xs a k t e =
-    let l = slice_get_within xs k t e in
-    let is : get_or xs k t ≡ t = same_Some (get_or xs k t) t (sym (slice_get-get_or xs k t l) ∙ e) in
-    omega (arith, up k l, is)
+    omega (arith, up k (slice_get_within xs k t e), get_or_from_slice_get xs k t t e)
   where
     up : (j : ℕ) → j < length xs → j ≤ get_or xs j t
     up zero l = omega arith
@@ -127,26 +112,26 @@ place_most xs a k t e =
 
 -- ---- the tiles of a zone, one after another
 
-module _ (s : Size) (zones : Cells) (z : ℤ) where
+module _ {s : Size} {zones : Cells} {z : ℤ} where
   -- those that a call tells of
-  pub tiles_told : (k : ℕ) (r : Option ℕ) → (i : IsZoneTile s zones z k r) → AreTilesOf s zones z i.tiles
-  tiles_told k r i = record { ascends = i.ascends; all = λ t h. (i.exact t).1 h; only = λ t h. (i.exact t).0 h }
+  pub tiles_told : {k : ℕ} {r : Option ℕ} → (i : IsZoneTile s zones z k r) → AreTilesOf s zones z i.tiles
+  tiles_told i = record { ascends = i.ascends; all = λ t h. (i.exact t).1 h; only = λ t h. (i.exact t).0 h }
 
   -- they are these
-  told_these : (list : List ℕ) → AreTilesOf s zones z list → (k : ℕ) (r : Option ℕ) → IsZoneTile s zones z k r → slice_get list k ≡ r
-  told_these list a k r i =
+  told_these : {list : List ℕ} {k : ℕ} {r : Option ℕ} → AreTilesOf s zones z list → IsZoneTile s zones z k r → slice_get list k ≡ r
+  told_these {list} {k} {r} a i =
       let same : i.tiles ≡ list = same_rise i.tiles list i.ascends a.ascends (λ t c. a.all t ((i.exact t).0 c)) (λ t c. (i.exact t).1 (a.only t c)) in
       subst (λ (xs : List ℕ). slice_get xs k ≡ r) same (sym i.is)
 
-  pub told_within : (k t : ℕ) → IsSize s → IsZoneTile s zones z k (Some t) → (t < tiles_in s) × (k ≤ t)
-  told_within k t good i =
+  pub told_within : {k t : ℕ} → IsSize s → IsZoneTile s zones z k (Some t) → (t < tiles_in s) × (k ≤ t)
+  told_within {k} {t} good i =
       let h = (i.exact t).0 (held_at i.tiles k t (sym i.is)) in
       (subst (λ u. u < tiles_in s) h.2 (back s h.0 good h.1).tile, place_most i.tiles i.ascends k t (sym i.is))
 
   -- one more of them
-  pub first_more : (list : List ℕ) (k t : ℕ) (old mid new : List Bool) → AreTilesOf s zones z list → IsZoneTile s zones z k (Some t) → AreMarked s (IsAmongFirst list k) old mid → t < length mid → new ≡ set mid t true → AreMarked s (IsAmongFirst list (k + 1)) old new
-  first_more list k t old mid new a i m l e =
-      let here = told_these list a k (Some t) i in
+  pub first_more : {list : List ℕ} {k t : ℕ} {old mid new : List Bool} → AreTilesOf s zones z list → IsZoneTile s zones z k (Some t) → AreMarked s (IsAmongFirst list k) old mid → t < length mid → new ≡ set mid t true → AreMarked s (IsAmongFirst list (k + 1)) old new
+  first_more {list} {k} {t} {old} {mid} {new} a i m l e =
+      let here = told_these a i in
       marked_then s (IsAmongFirst list k) (λ u. u ≡ t) (IsAmongFirst list (k + 1)) old mid new m (marked_one s t mid new l e)
       (λ u h. ⊎_elim
       (λ (p : h.0 < k). inl (h.0, p, h.2))
@@ -156,9 +141,33 @@ module _ (s : Size) (zones : Cells) (z : ℤ) where
       (λ u same. (k, omega arith, here ∙ ap Some (sym same)))
 
   -- all of them
-  pub first_all : (list : List ℕ) (k : ℕ) (old new : List Bool) → AreTilesOf s zones z list → IsZoneTile s zones z k None → AreMarked s (IsAmongFirst list k) old new → AreMarked s (HasZone s zones z) old new
-  first_all list k old new a i m =
-      let none = told_these list a k None i in
-      marked_as s (IsAmongFirst list k) (HasZone s zones z) old new m
+  pub first_all : {list : List ℕ} {k : ℕ} {old new : List Bool} → AreTilesOf s zones z list → IsZoneTile s zones z k None → AreMarked s (IsAmongFirst list k) old new → AreMarked s (HasZone s zones z) old new
+  first_all {list} {k} {old} {new} a i m =
+      let none = told_these a i in
+      marked_then s (IsAmongFirst list k) (λ t. ⊥) (HasZone s zones z) old new new m (marked_none s (λ t. ⊥) new (λ t h. h))
+      (λ t h. let c = a.all t h in let e = at_held list t c in inl (c.0, none_past list k c.0 t none e, e))
       (λ t h. a.only t (held_at list h.0 t h.2))
-      (λ t h. let c = a.all t h in let e = at_held list t c in (c.0, none_past list k c.0 t none e, e))
+      (λ t h. absurd h)
+
+-- ---- the tiles of one zone after another
+
+module _ (stat : Stat) (s : Size) (values zones values' zones' : Cells) where
+  abbrev IsOf : ℤ → ℕ → Type 0
+  IsOf z t = IsOfOther stat s values zones values' zones' z t
+
+  abbrev Has : List ℤ → ℕ → ℕ → Type 0
+  Has zs n t = HasOtherZone stat s values zones values' zones' zs n t
+
+  -- one more zone
+  pub others_more : (zs : List ℤ) (k : ℕ) (z : ℤ) (old mid new : List Bool) → slice_get zs k ≡ Some z → AreMarked s (Has zs k) old mid → AreMarked s (IsOf z) mid new → AreMarked s (Has zs (k + 1)) old new
+  others_more zs k z old mid new e m q =
+      marked_then s (Has zs k) (IsOf z) (Has zs (k + 1)) old mid new m q
+      (λ t h. ⊎_elim
+      (λ (l : h.place < k). inl (record { place = h.place; below = l; zone = h.zone; listed = h.listed; is = h.is }))
+      (λ (l : k ≤ h.place).
+      let j : h.place ≡ k = omega (arith, h.below) in
+      let same : h.zone ≡ z = same_Some h.zone z (sym h.listed ∙ ap (slice_get zs) j ∙ e) in
+      inr (subst (λ (x : ℤ). IsOf x t) same h.is))
+      (cases_lt h.place k))
+      (λ t h. record { place = h.place; below = omega (arith, h.below); zone = h.zone; listed = h.listed; is = h.is })
+      (λ t h. record { place = k; below = omega arith; zone = z; listed = e; is = h })

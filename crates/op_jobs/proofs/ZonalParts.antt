@@ -2,7 +2,7 @@
 use Rattle.std.proofs.Common.{◌≡◌, ℕ, zero, suc, ◌+◌, ◌-◌, ◌*◌, ◌<◌, Bool, true, false, List, [], ◌∷◌, length, Option, Some, None, slice_get, refl, sym, ap, subst, ◌∙◌, arith, IsTrue, cond}
 use Rattle.std.specs.Prelude.{IfSome, Vec, is_some, option_map}
 use Rattle.std.specs.Borrow.{Bor}
-use Rattle.std.specs.List.{All, sum_by, range_with_len}
+use Rattle.std.specs.List.{sum_by, range_with_len}
 use Rattle.std.specs.declared.alloc.Global.{Global}
 use Rattle.std.proofs.lemmas.List.Sums.{sum_by-cons}
 use Rattle.map_nums.specs.declared.Stat.{Stat}
@@ -14,9 +14,8 @@ use Rattle.layer_tiles.specs.Changes.{ChangeState}
 use Rattle.layer_tiles.specs.Operands.{cells_after}
 use Rattle.layer_tiles.specs.Tallies.{TallyState, RisesBy}
 use Rattle.layer_tiles.proofs.Rising.{rises_then, rises_within}
-use Rattle.zonal_totals.specs.Ranges.{CountsState, AreTileCounts, AreRanges}
+use Rattle.zonal_totals.specs.Ranges.{CountsState, AreRanges}
 use Rattle.map_waves.specs.Found.{AreFound}
-use Rattle.map_waves.specs.Operands.{IsOperand}
 use Rattle.map_waves.specs.Keeping.{kept_now, was_of}
 use Rattle.map_waves.specs.declared.keeping.Kept.{Kept}
 use Rattle.map_waves.proofs.Totals.{sum_next}
@@ -32,9 +31,8 @@ use Rattle.op_jobs.specs.declared.own.Repair.{Repair}
 use Rattle.op_jobs.specs.declared.own.Repair.TheVariants.{Alone, Nearest}
 use Rattle.op_jobs.specs.declared.ground.Part.{Part}
 use Rattle.op_jobs.specs.declared.ground.Part.TheVariants.{Counts}
-use Rattle.op_jobs.proofs.Starts.{part_first, part_last, part_rises, parts_all}
+use Rattle.op_jobs.proofs.Bands.{part_first, part_last, part_rises, parts_all}
 use Rattle.op_jobs.proofs.Repairing.{not_zonal}
-use Rattle.op_jobs.proofs.ZonalBook.{values_are, zones_are, second_in}
 
 no : false ≡ true → ⊥
 no e = cc
@@ -48,15 +46,10 @@ counted_to all n (suc m) some =
     let more : sum_by f (range_with_len 0 (suc m)) ≡ sum_by f (range_with_len 0 m) + 2 * (part_start all n (suc m) - part_start all n m) = (let here : 0 + m ≡ m = omega arith in sum_next f 0 m ∙ ap (λ j. sum_by f (range_with_len 0 m) + 2 * (part_start all n (suc j) - part_start all n j)) here) in
     omega (arith, more, counted_to all n m some, part_rises all n 0 m some (omega arith))
 
--- by part, of a zonal statement's tiles or of none
-abbrev finding_if : Bool → Size → ℕ → ℕ → ℕ
-finding_if zonal s n k = cond zonal (2 * (part_start (tiles_in s) n (suc k) - part_start (tiles_in s) n k)) 0
-
 -- the parts of a zonal statement's tiles
 pub tiles_counted : (s : Size) (op : Op) (operands : List ChangeState) (n : ℕ) → IsTrue (is_zonal op) → 0 < n → sum_by (finding s op operands n) (range_with_len 0 n) ≡ 2 * tiles_in s
 tiles_counted s op operands n z some =
-    let P : Bool → Type 0 = λ b. sum_by (finding_if b s n) (range_with_len 0 n) ≡ 2 * tiles_in s in
-    subst P (sym z) (counted_to (tiles_in s) n n some ∙ ap (λ m. 2 * m) (part_last (tiles_in s) n some))
+    rw (z) (counted_to (tiles_in s) n n some ∙ ap (λ m. 2 * m) (part_last (tiles_in s) n some))
 
 quiet : (xs : List ℕ) → sum_by (λ (k : ℕ). 0) xs ≡ 0
 quiet [] = refl
@@ -65,8 +58,7 @@ quiet (x ∷ xs) = omega (arith, quiet xs, sum_by-cons (λ (k : ℕ). 0) x xs)
 -- bands
 bands_quiet : (s : Size) (op : Op) (operands : List ChangeState) (n : ℕ) → is_zonal op ≡ false → sum_by (finding s op operands n) (range_with_len 0 n) ≡ 0
 bands_quiet s op operands n other =
-    let P : Bool → Type 0 = λ b. sum_by (finding_if b s n) (range_with_len 0 n) ≡ 0 in
-    subst P (sym other) (quiet (range_with_len 0 n))
+    rw (other) (quiet (range_with_len 0 n))
 
 pub none_was : (kept : Option (Bor (Kept Beside))) → false ≡ is_some kept → was_of (kept_now kept) ≡ None
 none_was None e = refl
@@ -86,20 +78,7 @@ all_found s op was operands n a b c none some r q =
 -- ---- what is found
 
 pub part_rises_by : (s : Size) (op : Op) (operands : List ChangeState) (n k : ℕ) (a b : TallyState) → IsTrue (is_zonal op) → RisesBy (2 * (part_start (tiles_in s) n (suc k) - part_start (tiles_in s) n k)) 0 a b → RisesBy (finding s op operands n k) 0 a b
-part_rises_by s op operands n k a b z = subst (λ zonal. RisesBy (finding_if zonal s n k) 0 a b) (sym z)
-
-pub counts_are : (s : Size) (xs : List ChangeState) (v z : ChangeState) (n m k all first end : ℕ) (c : CountsState) → xs ≡ v ∷ z ∷ [] → All (IsOperand s) xs → all ≡ tiles_in s → m ≡ n → first ≡ part_start all m k → end ≡ part_start all m (k + 1) → AreTileCounts z.size v.cells z.cells first end c
-    → IsCounts s (operand (cells_after xs) 0) (operand (cells_after xs) 1) n k (Counts c)
-counts_are s xs v z n m k all first end c both are ea en ef ee h =
-    let start : (j : ℕ) → part_start all m j ≡ part_start (tiles_in s) n j = λ j. ap (λ a. part_start a m j) ea ∙ ap (λ a. part_start (tiles_in s) a j) en in
-    let on : k + 1 ≡ suc k = omega arith in
-    let size = (second_in xs v z both (IsOperand s) are).size in
-    let V = operand (cells_after xs) 0 in
-    let Z = operand (cells_after xs) 1 in
-    subst (λ (e : ℕ). AreTileCounts s V Z (part_start (tiles_in s) n k) e c) (ee ∙ ap (part_start all m) on ∙ start (suc k))
-    (subst (λ (f : ℕ). AreTileCounts s V Z f end c) (ef ∙ start k)
-    (subst (λ (q : Size). AreTileCounts q V Z first end c) size
-    (subst (λ (ys : Cells). AreTileCounts z.size V ys first end c) (sym (zones_are xs v z both)) (subst (λ (ys : Cells). AreTileCounts z.size ys z.cells first end c) (sym (values_are xs v z both)) h))))
+part_rises_by s op operands n k a b z r = rw (z) r
 
 pub all_counts : (s : Size) (op : Op) (operands : List ChangeState) (ground : Ground) (parts : List Part) (stat : Stat) (t u : Term) → op ≡ zonal_op stat t u → AreFound IsGrounded IsPart s op operands ground parts → AreAllCounts s (operand (cells_after operands) 0) (operand (cells_after operands) 1) parts
 all_counts s op operands ground parts stat t u is found = record {

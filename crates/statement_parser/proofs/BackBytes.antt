@@ -12,7 +12,7 @@ use Rattle.map_nums.specs.declared.Stat.TheVariants.{Sum}
 use Rattle.map_nums.specs.declared.Rate.{Rate}
 use Rattle.map_nums.specs.Numbers.{is_value, greatest_value, vmax}
 use Rattle.map_words.specs.Bytes.{Text, is_blank, is_mark, is_good, first_bad, is_silent}
-use Rattle.map_words.specs.Words.{Placed, closed, longer, words_from, words_of, text_of}
+use Rattle.map_words.specs.Words.{Placed, closed, longer, words_from, text_of}
 use Rattle.map_words.specs.Names.{is_plain, has_name_form, is_name_byte, is_reserved}
 use Rattle.map_defs.specs.Ops.{Term, layer_term, number_term, Head, local_head, rating_head, focal_head, zonal_head, flow_head, spread_head, nearest_head, sight_head, Op}
 use Rattle.map_defs.specs.Sight.{Sighting}
@@ -22,9 +22,9 @@ use Rattle.statement_parser.specs.Grammar.{IsLine}
 use Rattle.layer_tiles.specs.Cells.{IsCell}
 use Rattle.statement_parser.specs.Formed.{Each, IsTerm, IsRate, IsRadius, IsSighting, IsHead, IsOp, IsWritten}
 use Rattle.statement_parser.specs.There.{IsWrittenThere}
-use Rattle.statement_parser.specs.Canonical.{cell_text, optional_texts, rates_texts, radius_texts, sight_texts, friction_texts, spread_texts, ignoring_texts, head_texts, op_texts, tail_text, written_text}
+use Rattle.statement_parser.specs.Canonical.{cell_text, optional_texts, rates_texts, radius_texts, sight_texts, is_one, friction_texts, spread_texts, ignoring_texts, head_texts, op_texts, tail_text, written_text}
 use Rattle.statement_parser.specs.TermTexts.{term_text, terms_after, terms_texts, listed_after, listed}
-use Rattle.statement_parser.specs.Spacing.{spaced, joined}
+use Rattle.statement_parser.specs.Spacing.{spaced}
 use Rattle.statement_parser.specs.Operations.{operation_text, operation_of}
 use Rattle.statement_parser.specs.declared.operation.Operation.{Operation}
 use Rattle.statement_parser.specs.declared.operation.Operation.TheVariants.{Local, Focal, Zonal, Incremental}
@@ -33,12 +33,8 @@ use Rattle.statement_parser.specs.Texts.{seen, is_short, LineText, worded}
 use Rattle.statement_parser.specs.Printing.{ReadsBack}
 use Rattle.statement_parser.proofs.Numerals.{is_run_byte, number_run, number_some}
 use Rattle.statement_parser.proofs.BackWords.{written_tail, written_texts, words_back}
+use Rattle.statement_parser.proofs.FormedLines.{both_true, not_true}
 use Rattle.statement_parser.proofs.Recutting.{name_line}
-
-both : (a b : Bool) → (a && b) ≡ true → (a ≡ true) × (b ≡ true)
-both true true e = (refl, refl)
-both true false e = absurd cc
-both false b e = absurd cc
 
 -- ---- words without columns
 
@@ -91,27 +87,23 @@ record IsRunByte (b : ℕ) : Type 0 where
   pub blank : is_blank b ≡ false
   pub mark : is_mark b ≡ false
 
-not_true : (b : Bool) → not b ≡ true → b ≡ false
-not_true true e = absurd cc
-not_true false e = refl
-
 run_byte : (b : ℕ) → is_run_byte b ≡ true → IsRunByte b
 run_byte b e =
-    let h = both (is_good b && not (is_blank b)) (not (is_mark b)) e in
-    let k = both (is_good b) (not (is_blank b)) h.0 in
+    let h = both_true (is_good b && not (is_blank b)) (not (is_mark b)) e in
+    let k = both_true (is_good b) (not (is_blank b)) h.0 in
     record { good = k.0; blank = not_true (is_blank b) k.1; mark = not_true (is_mark b) h.1 }
 
 run_on : (now t rest : Text) → list_all is_run_byte t ≡ true → texts_from (Some now) (t ++ rest) ≡ texts_from (Some (now ++ t)) rest
 run_on now [] rest e = ap (λ n. texts_from (Some n) rest) (sym (append-nil now))
 run_on now (b ∷ bs) rest e =
-    let h = both (is_run_byte b) (list_all is_run_byte bs) e in
+    let h = both_true (is_run_byte b) (list_all is_run_byte bs) e in
     let r = run_byte b h.0 in
     rw (r.blank, r.mark) (run_on (now ++ b ∷ []) bs rest h.1 ∙ ap (λ n. texts_from (Some n) rest) (append_assoc now (b ∷ []) bs))
 
 run_start : (t rest : Text) → IsRun t → texts_from None (t ++ rest) ≡ texts_from (Some t) rest
 run_start [] rest h = absurd (h.0 refl)
 run_start (b ∷ bs) rest h =
-    let k = both (is_run_byte b) (list_all is_run_byte bs) h.1 in
+    let k = both_true (is_run_byte b) (list_all is_run_byte bs) h.1 in
     let r = run_byte b k.0 in
     rw (r.blank, r.mark) (run_on (b ∷ []) bs rest k.1)
 
@@ -121,29 +113,32 @@ from_word u rest us w run mark = elim w [
   | inr h ↦ ap (λ t. texts_from None (t ++ rest)) h.1 ∙ rw (h.2, h.3) (ap (λ ts. (h.0 ∷ []) ∷ ts) mark) ∙ ap (λ t. t ∷ us) (sym h.1)
 ]
 
--- the words of a spaced text, after a run and after a mark
-spaced_texts : (ts : List Text) → Each IsWord ts → ((t : Text) → texts_from (Some t) (spaced ts) ≡ t ∷ ts) × (texts_from None (spaced ts) ≡ ts)
-spaced_texts [] h = (λ t. refl, refl)
-spaced_texts (u ∷ us) h =
-    let ih = spaced_texts us h.1 in
-    let w = from_word u (spaced us) us h.0 ih.0 ih.1 in
-    (λ t. ap (λ ts. t ∷ ts) w, w)
+-- after a word, and after a blank or a mark, the bytes have these words
+abbrev pub Follows : Text → List Text → Type 0
+Follows rest us = ((t : Text) → texts_from (Some t) rest ≡ t ∷ us) × (texts_from None rest ≡ us)
 
-words_joined : (ts : List Text) → Each IsWord ts → map text_of (words_of (joined ts)) ≡ ts
-words_joined [] h = refl
-words_joined (t ∷ ts) h =
-    let ih = spaced_texts ts h.1 in
-    texts_are 1 None (t ++ spaced ts) ∙ from_word t (spaced ts) ts h.0 ih.0 ih.1
+pub space_follows : (rest : Text) (us : List Text) → texts_from None rest ≡ us → Follows (32 ∷ rest) us
+space_follows rest us e = (λ t. ap (λ ts. t ∷ ts) e, e)
+
+pub mark_follows : (b : ℕ) (rest : Text) (us : List Text) → is_blank b ≡ false → is_mark b ≡ true → texts_from None rest ≡ us → Follows (b ∷ rest) ((b ∷ []) ∷ us)
+mark_follows b rest us p q e = (λ t. rw (p, q) (ap (λ ts. t ∷ (b ∷ []) ∷ ts) e), rw (p, q) (ap (λ ts. (b ∷ []) ∷ ts) e))
+
+spaced_then : (ts : List Text) (rest : Text) (us : List Text) → Each IsWord ts → Follows rest us → Follows (spaced ts ++ rest) (ts ++ us)
+spaced_then [] rest us h f = f
+spaced_then (t ∷ ts) rest us h f =
+    let ih = spaced_then ts rest us h.1 f in
+    space_follows ((t ++ spaced ts) ++ rest) (t ∷ (ts ++ us)) (ap (texts_from None) (append_assoc t (spaced ts) rest) ∙ from_word t (spaced ts ++ rest) (ts ++ us) h.0 ih.0 ih.1)
 
 -- ---- bytes of a line
 
-run_good : (t : Text) → list_all is_run_byte t ≡ true → list_all is_good t ≡ true
-run_good [] e = refl
-run_good (b ∷ bs) e = let h = both (is_run_byte b) (list_all is_run_byte bs) e in rw ((run_byte b h.0).good, run_good bs h.1) refl
+-- bytes that are all of one kind are all of a wider one
+all_wider : (p q : ℕ → Bool) → ((b : ℕ) → p b ≡ true → q b ≡ true) → (t : Text) → list_all p t ≡ true → list_all q t ≡ true
+all_wider p q h [] e = refl
+all_wider p q h (b ∷ bs) e = let k = both_true (p b) (list_all p bs) e in rw (h b k.0, all_wider p q h bs k.1) refl
 
 pub word_good : (t : Text) → IsWord t → list_all is_good t ≡ true
 word_good t w = elim w [
-  | inl h ↦ run_good t h.1
+  | inl h ↦ all_wider is_run_byte is_good (λ b e. (run_byte b e).good) t h.1
   | inr h ↦ ap (list_all is_good) h.1 ∙ rw h.4 refl
 ]
 
@@ -151,14 +146,16 @@ pub spaced_good : (ts : List Text) → Each IsWord ts → list_all is_good (spac
 spaced_good [] h = refl
 spaced_good (t ∷ ts) h = list_all-append is_good t (spaced ts) ∙ rw (word_good t h.0, spaced_good ts h.1) refl
 
-joined_good : (ts : List Text) → Each IsWord ts → list_all is_good (joined ts) ≡ true
-joined_good [] h = refl
-joined_good (t ∷ ts) h = list_all-append is_good t (spaced ts) ∙ rw (word_good t h.0, spaced_good ts h.1) refl
+abbrev pub Good : Text → Type 0
+Good t = list_all is_good t ≡ true
+
+pub good_append : (a b : Text) → Good a → Good b → Good (a ++ b)
+good_append a b h k = list_all-append is_good a b ∙ rw (h, k) refl
 
 all_prefix : (t : Text) → list_all is_good t ≡ true → prefix_len (λ x. not (not (is_good x))) t ≡ length t
 all_prefix [] e = refl
 all_prefix (b ∷ bs) e =
-    let h = both (is_good b) (list_all is_good bs) e in
+    let h = both_true (is_good b) (list_all is_good bs) e in
     let s : 1 + length bs ≡ suc (length bs) = omega arith in
     rw h.0 (ap (λ n. 1 + n) (all_prefix bs h.1) ∙ s)
 
@@ -176,10 +173,6 @@ name_run_byte b e = grind (arith, nat_tests)
 letter_name_byte : (b : ℕ) → is_ascii_alphabetic b ≡ true → is_name_byte b ≡ true
 letter_name_byte b e = rw e refl
 
-names_run : (t : Text) → list_all is_name_byte t ≡ true → list_all is_run_byte t ≡ true
-names_run [] e = refl
-names_run (b ∷ bs) e = let h = both (is_name_byte b) (list_all is_name_byte bs) e in rw (name_run_byte b h.0, names_run bs h.1) refl
-
 -- a plain name's first letter, and its other bytes
 record IsNamed (b : ℕ) (bs : Text) : Type 0 where
   pub letter : is_ascii_alphabetic b ≡ true
@@ -188,8 +181,8 @@ record IsNamed (b : ℕ) (bs : Text) : Type 0 where
 named : (b : ℕ) (bs : Text) → is_plain (b ∷ bs) ≡ true → IsNamed b bs
 unfolding is_plain
 named b bs e =
-    let form = (both (has_name_form (b ∷ bs)) (not (is_reserved (b ∷ bs))) e).0 in
-    let h = both (is_ascii_alphabetic b) (list_all is_name_byte bs) (both (is_ascii_alphabetic b && list_all is_name_byte bs) (nat_le (length bs) 31) form).0 in
+    let form = (both_true (has_name_form (b ∷ bs)) (not (is_reserved (b ∷ bs))) e).0 in
+    let h = both_true (is_ascii_alphabetic b) (list_all is_name_byte bs) (both_true (is_ascii_alphabetic b && list_all is_name_byte bs) (nat_le (length bs) 31) form).0 in
     record { letter = h.0; others = h.1 }
 
 not_empty : is_plain [] ≡ true → ⊥
@@ -200,7 +193,7 @@ pub plain_word : (n : Text) → is_plain n ≡ true → IsWord n
 plain_word [] p = absurd (not_empty p)
 plain_word (b ∷ bs) p =
     let h = named b bs p in
-    inl (λ e. cc, rw (name_run_byte b (letter_name_byte b h.letter), names_run bs h.others) refl)
+    inl (λ e. cc, rw (name_run_byte b (letter_name_byte b h.letter), all_wider is_name_byte is_run_byte name_run_byte bs h.others) refl)
 
 number_word : (z : ℤ) → IsTrue (is_value z) → IsWord (signed_decimal z)
 number_word z h = inl (number_some z h, number_run z h)
@@ -239,12 +232,13 @@ each-append : (ts us : List Text) → Each IsWord ts → Each IsWord us → Each
 each-append [] us h k = k
 each-append (t ∷ ts) us h k = (h.0, each-append ts us h.1 k)
 
+-- words that may be left out
+left_out : (b : Bool) (ts : List Text) → Each IsWord ts → Each IsWord (cond b [] ts)
+left_out true ts h = tt
+left_out false ts h = h
+
 optional_words : (word : Text) (default z : ℤ) → IsWord word → IsTrue (is_value z) → Each IsWord (optional_texts word default z)
-optional_words word default z w h = go (int_eq z default)
-  where
-    go : (b : Bool) → Each IsWord (cond b [] (word ∷ signed_decimal z ∷ []))
-    go true = tt
-    go false = (w, (number_word z h, tt))
+optional_words word default z w h = left_out (int_eq z default) (word ∷ signed_decimal z ∷ []) (w, (number_word z h, tt))
 
 rates_words : (rs : List Rate) → Each IsRate rs → Each IsWord (rates_texts rs)
 rates_words [] h = tt
@@ -257,13 +251,6 @@ value_in n h = grind (arith, nat_tests)
 count_word : (n : ℕ) → n ≤ greatest_value → IsWord (decimal n)
 count_word n h = number_word (pos n) (value_in n h)
 
-optional_count_words : (word : Text) (default n : ℕ) → IsWord word → n ≤ greatest_value → Each IsWord (optional_texts word (pos default) (pos n))
-optional_count_words word default n w h = go (int_eq (pos n) (pos default))
-  where
-    go : (b : Bool) → Each IsWord (cond b [] (word ∷ signed_decimal (pos n) ∷ []))
-    go true = tt
-    go false = (w, (count_word n h, tt))
-
 radius_words : (r : Option ℕ) → IsRadius r → Each IsWord (radius_texts r)
 radius_words None h = tt
 radius_words (Some n) h = (inl (λ e. cc, refl), (count_word n (let l = h.1 in omega arith), tt))
@@ -274,15 +261,10 @@ sight_words s h =
     let to = optional_texts (codes "to") (pos 0) s.to in
     each-append (from ++ to) (optional_texts (codes "within") (pos 64) (pos s.reach))
     (each-append from to (optional_words (codes "from") (pos 0) s.from (inl (λ e. cc, refl)) h.from) (optional_words (codes "to") (pos 0) s.to (inl (λ e. cc, refl)) h.to))
-    (optional_count_words (codes "within") 64 s.reach (inl (λ e. cc, refl)) (let l = h.reach.1 in omega arith))
+    (optional_words (codes "within") (pos 64) (pos s.reach) (inl (λ e. cc, refl)) (value_in s.reach (let l = h.reach.1 in omega arith)))
 
 friction_words : (t : Term) → IsTerm t → Each IsWord (friction_texts t)
-friction_words (layer_term n) h = (inl (λ e. cc, refl), (inl (λ e. cc, refl), (plain_word n h, tt)))
-friction_words (number_term z) h = go (int_eq z (pos 1))
-  where
-    go : (b : Bool) → Each IsWord (cond b [] (codes "spreading" ∷ codes "in" ∷ signed_decimal z ∷ []))
-    go true = tt
-    go false = (inl (λ e. cc, refl), (inl (λ e. cc, refl), (number_word z h, tt)))
+friction_words t h = left_out (is_one t) (codes "spreading" ∷ codes "in" ∷ term_text t ∷ []) (inl (λ e. cc, refl), (inl (λ e. cc, refl), (term_word t h, tt)))
 
 ignoring_words : (ignoring : Bool) → Each IsWord (ignoring_texts ignoring)
 ignoring_words true = (inl (λ e. cc, refl), (inl (λ e. cc, refl), tt))
@@ -291,7 +273,7 @@ ignoring_words false = tt
 spread_words : (limit : ℕ) (t u : Term) → limit ≤ greatest_value → IsTerm t → IsTerm u → Each IsWord (spread_texts limit t u)
 spread_words limit t u most p q = (
   term_word t p,
-  each-append (friction_texts u) (optional_texts (codes "within") vmax (pos limit)) (friction_words u q) (optional_count_words (codes "within") greatest_value limit (inl (λ e. cc, refl)) most),
+  each-append (friction_texts u) (optional_texts (codes "within") vmax (pos limit)) (friction_words u q) (optional_words (codes "within") vmax (pos limit) (inl (λ e. cc, refl)) (value_in limit most)),
 )
 
 head_words : (head : Head) (ts : List Term) → IsHead head → Each IsTerm ts → Each IsWord (head_texts head ts)
@@ -308,61 +290,58 @@ head_words head ts h k = terms_words (codes "and") ts and_word k
 pub op_words : (o : Op) → IsOp o → Each IsWord (op_texts o)
 op_words o h = (operation_word (operation_of o.head), (of_word, head_words o.head o.terms h.0 h.2))
 
--- ---- the words of a call
+-- ---- the words and the bytes of a statement
 
--- the terms after the first, to the end
-after_seen : (us : List Term) → Each IsTerm us
-    → ((t : Text) → texts_from (Some t) (listed_after us ++ 41 ∷ []) ≡ t ∷ (terms_after (codes ",") us ++ codes ")" ∷ [])) × (texts_from None (listed_after us ++ 41 ∷ []) ≡ terms_after (codes ",") us ++ codes ")" ∷ [])
-after_seen [] h = (λ t. refl, refl)
-after_seen (u ∷ us) h =
-    let rest = listed_after us ++ 41 ∷ [] in
-    let more = terms_after (codes ",") us ++ codes ")" ∷ [] in
-    let ih = after_seen us h.1 in
-    let same : texts_from None ((term_text u ++ listed_after us) ++ 41 ∷ []) ≡ term_text u ∷ more =
-    ap (texts_from None) (append_assoc (term_text u) (listed_after us) (41 ∷ [])) ∙ from_word (term_text u) rest more (term_word u h.0) ih.0 ih.1 in
-    (λ t. ap (λ ts. t ∷ codes "," ∷ ts) same, ap (λ ts. codes "," ∷ ts) same)
+terms_then : (ts : List Term) (rest : Text) (us : List Text) → Each IsTerm ts → Follows rest us → Follows (listed_after ts ++ rest) (terms_after (codes ",") ts ++ us)
+terms_then [] rest us h f = f
+terms_then (t ∷ ts) rest us h f =
+    let ih = terms_then ts rest us h.1 f in
+    let more = terms_after (codes ",") ts ++ us in
+    let one : texts_from None ((term_text t ++ listed_after ts) ++ rest) ≡ term_text t ∷ more =
+    ap (texts_from None) (append_assoc (term_text t) (listed_after ts) rest) ∙ from_word (term_text t) (listed_after ts ++ rest) more (term_word t h.0) ih.0 ih.1 in
+    mark_follows 44 (32 ∷ ((term_text t ++ listed_after ts) ++ rest)) (term_text t ∷ more) refl refl one
 
-call_seen : (n p : Text) (ts : List Term) → is_plain n ≡ true → IsWritten (call p ts) → map text_of (words_of (written_text n (call p ts))) ≡ written_texts n (call p ts)
-call_seen n p [] q h = absurd (let l = h.1 in omega arith)
-call_seen n p (a ∷ us) q h =
-    let rest = listed_after us ++ 41 ∷ [] in
-    let more = terms_after (codes ",") us ++ codes ")" ∷ [] in
-    let after = after_seen us h.3.1 in
-    let first : texts_from None ((term_text a ++ listed_after us) ++ 41 ∷ []) ≡ term_text a ∷ more =
-    ap (texts_from None) (append_assoc (term_text a) (listed_after us) (41 ∷ [])) ∙ from_word (term_text a) rest more (term_word a h.3.0) after.0 after.1 in
-    let opened = λ (t : Text). ap (λ ts. t ∷ codes "(" ∷ ts) first in
-    let named : texts_from None (p ++ 40 ∷ (listed (a ∷ us) ++ 41 ∷ [])) ≡ p ∷ codes "(" ∷ term_text a ∷ more =
-    from_word p (40 ∷ (listed (a ∷ us) ++ 41 ∷ [])) (codes "(" ∷ term_text a ∷ more) (plain_word p h.0) opened (ap (λ ts. codes "(" ∷ ts) first) in
-    texts_are 1 None (written_text n (call p (a ∷ us)))
-    ∙ from_word n (32 ∷ 61 ∷ tail_text (call p (a ∷ us))) (codes "=" ∷ p ∷ codes "(" ∷ term_text a ∷ more) (plain_word n q) (λ t. ap (λ ts. t ∷ codes "=" ∷ ts) named) (ap (λ ts. codes "=" ∷ ts) named)
+tail_then : (w : Written) (rest : Text) (us : List Text) → IsWritten w → Follows rest us → Follows (tail_text w ++ rest) (written_tail w ++ us)
+tail_then (plain o) rest us h f = spaced_then (op_texts o) rest us (op_words o h) f
+tail_then (call p []) rest us h f = absurd (let l = h.1 in omega arith)
+tail_then (call p (a ∷ ts)) rest us h f =
+    let given = listed (a ∷ ts) in
+    let more = terms_after (codes ",") ts in
+    let after = terms_then ts (41 ∷ rest) (codes ")" ∷ us) h.3.1 (mark_follows 41 rest us refl refl f.1) in
+    let first : texts_from None ((given ++ 41 ∷ []) ++ rest) ≡ term_text a ∷ ((more ++ codes ")" ∷ []) ++ us) =
+    ap (texts_from None) (append_assoc given (41 ∷ []) rest ∙ append_assoc (term_text a) (listed_after ts) (41 ∷ rest))
+    ∙ from_word (term_text a) (listed_after ts ++ 41 ∷ rest) (more ++ codes ")" ∷ us) (term_word a h.3.0) after.0 after.1
+    ∙ ap (λ vs. term_text a ∷ vs) (sym (append_assoc more (codes ")" ∷ []) us)) in
+    let opened = mark_follows 40 ((given ++ 41 ∷ []) ++ rest) (term_text a ∷ ((more ++ codes ")" ∷ []) ++ us)) refl refl first in
+    let named : texts_from None ((p ++ 40 ∷ (given ++ 41 ∷ [])) ++ rest) ≡ p ∷ codes "(" ∷ term_text a ∷ ((more ++ codes ")" ∷ []) ++ us) =
+    ap (texts_from None) (append_assoc p (40 ∷ (given ++ 41 ∷ [])) rest) ∙ from_word p (40 ∷ ((given ++ 41 ∷ []) ++ rest)) (codes "(" ∷ term_text a ∷ ((more ++ codes ")" ∷ []) ++ us)) (plain_word p h.0) opened.0 opened.1 in
+    space_follows ((p ++ 40 ∷ (given ++ 41 ∷ [])) ++ rest) (p ∷ codes "(" ∷ term_text a ∷ ((more ++ codes ")" ∷ []) ++ us)) named
 
-after_good : (us : List Term) → Each IsTerm us → list_all is_good (listed_after us ++ 41 ∷ []) ≡ true
-after_good [] h = refl
-after_good (u ∷ us) h = ap (list_all is_good) (append_assoc (term_text u) (listed_after us) (41 ∷ [])) ∙ list_all-append is_good (term_text u) (listed_after us ++ 41 ∷ []) ∙ rw (word_good (term_text u) (term_word u h.0), after_good us h.1) refl
+pub written_then : (n : Text) (w : Written) (rest : Text) (us : List Text) → IsWord n → IsWritten w → Follows rest us → texts_from None (written_text n w ++ rest) ≡ n ∷ codes "=" ∷ (written_tail w ++ us)
+written_then n w rest us word h f =
+    let body = tail_then w rest us h f in
+    let equals = mark_follows 61 (tail_text w ++ rest) (written_tail w ++ us) refl refl body.1 in
+    let space = space_follows (61 ∷ (tail_text w ++ rest)) (codes "=" ∷ (written_tail w ++ us)) equals.1 in
+    ap (texts_from None) (append_assoc n (32 ∷ 61 ∷ tail_text w) rest) ∙ from_word n (32 ∷ 61 ∷ (tail_text w ++ rest)) (codes "=" ∷ (written_tail w ++ us)) word space.0 space.1
 
-call_good : (n p : Text) (ts : List Term) → is_plain n ≡ true → IsWritten (call p ts) → list_all is_good (written_text n (call p ts)) ≡ true
-call_good n p [] q h = absurd (let l = h.1 in omega arith)
-call_good n p (a ∷ us) q h =
-    let given : list_all is_good (listed (a ∷ us) ++ 41 ∷ []) ≡ true =
-    ap (list_all is_good) (append_assoc (term_text a) (listed_after us) (41 ∷ [])) ∙ list_all-append is_good (term_text a) (listed_after us ++ 41 ∷ []) ∙ rw (word_good (term_text a) (term_word a h.3.0), after_good us h.3.1) refl in
-    let body : list_all is_good (p ++ 40 ∷ (listed (a ∷ us) ++ 41 ∷ [])) ≡ true = list_all-append is_good p (40 ∷ (listed (a ∷ us) ++ 41 ∷ [])) ∙ rw (word_good p (plain_word p h.0), given) refl in
-    list_all-append is_good n (32 ∷ 61 ∷ tail_text (call p (a ∷ us))) ∙ rw (word_good n (plain_word n q), body) refl
+terms_good : (ts : List Term) → Each IsTerm ts → Good (listed_after ts)
+terms_good [] h = refl
+terms_good (t ∷ ts) h = good_append (term_text t) (listed_after ts) (word_good (term_text t) (term_word t h.0)) (terms_good ts h.1)
 
--- ---- the words of a statement
+tail_good : (w : Written) → IsWritten w → Good (tail_text w)
+tail_good (plain o) h = spaced_good (op_texts o) (op_words o h)
+tail_good (call p []) h = absurd (let l = h.1 in omega arith)
+tail_good (call p (a ∷ ts)) h =
+    good_append p (40 ∷ (listed (a ∷ ts) ++ 41 ∷ [])) (word_good p (plain_word p h.0))
+    (good_append (listed (a ∷ ts)) (41 ∷ []) (good_append (term_text a) (listed_after ts) (word_good (term_text a) (term_word a h.3.0)) (terms_good ts h.3.1)) refl)
 
-equals_word : IsWord (codes "=")
-equals_word = inr (61, refl, refl, refl, refl)
-
-plain_words : (n : Text) (o : Op) → is_plain n ≡ true → IsOp o → Each IsWord (written_texts n (plain o))
-plain_words n o p h = (plain_word n p, (equals_word, op_words o h))
+pub statement_good : (n : Text) (w : Written) → Good n → IsWritten w → Good (written_text n w)
+statement_good n w g h = good_append n (32 ∷ 61 ∷ tail_text w) g (tail_good w h)
 
 written_seen : (n : Text) (w : Written) → is_plain n ≡ true → IsWritten w → seen (written_text n w) ≡ written_texts n w
-written_seen n (plain o) p h = name_line (written_text n (plain o)) n (codes "=" ∷ written_tail (plain o)) (words_joined (written_texts n (plain o)) (plain_words n o p h)) p
-written_seen n (call q ts) p h = name_line (written_text n (call q ts)) n (codes "=" ∷ written_tail (call q ts)) (call_seen n q ts p h) p
-
-written_good : (n : Text) (w : Written) → is_plain n ≡ true → IsWritten w → list_all is_good (written_text n w) ≡ true
-written_good n (plain o) p h = joined_good (written_texts n (plain o)) (plain_words n o p h)
-written_good n (call q ts) p h = call_good n q ts p h
+written_seen n w p h =
+    name_line (written_text n w) n (codes "=" ∷ written_tail w) (texts_are 1 None (written_text n w) ∙ ap (texts_from None) (sym (append-nil (written_text n w)))
+    ∙ written_then n w [] [] (plain_word n p) h (λ t. refl, refl) ∙ ap (λ ts. n ∷ codes "=" ∷ ts) (append-nil (written_tail w))) p
 
 -- ---- back
 
@@ -376,7 +355,7 @@ not_silent (b ∷ bs) rest p = let h = letter_loud b (named b bs p).letter in rw
 -- what is written of a formed statement, and is no longer than a line, is its line
 pub written_back : (m : Manner) (n : Text) (w : Written) → IsTrue (is_plain n) → IsWritten w → IsWrittenThere m w → is_short (written_text n w) ≡ true → LineText m (written_text n w) (edit (define n w))
 written_back m n w p h there short =
-    worded short (not_silent n (32 ∷ 61 ∷ tail_text w) p) (no_bad (written_text n w) (written_good n w p h))
+    worded short (not_silent n (32 ∷ 61 ∷ tail_text w) p) (no_bad (written_text n w) (statement_good n w (word_good n (plain_word n p)) h))
     (subst (λ ts. IsLine m ts (edit (define n w))) (sym (written_seen n w p h)) (words_back m n w p h there))
 
 pub reads_back : (n : Text) (w : Written) (text : Text) → text ≡ written_text n w → ReadsBack n w text

@@ -41,17 +41,13 @@ use Rattle.statement_parser.specs.declared.operation.Operation.TheVariants.{Loca
 use Rattle.statement_parser.specs.declared.op.Form.TheVariants.{Linkage}
 use Rattle.statement_parser.specs.declared.command.Command.{Command}
 use Rattle.statement_parser.proofs.Numerals.{number_decimal, value_back, no_plain, no_null}
-use Rattle.statement_parser.proofs.PlaceFacts.{operation_none, command_none, the_word}
-use Rattle.statement_parser.proofs.FormedLines.{IsRow}
+use Rattle.statement_parser.proofs.PlaceFacts.{maybe_free, operation_none, command_none, the_word}
+use Rattle.statement_parser.proofs.FormedLines.{IsTermIn, IsRow}
 
 -- ---- one place
 
 name_back : (n : Text) → IsTrue (is_plain n) → name_of n ≡ Some n
 name_back n h = rw h refl
-
--- a term that may stand in the scope
-abbrev IsTermIn : Scope → Term → Type 0
-IsTermIn scope t = IsTerm t × InScope scope t
 
 term_back : (scope : Scope) (t : Term) → IsTermIn scope t → term_of scope (term_text t) ≡ Some t
 term_back scope (layer_term n) h = rw (h.0, h.1) refl
@@ -60,6 +56,11 @@ term_back scope (number_term z) h = rw (no_plain z h.0) (ap (option_map number_t
 cell_back : (c : Option ℤ) → IsCell c → cell_of (cell_text c) ≡ Some c
 cell_back None h = refl
 cell_back (Some z) h = rw (no_null z h) (ap (option_map Some) (value_back z h))
+
+-- a place that is there
+maybe_taken : {A : Type 0} (b : Bool) (f : Text → Option A) (w : Text) (v : A) → b ≡ true → f w ≡ Some v → maybe b f w ≡ Some v
+maybe_taken true f w v e h = h
+maybe_taken false f w v e h = absurd cc
 
 -- a count in its range
 nat_in : (a b : ℕ) → a ≤ b → nat_le a b ≡ true
@@ -133,12 +134,15 @@ Without word ws = (w : Text) (us : List Text) → ws ≡ w ∷ us → the word w
 without_nil : (word : Text) → Without word []
 without_nil word w us e = absurd cc
 
+without_other : (word other : Text) (ws : List Text) → the word other ≡ None → Without word (other ∷ ws)
+without_other word other ws none w us e = let same : other ≡ w = cc in ap (the word) (sym same) ∙ none
+
 without_optional : (word other : Text) (default z : ℤ) (ws : List Text) → the word other ≡ None → Without word ws → Without word (optional_texts other default z ++ ws)
 without_optional word other default z ws none h = go (int_eq z default)
   where
     go : (b : Bool) → Without word (cond b [] (other ∷ signed_decimal z ∷ []) ++ ws)
-    go true w us e = h w us e
-    go false w us e = let same : other ≡ w = cc in ap (the word) (sym same) ∙ none
+    go true = h
+    go false = without_other word other (signed_decimal z ∷ ws) none
 
 -- a formed head is written by a row of the table
 pub row_of : (head : Head) → IsHead head → IsRow (operation_of head)
@@ -215,20 +219,18 @@ module _ (scope : Scope) where
         (next_derives (the word) _ word tt (term_text b ∷ []) x (the_word word) (next_derives (term_of scope) (λ b. last (of_two head a b)) (term_text b) b [] x (term_back scope b q) refl))
 
   no_to : (rs : List Rate) → Without (codes "to") (rates_texts rs)
-  no_to [] w us e = absurd cc
-  no_to (r ∷ rs) w us e = let h : codes "with" ≡ w = cc in ap (the (codes "to")) (sym h)
+  no_to [] = without_nil (codes "to")
+  no_to (r ∷ rs) = without_other (codes "to") (codes "with") _ refl
+
+  -- a part of one place that may be left out
+  part_back : {A : Type 0} (word : Text) (place : Text → Option A) (default v : A) (t : Text) (b : Bool) (g : A → Rule Text Line) (ws : List Text) (x : Line) → the word word ≡ Some tt → (b ≡ true → v ≡ default) → place t ≡ Some v → Without word ws
+      → Derives (g v) ws x → Derives (optional_part word place default g) (cond b [] (word ∷ t ∷ []) ++ ws) x
+  part_back {A} word place default v t true g ws x same left_out h none d = rest_derives (the word) (λ _. next place g) (g default) ws x none (subst (λ (y : A). Derives (g y) ws x) (left_out refl) d)
+  part_back word place default v t false g ws x same left_out h none d = also_derives (the word) (λ _. next place g) (g default) word tt (t ∷ ws) x same (next_derives place g t v ws x h d)
 
   optional_back : (word : Text) (default z : ℤ) (g : ℤ → Rule Text Line) (ws : List Text) (x : Line) → the word word ≡ Some tt → IsTrue (is_value z) → Without word ws → Derives (g z) ws x
       → Derives (optional_part word value_of default g) (optional_texts word default z ++ ws) x
-  optional_back word default z g ws x same h none d = go (int_eq z default) refl
-    where
-      go : (b : Bool) → int_eq z default ≡ b → Derives (optional_part word value_of default g) (cond b [] (word ∷ signed_decimal z ∷ []) ++ ws) x
-      go true e =
-          let left_out : z ≡ default = (Decides-int_eq z default).0 e in
-          rest_derives (the word) (λ _. next value_of g) (g default) ws x none (subst (λ (y : ℤ). Derives (g y) ws x) left_out d)
-      go false e =
-          also_derives (the word) (λ _. next value_of g) (g default) word tt (signed_decimal z ∷ ws) x same
-          (next_derives value_of g (signed_decimal z) z ws x (value_back z h) d)
+  optional_back word default z g ws x same h none d = part_back word value_of default z (signed_decimal z) (int_eq z default) g ws x same (Decides-int_eq z default).0 (value_back z h) none d
 
   rate_back : (g : Rate → Rule Text Line) (r : Rate) (ws : List Text) (x : Line) → IsRate r → Without (codes "to") ws → Derives (g r) ws x
       → Derives (rate_part g) (cell_text r.give ∷ codes "for" ∷ signed_decimal r.low ∷ (optional_texts (codes "to") r.low r.high ++ ws)) x
@@ -258,12 +260,6 @@ module _ (scope : Scope) where
       next_derives (term_of scope) _ (term_text t) t (rates_texts (r ∷ rs)) x (term_back scope t p)
       (rate_back g r (rates_texts rs) x h.1.0 (no_to rs) (with_back (λ rs. mk (rating_op t rs)) 31 rs (r ∷ []) (omega arith) h.1.1))
 
-  -- a part of one place that may be left out
-  part_back : {A : Type 0} (word : Text) (place : Text → Option A) (default v : A) (t : Text) (b : Bool) (g : A → Rule Text Line) (ws : List Text) (x : Line) → the word word ≡ Some tt → (b ≡ true → v ≡ default) → place t ≡ Some v → Without word ws
-      → Derives (g v) ws x → Derives (optional_part word place default g) (cond b [] (word ∷ t ∷ []) ++ ws) x
-  part_back {A} word place default v t true g ws x same left_out h none d = rest_derives (the word) (λ _. next place g) (g default) ws x none (subst (λ (y : A). Derives (g y) ws x) (left_out refl) d)
-  part_back word place default v t false g ws x same left_out h none d = also_derives (the word) (λ _. next place g) (g default) word tt (t ∷ ws) x same (next_derives place g t v ws x h d)
-
   same_pos : (a b : ℕ) → int_eq (pos a) (pos b) ≡ true → a ≡ b
   same_pos a b e = let same : pos a ≡ pos b = (Decides-int_eq (pos a) (pos b)).0 e in cc
 
@@ -285,24 +281,16 @@ module _ (scope : Scope) where
         also_derives (the (codes "at")) (λ _. next disc_of (λ r. ended (focal_op s r t))) (ended (focal_op s None t)) (codes "at") tt (decimal n ∷ []) (mk (focal_op s (Some n) t)) refl
         (next_derives disc_of (λ r. ended (focal_op s r t)) (decimal n) (Some n) [] (mk (focal_op s (Some n) t)) (ap (option_map Some) (count_back 1 32 n h lt)) refl)
 
-    no_word : (b : Bool) (word w : Text) → the word w ≡ None → maybe b (the word) w ≡ None
-    no_word true word w e = e
-    no_word false word w e = refl
-
-    maybe_there : (b : Bool) (word : Text) → b ≡ true → the word word ≡ Some tt → maybe b (the word) word ≡ Some tt
-    maybe_there true word e same = same
-    maybe_there false word e same = absurd cc
-
     ignoring_back : (ignoring : Bool) (g : Bool → Rule Text Line) (x : Line) → MayIgnore m ignoring → Derives (g ignoring) [] x → Derives (ignoring_part m g) (ignoring_texts ignoring) x
     ignoring_back true g x there d =
-        also_derives (maybe m.ignoring (the (codes "ignoring"))) (λ _. next (the (codes "nulls")) (λ _. g true)) (g false) (codes "ignoring") tt (codes "nulls" ∷ []) x (maybe_there m.ignoring (codes "ignoring") there refl)
+        also_derives (maybe m.ignoring (the (codes "ignoring"))) (λ _. next (the (codes "nulls")) (λ _. g true)) (g false) (codes "ignoring") tt (codes "nulls" ∷ []) x (maybe_taken m.ignoring (the (codes "ignoring")) (codes "ignoring") tt there refl)
         (next_derives (the (codes "nulls")) (λ _. g true) (codes "nulls") tt [] x refl d)
     ignoring_back false g x there d =
         rest_derives (maybe m.ignoring (the (codes "ignoring"))) (λ _. next (the (codes "nulls")) (λ _. g true)) (g false) [] x (λ w us e. absurd cc) d
 
     no_and : (ignoring : Bool) → Without (codes "and") (ignoring_texts ignoring)
-    no_and true w us e = let same : codes "ignoring" ≡ w = cc in ap (the (codes "and")) (sym same)
-    no_and false w us e = absurd cc
+    no_and true = without_other (codes "and") (codes "ignoring") _ refl
+    no_and false = without_nil (codes "and")
 
     statistic_back : (s : Stat) (ignoring : Bool) (ts : List Term) → IsBetween 2 8 (length ts) → MayIgnore m ignoring → Each IsIn ts
         → Derives (statistic_body scope m s ended) (codes "of" ∷ (terms_texts (codes "and") ts ++ ignoring_texts ignoring)) (mk (local_op s ignoring ts))
@@ -320,7 +308,7 @@ module _ (scope : Scope) where
 
     no_radiating : (b : Bool) (r : Option ℕ) (w : Text) (us : List Text) → radius_texts r ≡ w ∷ us → maybe b (the (codes "radiating")) w ≡ None
     no_radiating b None w us e = absurd cc
-    no_radiating b (Some n) w us e = let same : codes "at" ≡ w = cc in no_word b (codes "radiating") w (ap (the (codes "radiating")) (sym same))
+    no_radiating b (Some n) w us e = maybe_free b (the (codes "radiating")) w (without_other (codes "radiating") (codes "at") (decimal n ∷ []) refl w us e)
 
     abbrev near : Stat → Term → Rule Text Line
     near s a = also (on (maybe (radiates m s) (the (codes "radiating"))) (λ _. sight_part scope a ended)) (radius_part s a ended)
@@ -348,7 +336,7 @@ module _ (scope : Scope) where
     sight_back s t u there h p q =
         let x = mk (sight_op s t u) in
         next_derives (term_of scope) (near Sum) (term_text t) t (codes "radiating" ∷ codes "on" ∷ term_text u ∷ sight_texts s) x (term_back scope t p)
-        (also_derives (maybe m.sight (the (codes "radiating"))) (λ _. sight_part scope t ended) (radius_part Sum t ended) (codes "radiating") tt (codes "on" ∷ term_text u ∷ sight_texts s) x (maybe_there m.sight (codes "radiating") there refl)
+        (also_derives (maybe m.sight (the (codes "radiating"))) (λ _. sight_part scope t ended) (radius_part Sum t ended) (codes "radiating") tt (codes "on" ∷ term_text u ∷ sight_texts s) x (maybe_taken m.sight (the (codes "radiating")) (codes "radiating") tt there refl)
         (next_derives (term_of scope) _ (term_text u) u (sight_texts s) x (term_back scope u q) (heights_back s t u h)))
 
     friction_back : (g : Term → Rule Text Line) (u : Term) (ws : List Text) (x : Line) → IsIn u → Without (codes "spreading") ws → Derives (g u) ws x → Derives (friction_part scope g) (friction_texts u ++ ws) x
@@ -435,13 +423,6 @@ module _ (scope : Scope) where
     op_back : (o : Op) → IsOpIn o → IsOpThere m o → Derives (body_rule scope m whole) (op_texts o) (mk (plain o))
     op_back o h there = by_name (operation_of o.head) (codes "of" ∷ head_texts o.head o.terms) (done o) there.0 (row_of o.head h.0) (head_back m done o.head o.terms h.0 h.1 there.1 h.2)
 
-    call_there : (b : Bool) (p : Text) → b ≡ true → is_plain p ≡ true → maybe b name_of p ≡ Some p
-    call_there true p e h = name_back p h
-    call_there false p e h = absurd cc
-
-    no_close : (us : List Text) → Without (codes ",") (codes ")" ∷ us)
-    no_close us w vs e = let same : codes ")" ≡ w = cc in ap (the (codes ",")) (sym same)
-
     call_back : (p : Text) (ts : List Term) → m.calls ≡ true → IsWrittenIn (call p ts) → Derives (body_rule scope m whole) (p ∷ given_texts ts) (mk (call p ts))
     call_back p [] there h = absurd (let l = h.1 in omega arith)
     call_back p (a ∷ us) there h =
@@ -451,9 +432,9 @@ module _ (scope : Scope) where
         let r = node None (on (call_of m) callers) in
         rest_derives (operation_named m) (operation_body scope m (λ op. ends (done op))) r (p ∷ codes "(" ∷ ws) x
         (λ w us e. (let same : p ≡ w = cc in subst (λ q. operation_named m q ≡ None) same (no_operation m p h.0)))
-        (next_derives (call_of m) callers p p (codes "(" ∷ ws) x (call_there m.calls p there h.0)
+        (next_derives (call_of m) callers p p (codes "(" ∷ ws) x (maybe_taken m.calls name_of p p there (name_back p h.0))
         (next_derives (term_of scope) (λ a. further_terms scope (codes ",") (λ ts. next (the (codes ")")) (λ _. whole (call p ts))) 7 (a ∷ [])) (term_text a) a (terms_after (codes ",") us ++ codes ")" ∷ []) x (term_back scope a h.3.0)
-        (further_back (codes ",") (λ ts. next (the (codes ")")) (λ _. whole (call p ts))) (codes ")" ∷ []) x refl (no_close []) 7 us (a ∷ []) few h.3.1 refl)))
+        (further_back (codes ",") (λ ts. next (the (codes ")")) (λ _. whole (call p ts))) (codes ")" ∷ []) x refl (without_other (codes ",") (codes ")") [] refl) 7 us (a ∷ []) few h.3.1 refl)))
 
   pub body_back : (m : Manner) (mk : Written → Line) (w : Written) → IsWrittenIn w → IsWrittenThere m w → Derives (body_rule scope m (λ w. ends (mk w))) (written_tail w) (mk w)
   body_back m mk (plain o) h there = op_back m mk o h there

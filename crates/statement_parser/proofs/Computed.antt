@@ -24,8 +24,7 @@ use Rattle.statement_parser.specs.ReadCommands.{paint_at, new_at, drop_at, value
 use Rattle.statement_parser.specs.Texts.{seen, is_short, LineText, silent, worded, refusal_of, RefusedText, bad_byte, bad_word}
 use Rattle.statement_parser.specs.Columns.{column}
 use Rattle.statement_parser.specs.Worked.{first_rows, all_rows, WorkedProcedures, WorkedLanguages, four_branches, WorkedBranches, Worked}
-use Rattle.statement_parser.proofs.SoundLines.{healthy_line}
-use Rattle.statement_parser.proofs.ReadsLines.{line_reads}
+use Rattle.statement_parser.proofs.LineParts.{healthy_line, line_reads}
 
 line_row : (m : Manner) (bytes : Text) (x : Line) → is_short bytes ≡ true → is_silent bytes ≡ false → first_bad bytes ≡ None → line_at m (seen bytes) ≡ Ok x → LineText m bytes x
 line_row m bytes x s e f h = worded s e f (found_so (tests m) (line_rule m) (seen bytes) x (sym (line_reads m (seen bytes)) ∙ h))

@@ -39,16 +39,16 @@ unsigned_is n lt =
     let h = decimal_is_IsNumeral n lt in
     rw (are_digits_is (decimal n) h.0) (ap (λ k. Some k) h.1)
 
--- a numeral's first byte
-record IsFirst (t : Text) : Type 0 where
+-- a first byte that is P
+record IsFirst (P : ℕ → Type 0) (t : Text) : Type 0 where
   pub byte : ℕ
   pub rest : Text
   pub whole : t ≡ byte ∷ rest
-  pub digit : IsDigit byte
+  pub within : P byte
 
-first_of : (t : Text) → IsNumeral 10 t → IsFirst t
+first_of : (t : Text) → IsNumeral 10 t → IsFirst IsDigit t
 first_of [] h = absurd (omega arith)
-first_of (b ∷ bs) h = record { byte = b; rest = bs; whole = refl; digit = digit_is b h.1.0 }
+first_of (b ∷ bs) h = record { byte = b; rest = bs; whole = refl; within = digit_is b h.1.0 }
 
 no_sign : (b : ℕ) (bs : Text) → IsDigit b → number_text (b ∷ bs) ≡ signed_text false (b ∷ bs)
 unfolding number_text
@@ -60,7 +60,7 @@ no_sign b bs h =
 pub number_decimal : (n : ℕ) → n < 2 ^ 64 → number_text (decimal n) ≡ Some (pos n)
 number_decimal n lt =
     let f = first_of (decimal n) (decimal_is_IsNumeral n lt).0 in
-    ap number_text f.whole ∙ no_sign f.byte f.rest f.digit ∙ ap (signed_text false) (sym f.whole) ∙ ap (option_map (with_sign false)) (unsigned_is n lt)
+    ap number_text f.whole ∙ no_sign f.byte f.rest f.within ∙ ap (signed_text false) (sym f.whole) ∙ ap (option_map (with_sign false)) (unsigned_is n lt)
 
 number_minus : (n : ℕ) → suc n < 2 ^ 64 → number_text (45 ∷ decimal (suc n)) ≡ Some (negsuc n)
 unfolding number_text
@@ -86,16 +86,10 @@ value_back z h = ap (if_between vmin vmax) (number_value z h) ∙ rw h refl
 abbrev IsSignOrDigit : ℕ → Type 0
 IsSignOrDigit b = (45 ≤ b) × (b ≤ 57)
 
-record IsStart (t : Text) : Type 0 where
-  pub byte : ℕ
-  pub rest : Text
-  pub whole : t ≡ byte ∷ rest
-  pub within : IsSignOrDigit byte
-
-start_of : (z : ℤ) → IsTrue (is_value z) → IsStart (signed_decimal z)
+start_of : (z : ℤ) → IsTrue (is_value z) → IsFirst IsSignOrDigit (signed_decimal z)
 start_of (pos n) h =
     let f = first_of (decimal n) (decimal_is_IsNumeral n (pos_small n h)).0 in
-    let d = f.digit in
+    let d = f.within in
     record { byte = f.byte; rest = f.rest; whole = f.whole; within = (omega arith, omega arith) }
 start_of (negsuc n) h = record { byte = 45; rest = decimal (suc n); whole = refl; within = (omega arith, omega arith) }
 

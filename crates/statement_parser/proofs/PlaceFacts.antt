@@ -1,9 +1,11 @@
 -- What the places of lines take, and what they don't.
-use Rattle.std.proofs.Common.{◌≡◌, pos, Bool, true, false, cond, ◌∷◌, Option, Some, None, refl, ap}
-use Rattle.std.specs.Prelude.{codes, is_some, bytes_eq}
+use Rattle.std.proofs.Common.{◌≡◌, ℕ, pos, Bool, true, false, cond, [], ◌∷◌, Option, Some, None, refl, ap, subst}
+use Rattle.std.specs.Prelude.{codes, is_some, bytes_eq, IsTrue}
 use Rattle.std.proofs.lemmas.Slice.Eq.{bytes_eq-Decides}
 use Rattle.map_nums.specs.declared.Stat.TheVariants as stats
-use Rattle.map_words.specs.Bytes.{Text}
+use Rattle.map_nums.specs.Numbers.{is_value, greatest_value}
+use Rattle.map_words.specs.Bytes.{Text, is_good}
+use Rattle.layer_tiles.specs.Cells.{IsCell}
 use Rattle.map_words.specs.Names.{is_plain, is_dotted, is_reserved, is_among}
 use Rattle.map_words.specs.Numbers.{number_text}
 use Rattle.grammar_core.proofs.Reading.{IsPlace}
@@ -13,54 +15,15 @@ use Rattle.statement_parser.specs.Scopes.{Scope}
 use Rattle.statement_parser.specs.Operations.{find_operation, has_row, operation_named}
 use Rattle.statement_parser.specs.Syntax.{Syntax, two_terms, syntax_of}
 use Rattle.statement_parser.specs.Places.{the, maybe, name_of, any_of, value_of, side_of, disc_of, reach_of, limit_of, version_of, term_of, weights_of, cell_of, call_of, tests}
+use Rattle.statement_parser.specs.Signs.{is_sign, one_byte, byte_of, sign_of}
+use Rattle.statement_parser.specs.BranchRules.{opening_of}
+use Rattle.statement_parser.specs.Formed.{IsAny, IsBetween, IsRadius}
+use Rattle.statement_parser.specs.declared.opening.Opening.TheVariants.{Named}
+use Rattle.statement_parser.proofs.FormedLines.{if_some, name_formed, any_formed, value_formed, count_formed, disc_formed, IsOpened, opening_formed, IsTermIn, term_formed, cell_formed, AreWeights, weights_formed}
 use Rattle.statement_parser.specs.Commands.{find_command, has_command, command_named}
 use Rattle.statement_parser.specs.declared.operation.Operation.{Operation}
 use Rattle.statement_parser.specs.declared.operation.Operation.TheVariants.{Local, Difference}
 use Rattle.statement_parser.specs.declared.language.Language.TheVariants.{One}
-
--- each takes some word
-pub name_takes : name_of (codes "A") ≡ Some (codes "A")
-unfolding is_plain is_reserved is_among
-name_takes = refl
-
-pub any_takes : any_of (codes "A") ≡ Some (codes "A")
-unfolding is_plain is_reserved is_among
-any_takes = refl
-
-pub term_takes : (scope : Scope) → term_of scope (codes "1") ≡ Some (number_term (pos 1))
-unfolding is_plain number_text
-term_takes scope = refl
-
-pub weights_takes : (scope : Scope) → weights_of scope (codes "1") ≡ Some (Some (number_term (pos 1)))
-unfolding is_plain number_text
-weights_takes scope = refl
-
-pub value_takes : value_of (codes "1") ≡ Some (pos 1)
-unfolding number_text
-value_takes = refl
-
-pub side_takes : side_of (codes "1") ≡ Some 1
-unfolding number_text
-side_takes = refl
-
-pub disc_takes : disc_of (codes "1") ≡ Some (Some 1)
-unfolding number_text
-disc_takes = refl
-
-pub reach_takes : reach_of (codes "1") ≡ Some 1
-unfolding number_text
-reach_takes = refl
-
-pub limit_takes : limit_of (codes "1") ≡ Some 1
-unfolding number_text
-limit_takes = refl
-
-pub version_takes : version_of (codes "1") ≡ Some One
-unfolding number_text
-version_takes = refl
-
-pub cell_takes : cell_of (codes "null") ≡ Some None
-cell_takes = refl
 
 pub maybe_free : {A : Type 0} (b : Bool) (f : Text → Option A) (t : Text) → f t ≡ None → maybe b f t ≡ None
 maybe_free true f t e = e
@@ -107,66 +70,98 @@ abbrev pub word_in : Syntax → Text
 word_in (two_terms word head) = word
 word_in s = codes "of"
 
+-- a word that is no operation, and no number
+abbrev pub IsFree : Text → Type 0
+IsFree word = (bytes_eq (codes "LocalSum") word ≡ false) × (bytes_eq (codes "01") word ≡ false)
+
+pub word_free : (o : Operation) → IsFree (word_in (syntax_of o))
+word_free Difference = (refl, refl)
+word_free o = (refl, refl)
+
+-- a byte that is taken is one of those
+one_taken : (takes : ℕ → Bool) (w : Text) (b : ℕ) → one_byte takes w ≡ Some b → takes b ≡ true
+one_taken takes [] b e = absurd cc
+one_taken takes (c ∷ []) b e = let h = if_some (takes c) c b e in subst (λ d. takes d ≡ true) h.1 h.0
+one_taken takes (c ∷ d ∷ cs) b e = absurd cc
+
 module _ (m : Manner) where
   pub operation_takes : operation_named m (codes "LocalSum") ≡ Some (Local stats.Sum)
   unfolding operation_named
   operation_takes = sum_found
 
   -- no operation stands there, and where a number is due
-  pub the_place : (word : Text) → bytes_eq (codes "LocalSum") word ≡ false → bytes_eq (codes "01") word ≡ false → IsPlace (tests m) (the word) false
-  the_place word e f = record { free = rw e refl; number = rw f refl }
+  pub the_place : (word : Text) → IsFree word → IsPlace (tests m) (the word) false
+  the_place word e = record { free = rw e.0 refl; number = rw e.1 refl }
 
-  pub word_place : (o : Operation) → IsPlace (tests m) (the (word_in (syntax_of o))) false
-  word_place Difference = the_place (codes "and") refl refl
-  word_place o = the_place (word_in (syntax_of o)) refl refl
+  -- a place that takes some word
+  pub record IsOpen {A : Type 0} (P : A → Type 0) (f : Text → Option A) (due : Bool) : Type 0 where
+    pub place : IsPlace (tests m) f due
+    pub word : Text
+    pub value : A
+    pub takes : f word ≡ Some value
+    pub gives : (w : Text) (v : A) → f w ≡ Some v → P v
 
-  pub name_place : IsPlace (tests m) name_of false
+  opened : {A : Type 0} {P : A → Type 0} (f : Text → Option A) (due : Bool) (word : Text) (value : A) → f (codes "LocalSum") ≡ None → is_some (f (codes "01")) ≡ due → f word ≡ Some value
+      → ((w : Text) (v : A) → f w ≡ Some v → P v) → IsOpen P f due
+  opened f due word value free number takes gives = record { place = record { free = free; number = number }; word = word; value = value; takes = takes; gives = gives }
+
+  pub name_open : IsOpen (λ n. IsTrue (is_plain n)) name_of false
   unfolding is_plain is_reserved is_among
-  name_place = record { free = refl; number = refl }
+  name_open = opened name_of false (codes "A") (codes "A") refl refl refl name_formed
 
-  pub any_place : IsPlace (tests m) any_of false
+  pub any_open : IsOpen IsAny any_of false
   unfolding is_plain is_dotted is_reserved is_among
-  any_place = record { free = refl; number = refl }
+  any_open = opened any_of false (codes "A") (codes "A") refl refl refl any_formed
 
-  pub term_place : (scope : Scope) → IsPlace (tests m) (term_of scope) true
+  pub opening_open : IsOpen IsOpened opening_of false
+  unfolding is_plain is_reserved is_among
+  opening_open = opened opening_of false (codes "A") (Named (codes "A")) refl refl refl opening_formed
+
+  pub term_open : (scope : Scope) → IsOpen (IsTermIn scope) (term_of scope) true
   unfolding is_plain is_reserved is_among number_text
-  term_place scope = record { free = refl; number = refl }
+  term_open scope = opened (term_of scope) true (codes "1") (number_term (pos 1)) refl refl refl (term_formed scope)
 
-  pub weights_place : (scope : Scope) → IsPlace (tests m) (weights_of scope) true
+  pub weights_open : (scope : Scope) → IsOpen (AreWeights scope) (weights_of scope) true
   unfolding is_plain is_reserved is_among number_text
-  weights_place scope = record { free = refl; number = refl }
+  weights_open scope = opened (weights_of scope) true (codes "1") (Some (number_term (pos 1))) refl refl refl (weights_formed scope)
 
-  pub value_place : IsPlace (tests m) value_of true
+  pub value_open : IsOpen (λ z. IsTrue (is_value z)) value_of true
   unfolding number_text
-  value_place = record { free = refl; number = refl }
+  value_open = opened value_of true (codes "1") (pos 1) refl refl refl value_formed
 
-  pub side_place : IsPlace (tests m) side_of true
+  pub cell_open : IsOpen IsCell cell_of true
   unfolding number_text
-  side_place = record { free = refl; number = refl }
+  cell_open = opened cell_of true (codes "null") None refl refl refl cell_formed
 
-  pub disc_place : IsPlace (tests m) disc_of true
+  pub side_open : IsOpen (IsBetween 1 4096) side_of true
   unfolding number_text
-  disc_place = record { free = refl; number = refl }
+  side_open = opened side_of true (codes "1") 1 refl refl refl (count_formed 1 4096)
 
-  pub reach_place : IsPlace (tests m) reach_of true
+  pub disc_open : IsOpen IsRadius disc_of true
   unfolding number_text
-  reach_place = record { free = refl; number = refl }
+  disc_open = opened disc_of true (codes "1") (Some 1) refl refl refl disc_formed
 
-  pub limit_place : IsPlace (tests m) limit_of true
+  pub reach_open : IsOpen (IsBetween 1 64) reach_of true
   unfolding number_text
-  limit_place = record { free = refl; number = refl }
+  reach_open = opened reach_of true (codes "1") 1 refl refl refl (count_formed 1 64)
 
-  pub version_place : IsPlace (tests m) version_of true
+  pub limit_open : IsOpen (IsBetween 0 greatest_value) limit_of true
   unfolding number_text
-  version_place = record { free = refl; number = refl }
+  limit_open = opened limit_of true (codes "1") 1 refl refl refl (count_formed 0 greatest_value)
 
-  pub cell_place : IsPlace (tests m) cell_of true
+  pub version_open : IsOpen (λ l. Unit {0}) version_of true
   unfolding number_text
-  cell_place = record { free = refl; number = refl }
+  version_open = opened version_of true (codes "1") One refl refl refl (λ w l e. tt)
+
+  pub sign_open : IsOpen (λ b. IsTrue (is_sign b)) sign_of false
+  sign_open = opened sign_of false (codes "x") 120 refl refl refl (one_taken is_sign)
+
+  pub byte_open : IsOpen (λ b. IsTrue (is_good b)) byte_of false
+  byte_open = opened byte_of false (codes "x") 120 refl refl refl (one_taken is_good)
 
   pub call_place : IsPlace (tests m) (call_of m) false
   call_place = record {
-    free = maybe_free m.calls name_of (codes "LocalSum") name_place.free;
+    free = maybe_free m.calls name_of (codes "LocalSum") name_open.place.free;
     number = ap is_some (maybe_free m.calls name_of (codes "01") no_name_number);
   }
 

@@ -9,7 +9,7 @@ use Rattle.grammar_core.specs.Refusals.{is_unknown}
 use Rattle.grammar_core.specs.Run.{is_node, refused, kind_at, run}
 use Rattle.grammar_core.specs.Readers.{◌>>=◌, Read, one_at, starts}
 use Rattle.grammar_core.proofs.Parts.{or_left}
-use Rattle.grammar_core.proofs.Reading.{assoc, IsPlace, AllNodes, Reads, place, IsTail, also_reads, or_refused, or_else}
+use Rattle.grammar_core.proofs.Reading.{assoc, IsPlace, AllNodes, Reads, place, or_refused, or_else}
 use Rattle.statement_parser.specs.Lines.{Manner, Line}
 use Rattle.statement_parser.specs.Places.{maybe, tests, reading}
 
@@ -29,18 +29,11 @@ module _ (m : Manner) where
   placed_k f due h k r p nodes reads ws = assoc (one_at reading f due ws) (λ p. h p.0 p.1) (λ p. k p.0 p.1) ∙ placed f due (λ v us. h v us >>= λ p. k p.0 p.1) r p nodes reads ws
 
   -- an optional part that isn't there
-  part_none : {A : Type 0} (f : Text → Option A) (q : A → Rule Text Line) (r : Rule Text Line) (one rest : List Text → Result Line Fault) → ((ws : List Text) → rest ws ≡ run (tests m) r ws)
+  pub part_none : {A : Type 0} (f : Text → Option A) (q : A → Rule Text Line) (r : Rule Text Line) (one rest : List Text → Result Line Fault) → ((ws : List Text) → rest ws ≡ run (tests m) r ws)
       → (ws : List Text) → cond (starts (maybe false f) ws) (one ws) (rest ws) ≡ run (tests m) (also (on (maybe false f) q) r) ws
   unfolding run
   part_none f q r one rest there [] = there []
   part_none f q r one rest there (w ∷ ws) = there (w ∷ ws)
-
-  -- an optional part that may be there or not
-  pub maybe_reads : {A : Type 0} (b : Bool) (f : Text → Option A) (q : A → Rule Text Line) (r : Rule Text Line) (one rest : List Text → Result Line Fault) → IsPlace (tests m) f false → AllNodes (tests m) q → IsTail (tests m) r
-      → ((ws : List Text) → one ws ≡ run (tests m) (next f q) ws) → ((ws : List Text) → rest ws ≡ run (tests m) r ws)
-      → (ws : List Text) → cond (starts (maybe b f) ws) (one ws) (rest ws) ≡ run (tests m) (also (on (maybe b f) q) r) ws
-  maybe_reads true f q r one rest p nodes tail here there = also_reads (tests m) f q r one rest p nodes tail here there
-  maybe_reads false f q r one rest p nodes tail here there = part_none f q r one rest there
 
   not_there : {A : Type 0} (s : Option A) (q : A → Rule Text Line) → is_some s ≡ false → after s q ≡ fail
   not_there None q e = refl

@@ -1,20 +1,16 @@
 -- The canonical text of a procedure reads back.
 use Rattle.std.proofs.Common.{◌≡◌, ◌≤◌, ℕ, zero, suc, Bool, true, false, List, [], ◌∷◌, ◌++◌, length, Option, Some, None, Ok, Err, refl, sym, ap, subst, ◌∙◌, append_assoc, length-append, arith, inl}
 use Rattle.std.specs.Prelude.{codes, bytes_eq}
-use Rattle.std.specs.List.{list_all}
 use Rattle.std.proofs.lemmas.List.{append-nil}
-use Rattle.std.proofs.lemmas.List.Folds.{list_all-append}
-use Rattle.std.proofs.lemmas.Slice.Eq.{bytes_eq-Decides}
-use Rattle.map_words.specs.Bytes.{Text, is_blank, is_mark, is_good}
+use Rattle.map_words.specs.Bytes.{Text}
 use Rattle.map_words.specs.Names.{is_plain, is_reserved, is_among}
 use Rattle.grammar_core.specs.Rules.{ends}
 use Rattle.grammar_core.specs.Run.{run}
 use Rattle.grammar_core.specs.Readers.{◌>>=◌, Read, one_at, end_at, starts}
 use Rattle.grammar_core.proofs.FirstFault.{found_so, only_so}
 use Rattle.grammar_core.proofs.Parts.{tail_ends}
-use Rattle.grammar_core.proofs.Reading.{ends_tail, end_reads}
-use Rattle.map_defs.specs.Ops.{Term}
-use Rattle.map_defs.specs.Statements.{Written, plain, call, Inner, Procedure}
+use Rattle.grammar_core.proofs.Reading.{end_reads}
+use Rattle.map_defs.specs.Statements.{Written, Inner, Procedure}
 use Rattle.statement_parser.specs.Lines.{Manner, Line, define, define_procedure, edit}
 use Rattle.statement_parser.specs.Scopes.{Scope, has_name, names_before}
 use Rattle.statement_parser.specs.Places.{the, name_of, tests, reading}
@@ -25,22 +21,19 @@ use Rattle.statement_parser.specs.ProcedureRules.{fresh_of, procedure_line}
 use Rattle.statement_parser.specs.ReadBodies.{body_at}
 use Rattle.statement_parser.specs.ReadProcedures.{names_at, parameters_at, inner_at, result_at, named_inner_at, statements_at, procedure_at}
 use Rattle.statement_parser.specs.ReadLine.{started_at, line_at}
-use Rattle.statement_parser.specs.Spacing.{spaced}
-use Rattle.statement_parser.specs.TermTexts.{term_text, terms_after, listed_after, listed}
-use Rattle.statement_parser.specs.Canonical.{op_texts, tail_text, written_text}
-use Rattle.statement_parser.specs.Formed.{Each, IsTerm, IsWritten, AreInScope, IsFresh, AreFresh, IsInner, AreInner, IsProcedure}
+use Rattle.statement_parser.specs.Canonical.{written_text}
+use Rattle.statement_parser.specs.Formed.{Each, IsWritten, AreInScope, IsFresh, AreFresh, IsInner, AreInner, IsProcedure}
 use Rattle.statement_parser.specs.There.{HasCommand, IsWrittenThere, AreInnerThere}
 use Rattle.statement_parser.specs.ProcedureTexts.{names_after, names_text, statements_after, statements_text, procedure_text}
 use Rattle.statement_parser.specs.ReadingBack.{ReadsBack}
 use Rattle.statement_parser.specs.Texts.{seen, is_short, LineText, worded}
 use Rattle.statement_parser.specs.declared.command.Command.TheVariants.{Procedure as Procedures}
-use Rattle.statement_parser.proofs.SoundBodies.{healthy_body}
-use Rattle.statement_parser.proofs.ReadsBodies.{body_reads}
-use Rattle.statement_parser.proofs.ReadsLines.{line_reads}
+use Rattle.statement_parser.proofs.Parts.{IsStop}
+use Rattle.statement_parser.proofs.BodyParts.{body_local, body_reads, healthy_body}
 use Rattle.statement_parser.proofs.BackWords.{written_in, written_tail, body_back}
-use Rattle.statement_parser.proofs.BackBytes.{texts_from, texts_are, from_word, IsWord, word_good, spaced_good, no_bad, plain_word, term_word, op_words}
-use Rattle.statement_parser.proofs.Recutting.{untailed_line}
-use Rattle.statement_parser.proofs.Local.{IsStop, body_local}
+use Rattle.statement_parser.proofs.BackBytes.{texts_from, texts_are, from_word, IsWord, word_good, no_bad, plain_word, Follows, space_follows, mark_follows, written_then, Good, good_append, statement_good}
+use Rattle.statement_parser.proofs.Recutting.{no_word_of, untailed_line}
+use Rattle.statement_parser.proofs.LineParts.{line_reads}
 
 -- ---- words
 
@@ -55,7 +48,7 @@ module _ (m : Manner) (scope : Scope) (w : Written) (formed : IsWritten w) (ther
   ran = only_so (tests m) (body_rule scope m (λ v. ends (made v))) (written_tail w) (made w) (healthy_body m scope (λ v. ends (made v)) (λ v. tail_ends (tests m) (made v))).sound (body_back scope m made w (written_in scope w formed within) there)
 
   body_exact : body_at scope m (written_tail w) ≡ Ok (w, [])
-  body_exact = go (body_at scope m (written_tail w)) (body_reads m scope (λ v ws. end_at ws >>= λ e. Ok (made v)) (λ v. ends (made v)) (λ v. ends_tail (tests m) (made v)) (λ v. end_reads (tests m) (made v)) (written_tail w) ∙ ran)
+  body_exact = go (body_at scope m (written_tail w)) (body_reads m scope (λ v ws. end_at ws >>= λ e. Ok (made v)) (λ v. ends (made v)) (λ v. tail_ends (tests m) (made v)) (λ v. end_reads (tests m) (made v)) (written_tail w) ∙ ran)
     where
       go : (r : Read Text Written) → (r >>= λ p. end_at p.1 >>= λ e. Ok (made p.0)) ≡ Ok (made w) → r ≡ Ok (w, [])
       go (Err f) e = absurd cc
@@ -64,7 +57,7 @@ module _ (m : Manner) (scope : Scope) (w : Written) (formed : IsWritten w) (ther
 
   -- whatever follows a semicolon
   pub body_then : (us : List Text) → IsStop us → body_at scope m (written_tail w ++ us) ≡ Ok (w, us)
-  body_then us stop = body_local us stop m scope (written_tail w) w [] body_exact
+  body_then us stop = body_local m scope us stop (written_tail w) w [] body_exact
 
 abbrev names_words : List Text → List Text
 names_words [] = []
@@ -90,11 +83,7 @@ names_back (suc n) front (q ∷ qs) rest l h none =
 
 no_result : (n : Text) → is_plain n ≡ true → bytes_eq n (codes "result") ≡ false
 unfolding is_plain is_reserved is_among
-no_result n p = go (bytes_eq n (codes "result")) refl
-  where
-    go : (b : Bool) → bytes_eq n (codes "result") ≡ b → b ≡ false
-    go true e = absurd (let same : n ≡ codes "result" = (bytes_eq-Decides n (codes "result")).0 e in let f : is_plain n ≡ false = ap is_plain same in cc)
-    go false e = refl
+no_result n p = no_word_of n (codes "result") p refl
 
 names-push : (ps : List Text) (is : List Inner) (i : Inner) → names_before ps (is ++ i ∷ []) ≡ names_before ps is ++ i.name ∷ []
 names-push ps [] i = refl
@@ -149,31 +138,6 @@ module _ (m : Manner) where
 
 -- ---- the words of the bytes
 
--- after a word, and after a blank or a mark, the bytes have these words
-abbrev Follows : Text → List Text → Type 0
-Follows rest us = ((t : Text) → texts_from (Some t) rest ≡ t ∷ us) × (texts_from None rest ≡ us)
-
-space_follows : (rest : Text) (us : List Text) → texts_from None rest ≡ us → Follows (32 ∷ rest) us
-space_follows rest us e = (λ t. ap (λ ts. t ∷ ts) e, e)
-
-mark_follows : (b : ℕ) (rest : Text) (us : List Text) → is_blank b ≡ false → is_mark b ≡ true → texts_from None rest ≡ us → Follows (b ∷ rest) ((b ∷ []) ∷ us)
-mark_follows b rest us p q e = (λ t. rw (p, q) (ap (λ ts. t ∷ (b ∷ []) ∷ ts) e), rw (p, q) (ap (λ ts. (b ∷ []) ∷ ts) e))
-
-spaced_then : (ts : List Text) (rest : Text) (us : List Text) → Each IsWord ts → Follows rest us → Follows (spaced ts ++ rest) (ts ++ us)
-spaced_then [] rest us h f = f
-spaced_then (t ∷ ts) rest us h f =
-    let ih = spaced_then ts rest us h.1 f in
-    space_follows ((t ++ spaced ts) ++ rest) (t ∷ (ts ++ us)) (ap (texts_from None) (append_assoc t (spaced ts) rest) ∙ from_word t (spaced ts ++ rest) (ts ++ us) h.0 ih.0 ih.1)
-
-terms_then : (ts : List Term) (rest : Text) (us : List Text) → Each IsTerm ts → Follows rest us → Follows (listed_after ts ++ rest) (terms_after (codes ",") ts ++ us)
-terms_then [] rest us h f = f
-terms_then (t ∷ ts) rest us h f =
-    let ih = terms_then ts rest us h.1 f in
-    let more = terms_after (codes ",") ts ++ us in
-    let one : texts_from None ((term_text t ++ listed_after ts) ++ rest) ≡ term_text t ∷ more =
-    ap (texts_from None) (append_assoc (term_text t) (listed_after ts) rest) ∙ from_word (term_text t) (listed_after ts ++ rest) more (term_word t h.0) ih.0 ih.1 in
-    mark_follows 44 (32 ∷ ((term_text t ++ listed_after ts) ++ rest)) (term_text t ∷ more) refl refl one
-
 names_then : (ns : List Text) (rest : Text) (us : List Text) → Each (λ n. is_plain n ≡ true) ns → Follows rest us → Follows (names_after ns ++ rest) (names_words ns ++ us)
 names_then [] rest us h f = f
 names_then (n ∷ ns) rest us h f =
@@ -182,29 +146,6 @@ names_then (n ∷ ns) rest us h f =
     let one : texts_from None ((n ++ names_after ns) ++ rest) ≡ n ∷ more =
     ap (texts_from None) (append_assoc n (names_after ns) rest) ∙ from_word n (names_after ns ++ rest) more (plain_word n h.0) ih.0 ih.1 in
     mark_follows 44 (32 ∷ ((n ++ names_after ns) ++ rest)) (n ∷ more) refl refl one
-
-tail_then : (w : Written) (rest : Text) (us : List Text) → IsWritten w → Follows rest us → Follows (tail_text w ++ rest) (written_tail w ++ us)
-tail_then (plain o) rest us h f = spaced_then (op_texts o) rest us (op_words o h) f
-tail_then (call p []) rest us h f = absurd (let l = h.1 in omega arith)
-tail_then (call p (a ∷ ts)) rest us h f =
-    let given = listed (a ∷ ts) in
-    let more = terms_after (codes ",") ts in
-    let after = terms_then ts (41 ∷ rest) (codes ")" ∷ us) h.3.1 (mark_follows 41 rest us refl refl f.1) in
-    let first : texts_from None ((given ++ 41 ∷ []) ++ rest) ≡ term_text a ∷ ((more ++ codes ")" ∷ []) ++ us) =
-    ap (texts_from None) (append_assoc given (41 ∷ []) rest ∙ append_assoc (term_text a) (listed_after ts) (41 ∷ rest))
-    ∙ from_word (term_text a) (listed_after ts ++ 41 ∷ rest) (more ++ codes ")" ∷ us) (term_word a h.3.0) after.0 after.1
-    ∙ ap (λ vs. term_text a ∷ vs) (sym (append_assoc more (codes ")" ∷ []) us)) in
-    let opened = mark_follows 40 ((given ++ 41 ∷ []) ++ rest) (term_text a ∷ ((more ++ codes ")" ∷ []) ++ us)) refl refl first in
-    let named : texts_from None ((p ++ 40 ∷ (given ++ 41 ∷ [])) ++ rest) ≡ p ∷ codes "(" ∷ term_text a ∷ ((more ++ codes ")" ∷ []) ++ us) =
-    ap (texts_from None) (append_assoc p (40 ∷ (given ++ 41 ∷ [])) rest) ∙ from_word p (40 ∷ ((given ++ 41 ∷ []) ++ rest)) (codes "(" ∷ term_text a ∷ ((more ++ codes ")" ∷ []) ++ us)) (plain_word p h.0) opened.0 opened.1 in
-    space_follows ((p ++ 40 ∷ (given ++ 41 ∷ [])) ++ rest) (p ∷ codes "(" ∷ term_text a ∷ ((more ++ codes ")" ∷ []) ++ us)) named
-
-written_then : (n : Text) (w : Written) (rest : Text) (us : List Text) → IsWord n → IsWritten w → Follows rest us → texts_from None (written_text n w ++ rest) ≡ n ∷ codes "=" ∷ (written_tail w ++ us)
-written_then n w rest us word h f =
-    let body = tail_then w rest us h f in
-    let equals = mark_follows 61 (tail_text w ++ rest) (written_tail w ++ us) refl refl body.1 in
-    let space = space_follows (61 ∷ (tail_text w ++ rest)) (codes "=" ∷ (written_tail w ++ us)) equals.1 in
-    ap (texts_from None) (append_assoc n (32 ∷ 61 ∷ tail_text w) rest) ∙ from_word n (32 ∷ 61 ∷ (tail_text w ++ rest)) (codes "=" ∷ (written_tail w ++ us)) word space.0 space.1
 
 abbrev last_inner : Written → Inner
 last_inner w = record { name = codes "result"; written = w }
@@ -238,29 +179,9 @@ statements_seen (i ∷ is) last h k =
 
 -- ---- bytes of a line
 
-abbrev Good : Text → Type 0
-Good t = list_all is_good t ≡ true
-
-good_append : (a b : Text) → Good a → Good b → Good (a ++ b)
-good_append a b h k = list_all-append is_good a b ∙ rw (h, k) refl
-
-terms_good : (ts : List Term) → Each IsTerm ts → Good (listed_after ts)
-terms_good [] h = refl
-terms_good (t ∷ ts) h = good_append (term_text t) (listed_after ts) (word_good (term_text t) (term_word t h.0)) (terms_good ts h.1)
-
 names_good : (ns : List Text) → Each (λ n. is_plain n ≡ true) ns → Good (names_after ns)
 names_good [] h = refl
 names_good (n ∷ ns) h = good_append n (names_after ns) (word_good n (plain_word n h.0)) (names_good ns h.1)
-
-tail_good : (w : Written) → IsWritten w → Good (tail_text w)
-tail_good (plain o) h = spaced_good (op_texts o) (op_words o h)
-tail_good (call p []) h = absurd (let l = h.1 in omega arith)
-tail_good (call p (a ∷ ts)) h =
-    good_append p (40 ∷ (listed (a ∷ ts) ++ 41 ∷ [])) (word_good p (plain_word p h.0))
-    (good_append (listed (a ∷ ts)) (41 ∷ []) (good_append (term_text a) (listed_after ts) (word_good (term_text a) (term_word a h.3.0)) (terms_good ts h.3.1)) refl)
-
-statement_good : (n : Text) (w : Written) → Good n → IsWritten w → Good (written_text n w)
-statement_good n w g h = good_append n (32 ∷ 61 ∷ tail_text w) g (tail_good w h)
 
 further_good : (front : List Inner) (last : Written) → AreWritten front → IsWritten last → Good (statements_after (front ++ last_inner last ∷ []))
 further_good [] last h k = good_append (written_text (codes "result") last) [] (statement_good (codes "result") last refl k) refl

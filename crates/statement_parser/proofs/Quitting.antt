@@ -23,7 +23,7 @@ use Rattle.statement_parser.specs.ReadProcedures.{parameters_at, statements_at, 
 use Rattle.statement_parser.specs.declared.command.Command.{Command}
 use Rattle.statement_parser.specs.declared.command.Command.TheVariants.{Model, Procedure, Paint, New, Drop, Label, Symbol, Undo, Branch, Value, Grid, Show, Legend, Table, Stamps, List as Listing, Quit}
 use Rattle.statement_parser.proofs.FormedLines.{command_word}
-use Rattle.statement_parser.proofs.ReadsLines.{line_reads}
+use Rattle.statement_parser.proofs.LineParts.{line_reads}
 
 -- it isn't the end of the session
 abbrev IsOn : Result Line Fault → Type 0

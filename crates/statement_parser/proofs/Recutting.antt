@@ -59,7 +59,7 @@ tail_within bytes (v ∷ w ∷ x ∷ ws) tail h e =
 
 -- ---- lines without a tail
 
-no_word_of : (n word : Text) → is_plain n ≡ true → is_plain word ≡ false → bytes_eq n word ≡ false
+pub no_word_of : (n word : Text) → is_plain n ≡ true → is_plain word ≡ false → bytes_eq n word ≡ false
 no_word_of n word p q = go (bytes_eq n word) refl
   where
     go : (b : Bool) → bytes_eq n word ≡ b → b ≡ false

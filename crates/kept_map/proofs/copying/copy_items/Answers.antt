@@ -6,7 +6,7 @@ use Rattle.std.proofs.lemmas.List.{length_push}
 use Rattle.std.proofs.Math.Seq.{take-length}
 use Rattle.indexmap.specs.IndexMap.{insert_entry}
 use Rattle.kept_map.specs.Copies.{items_view}
-use Rattle.kept_map.proofs.CopiedNames.{item_next}
+use Rattle.kept_map.proofs.Copied.{item_next}
 use Rattle.kept_map.proofs.copying.copy_items.Goals as goal
 
 pub loop-name-preserved : goal.loop-name-preserved

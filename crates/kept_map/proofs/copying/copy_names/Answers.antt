@@ -1,7 +1,7 @@
 use Rattle.std.proofs.Common.{slice_get, length, refl, sym, ap, ◌∙◌, bytes_eq}
 use Rattle.std.proofs.lemmas.Option.{slice_get_read}
 use Rattle.indexmap.specs.IndexSet.{insert_key}
-use Rattle.kept_map.proofs.CopiedNames.{name_next}
+use Rattle.kept_map.proofs.Copied.{name_next}
 use Rattle.kept_map.proofs.copying.copy_names.Goals as goal
 
 pub loop-name-preserved : goal.loop-name-preserved

@@ -1,5 +1,5 @@
 use Rattle.std.proofs.Common.{sym, ◌∙◌}
-use Rattle.kept_map.proofs.FlatLookups.{lookup_rest}
+use Rattle.kept_map.proofs.EditedFlats.{lookup_rest}
 use Rattle.kept_map.proofs.flats.+flat_among.Goals as goal
 
 pub returns-else-eq : goal.returns-else-eq

@@ -1,5 +1,5 @@
-use Rattle.kept_map.proofs.Settling.{AreSettled}
+use Rattle.kept_map.proofs.OneByOne.{AreChangedTo, ComesToRest}
 use Rattle.kept_map.proofs.placing.rest.Given as goal
 
 abbrev pub invariant-loop-place : goal.invariant-loop-place
-invariant-loop-place l = AreSettled l.place l.fn.steps l.steps
+invariant-loop-place l = AreChangedTo ComesToRest l.place l.fn.steps l.steps

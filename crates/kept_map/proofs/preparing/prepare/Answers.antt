@@ -1,58 +1,43 @@
-use Rattle.std.proofs.Common.{◌≡◌, length, subst, rules, option_map}
-use Rattle.edit_plans.specs.Planned.{added_names}
+use Rattle.std.proofs.Common.{◌≡◌, length, subst, rules}
 use Rattle.std.proofs.lemmas.Result.{err_from_is_err_and}
 use Rattle.kept_map.specs.Maps.{names_with}
 use Rattle.kept_map.specs.Rooms.{HasRoom}
-use Rattle.kept_map.proofs.Outcomes.{rests}
+use Rattle.kept_map.proofs.Planning.{rests}
 use Rattle.kept_map.proofs.Replanning.{acyclic, apart_in, few_in, sources_in, flats_in, replanned}
 use Rattle.kept_map.proofs.preparing.prepare.Goals as goal
 
-pub make_plan-requires-clause-acyclic : goal.make_plan-requires-clause-acyclic
-make_plan-requires-clause-acyclic g c =
+pub make_plan-requires : goal.make_plan-requires
+make_plan-requires g c =
     let r = c.requires.set_up in
-    acyclic c.args.map.now c.requires.kept r.0 r.1 c.args.shift (added_names (option_map (λ n. n.now) c.args.added)) c.args.graph.now c.args.edited.now c.args.written.now r.2 r.3
-
-pub make_plan-requires-clause-apart : goal.make_plan-requires-clause-apart
-make_plan-requires-clause-apart g c =
-    let r = c.requires.set_up in
-    apart_in c.args.map.now c.requires.kept r.0 r.1 c.args.shift (added_names (option_map (λ n. n.now) c.args.added)) c.args.graph.now c.args.edited.now c.args.written.now r.2 r.3
-
-pub make_plan-requires-clause-few : goal.make_plan-requires-clause-few
-make_plan-requires-clause-few g c =
-    let r = c.requires.set_up in
-    few_in c.args.map.now c.requires.kept r.0 r.1 c.args.shift (added_names (option_map (λ n. n.now) c.args.added)) c.args.graph.now c.args.edited.now c.args.written.now r.2 r.3
-
-pub make_plan-requires-clause-sources : goal.make_plan-requires-clause-sources
-make_plan-requires-clause-sources g c =
-    let r = c.requires.set_up in
-    sources_in c.args.map.now c.requires.kept r.0 r.1 c.args.shift (added_names (option_map (λ n. n.now) c.args.added)) c.args.graph.now c.args.edited.now c.args.written.now r.2 r.3
-
-pub make_plan-requires-clause-flats : goal.make_plan-requires-clause-flats
-make_plan-requires-clause-flats g c =
-    let r = c.requires.set_up in
-    flats_in c.args.map.now c.requires.kept r.0 r.1 c.args.shift (added_names (option_map (λ n. n.now) c.args.added)) c.args.graph.now c.args.edited.now c.args.written.now r.2 r.3
+    record {
+      acyclic = acyclic c.args.added c.requires.kept r.2 r.3;
+      apart = apart_in c.args.added c.requires.kept r.2 r.3;
+      few = few_in c.args.added c.requires.kept r.2 r.3;
+      sources = sources_in c.args.added c.requires.kept r.2 r.3;
+      flats = flats_in c.args.added c.requires.kept r.2 r.3;
+    }
 
 pub returns-in_err-planned-clause-tally : goal.returns-in_err-planned-clause-tally
-returns-in_err-planned-clause-tally g c e t set_up new = rests c.args.map.now c.requires.kept e t c.args.shift (names_with c.args.map.now.sources c.args.added) set_up (g.M.Tally.counts c.args.tally.now)
+returns-in_err-planned-clause-tally g c e t set_up new = rests c.requires.kept set_up (g.M.Tally.counts c.args.tally.now)
 
 pub repaired-requires-clause-planned : goal.repaired-requires-clause-planned
 repaired-requires-clause-planned g c κs within =
     let r = c.requires.set_up in
-    (r.0, r.1, (names_with c.args.map.now.sources c.args.added), replanned c.args.map.now c.requires.kept r.0 r.1 c.args.shift (added_names (option_map (λ n. n.now) c.args.added)) c.args.graph.now c.args.edited.now c.args.written.now r.2 r.3 c.in_ok-planned.planned.names.keys c.in_ok-planned.planned.steps.items c.in_ok-planned.ensures)
+    (r.0, r.1, names_with c.args.map.now.sources c.args.added, replanned c.args.added c.requires.kept r.2 r.3 c.in_ok-planned.ensures)
 
 pub returns-in_err-prepared-clause-halted : goal.returns-in_err-prepared-clause-halted
 returns-in_err-prepared-clause-halted g c e t set_up new =
     let p = err_from_is_err_and c.from_residual-in_err-prepared.result c.from_residual-in_err-prepared.ensures.1 in
-    rw (p.1, p.2) (c.in_err-prepared.ensures.halted e t (names_with c.args.map.now.sources c.args.added) (replanned c.args.map.now c.requires.kept e t c.args.shift (added_names (option_map (λ n. n.now) c.args.added)) c.args.graph.now c.args.edited.now c.args.written.now set_up new c.in_ok-planned.planned.names.keys c.in_ok-planned.planned.steps.items c.in_ok-planned.ensures))
+    rw (p.1, p.2) (c.in_err-prepared.ensures.halted e t (names_with c.args.map.now.sources c.args.added) (replanned c.args.added c.requires.kept set_up new c.in_ok-planned.ensures))
 
 pub returns-in_err-prepared-clause-tally : goal.returns-in_err-prepared-clause-tally
-returns-in_err-prepared-clause-tally g c e t set_up new = c.repaired.ensures.tally e t (names_with c.args.map.now.sources c.args.added) (replanned c.args.map.now c.requires.kept e t c.args.shift (added_names (option_map (λ n. n.now) c.args.added)) c.args.graph.now c.args.edited.now c.args.written.now set_up new c.in_ok-planned.planned.names.keys c.in_ok-planned.planned.steps.items c.in_ok-planned.ensures)
+returns-in_err-prepared-clause-tally g c e t set_up new = c.repaired.ensures.tally e t (names_with c.args.map.now.sources c.args.added) (replanned c.args.added c.requires.kept set_up new c.in_ok-planned.ensures)
 
 pub returns-clause-prepared : goal.returns-clause-prepared
-returns-clause-prepared g c e t set_up new = c.in_ok-prepared.ensures.prepared e t (names_with c.args.map.now.sources c.args.added) (replanned c.args.map.now c.requires.kept e t c.args.shift (added_names (option_map (λ n. n.now) c.args.added)) c.args.graph.now c.args.edited.now c.args.written.now set_up new c.in_ok-planned.planned.names.keys c.in_ok-planned.planned.steps.items c.in_ok-planned.ensures)
+returns-clause-prepared g c e t set_up new = c.in_ok-prepared.ensures.prepared e t (names_with c.args.map.now.sources c.args.added) (replanned c.args.added c.requires.kept set_up new c.in_ok-planned.ensures)
 
 pub returns-in_err-room-clause-tally : goal.returns-in_err-room-clause-tally
-returns-in_err-room-clause-tally g c e t set_up new = c.repaired.ensures.tally e t (names_with c.args.map.now.sources c.args.added) (replanned c.args.map.now c.requires.kept e t c.args.shift (added_names (option_map (λ n. n.now) c.args.added)) c.args.graph.now c.args.edited.now c.args.written.now set_up new c.in_ok-planned.planned.names.keys c.in_ok-planned.planned.steps.items c.in_ok-planned.ensures)
+returns-in_err-room-clause-tally g c e t set_up new = c.repaired.ensures.tally e t (names_with c.args.map.now.sources c.args.added) (replanned c.args.added c.requires.kept set_up new c.in_ok-planned.ensures)
 
 pub returns-clause-room : goal.returns-clause-room
 returns-clause-room g c =
@@ -61,4 +46,4 @@ returns-clause-room g c =
     subst (λ n. HasRoom n (length c.in_ok-planned.planned.steps.items) c.in_ok-room.room) old (subst (λ n. HasRoom c.len.result n c.in_ok-room.room) new c.in_ok-room.ensures)
 
 pub returns-clause-tally : goal.returns-clause-tally
-returns-clause-tally g c e t set_up new = c.repaired.ensures.tally e t (names_with c.args.map.now.sources c.args.added) (replanned c.args.map.now c.requires.kept e t c.args.shift (added_names (option_map (λ n. n.now) c.args.added)) c.args.graph.now c.args.edited.now c.args.written.now set_up new c.in_ok-planned.planned.names.keys c.in_ok-planned.planned.steps.items c.in_ok-planned.ensures)
+returns-clause-tally g c e t set_up new = c.repaired.ensures.tally e t (names_with c.args.map.now.sources c.args.added) (replanned c.args.added c.requires.kept set_up new c.in_ok-planned.ensures)

@@ -12,7 +12,7 @@ use Rattle.map_waves.proofs.Phasing.{prepared_faultless}
 use Rattle.op_jobs.specs.Beside.{suits}
 use Rattle.op_jobs.specs.declared.beside.Beside.{Beside}
 use Rattle.op_jobs.specs.Ranges.{HasRanges}
-use Rattle.kept_map.proofs.Telling.{told_is, reached_by}
+use Rattle.kept_map.proofs.Faults.{told_is, reached_by}
 use Rattle.kept_map.proofs.repairing.repair.Goals as goal
 
 pub repair_all-requires-clause-planned : goal.repair_all-requires-clause-planned
@@ -29,48 +29,45 @@ count_all-counts-requires-clause-prepared g c κs =
     subst (λ xs. ArePrepared op_view suits base xs 0 c.as_slice-in-Ok-2.result.now) (sym c.as_slice-in-Ok.ensures.value)
     (subst (λ (rs : List (Option (Made Beside))). ArePrepared op_view suits base items 0 rs) (sym c.as_slice-in-Ok-2.ensures.value) prepared)
 
-pub returns-in-Ok-clause-made : goal.returns-in-Ok-clause-made
-returns-in-Ok-clause-made g c = subst (λ xs. ArePrepared op_view suits c.args.base.now xs 0 c.in-Ok.made.items) c.as_slice.ensures.value c.in-Ok.ensures.all.1
-
-pub returns-in-Ok-clause-changed : goal.returns-in-Ok-clause-changed
-returns-in-Ok-clause-changed g c = c.count_all-counts.ensures.changed ∙ ap (λ xs. changed_to (plan_of op_view c.args.base.now xs) (length xs)) c.as_slice-in-Ok.ensures.value
-
-pub returns-in-Ok-clause-evaluated : goal.returns-in-Ok-clause-evaluated
-returns-in-Ok-clause-evaluated g c = c.count_all-counts.ensures.evaluated ∙ ap (λ xs. evaluated_to (plan_of op_view c.args.base.now xs) (length xs)) c.as_slice-in-Ok.ensures.value
-
-pub returns-in-Ok-clause-worked : goal.returns-in-Ok-clause-worked
-returns-in-Ok-clause-worked g c = c.count_all-counts.ensures.worked ∙ ap (λ xs. worked_to (plan_of op_view c.args.base.now xs) (length xs)) c.as_slice-in-Ok.ensures.value
-
-pub returns-in-Ok-clause-faultless : goal.returns-in-Ok-clause-faultless
-returns-in-Ok-clause-faultless g c =
+pub returns-in-Ok : goal.returns-in-Ok
+returns-in-Ok g c =
     let base = c.args.base.now in
     let items = c.args.planned.now.steps.items in
-    let prepared : ArePrepared op_view suits base items 0 c.in-Ok.made.items = subst (λ xs. ArePrepared op_view suits base xs 0 c.in-Ok.made.items) c.as_slice.ensures.value c.in-Ok.ensures.all.1 in
-    let count = c.in-Ok.ensures.all.0 in
-    let same : length c.as_slice.result.now ≡ length items = ap length c.as_slice.ensures.value in
-    prepared_faultless op_view suits base items 0 (length items) c.in-Ok.made.items prepared (omega (arith, count, same)) (omega arith)
+    let same = c.as_slice.ensures.value in
+    let counted = c.as_slice-in-Ok.ensures.value in
+    let prepared : ArePrepared op_view suits base items 0 c.in-Ok.made.items = subst (λ xs. ArePrepared op_view suits base xs 0 c.in-Ok.made.items) same c.in-Ok.ensures.all.1 in
+    let slice : length c.as_slice.result.now ≡ length items = ap length same in
+    let count : length c.in-Ok.made.items ≡ length items = omega (arith, c.in-Ok.ensures.all.0, slice) in
+    record {
+      count = count;
+      made = prepared;
+      changed = c.count_all-counts.ensures.changed ∙ ap (λ xs. changed_to (plan_of op_view base xs) (length xs)) counted;
+      evaluated = c.count_all-counts.ensures.evaluated ∙ ap (λ xs. evaluated_to (plan_of op_view base xs) (length xs)) counted;
+      worked = c.count_all-counts.ensures.worked ∙ ap (λ xs. worked_to (plan_of op_view base xs) (length xs)) counted;
+      faultless = prepared_faultless op_view suits base items 0 (length items) c.in-Ok.made.items prepared (omega (arith, count)) (omega arith);
+      halted = tt;
+      tally = subst (λ (xs : List (Step Given)). (end : ℕ) × (end ≡ length xs) × RisesBy (62 * evaluated_to (plan_of op_view base xs) end) (1000 * worked_to (plan_of op_view base xs) end) (g.M.Tally.counts c.args.tally.now) (g.M.Tally.counts c.repair_all.new.tally))
+          same c.in-Ok.ensures.tally;
+    }
 
-pub returns-in-Ok-clause-tally : goal.returns-in-Ok-clause-tally
-returns-in-Ok-clause-tally g c =
-    subst (λ (xs : List (Step Given)). (end : ℕ) × (end ≡ length xs) × RisesBy (62 * evaluated_to (plan_of op_view c.args.base.now xs) end) (1000 * worked_to (plan_of op_view c.args.base.now xs) end) (g.M.Tally.counts c.args.tally.now) (g.M.Tally.counts c.repair_all.new.tally))
-    c.as_slice.ensures.value c.in-Ok.ensures.tally
-
-pub returns-in-Err-clause-halted : goal.returns-in-Err-clause-halted
-returns-in-Err-clause-halted g c =
-    let base = c.args.base.now in
-    let items = c.args.planned.now.steps.items in
-    let names = c.args.planned.now.names.keys in
-    let stop : IsStop (plan_of op_view base items) 0 (length items) c.in-Err.stop = subst (λ xs. IsStop (plan_of op_view base xs) 0 (length xs) c.in-Err.stop) c.as_slice.ensures.value c.in-Err.ensures.all in
-    told_is base.extent (plan_of op_view base items) names c.in-Err.stop c.told.result c.told.ensures (subst (λ n. IsStop (plan_of op_view base items) 0 n c.in-Err.stop) (sym c.requires.named) stop)
-
-pub returns-in-Err-clause-tally : goal.returns-in-Err-clause-tally
-returns-in-Err-clause-tally g c =
+pub returns-in-Err : goal.returns-in-Err
+returns-in-Err g c =
     let base = c.args.base.now in
     let items = c.args.planned.now.steps.items in
     let names = c.args.planned.now.names.keys in
     let plan = plan_of op_view base items in
-    let stop : IsStop plan 0 (length items) c.in-Err.stop = subst (λ xs. IsStop (plan_of op_view base xs) 0 (length xs) c.in-Err.stop) c.as_slice.ensures.value c.in-Err.ensures.all in
+    let same = c.as_slice.ensures.value in
+    let stop : IsStop plan 0 (length names) c.in-Err.stop = subst (λ n. IsStop plan 0 n c.in-Err.stop) (sym c.requires.named) (subst (λ xs. IsStop (plan_of op_view base xs) 0 (length xs) c.in-Err.stop) same c.in-Err.ensures.all) in
     let phase : (end : ℕ) × IsReachedAt plan items c.in-Err.stop end × RisesBy (62 * evaluated_to plan end) (1000 * worked_to plan end) (g.M.Tally.counts c.args.tally.now) (g.M.Tally.counts c.repair_all.new.tally) =
     subst (λ (xs : List (Step Given)). (end : ℕ) × IsReachedAt (plan_of op_view base xs) xs c.in-Err.stop end × RisesBy (62 * evaluated_to (plan_of op_view base xs) end) (1000 * worked_to (plan_of op_view base xs) end) (g.M.Tally.counts c.args.tally.now) (g.M.Tally.counts c.repair_all.new.tally))
-    c.as_slice.ensures.value c.in-Err.ensures.tally in
-    (phase.0, reached_by base.extent plan names items phase.0 c.in-Err.stop c.told.result c.told.ensures (subst (λ n. IsStop plan 0 n c.in-Err.stop) (sym c.requires.named) stop) phase.1, phase.2)
+    same c.in-Err.ensures.tally in
+    record {
+      count = tt;
+      made = tt;
+      changed = tt;
+      evaluated = tt;
+      worked = tt;
+      faultless = tt;
+      halted = told_is base.extent plan names c.in-Err.stop c.told.result c.told.ensures stop;
+      tally = (phase.0, reached_by base.extent plan names items phase.0 c.in-Err.stop c.told.result c.told.ensures stop phase.1, phase.2);
+    }

@@ -1,5 +1,6 @@
-use Rattle.kept_map.proofs.Lowered.{AreLoweredTo}
+use Rattle.kept_map.specs.Lowering.{IsLowered}
+use Rattle.kept_map.proofs.OneByOne.{AreChangedTo}
 use Rattle.kept_map.proofs.sources.lower_sources.Given as goal
 
 abbrev pub invariant-loop-at : goal.invariant-loop-at
-invariant-loop-at l = AreLoweredTo l.fn.place l.at l.fn.steps l.steps
+invariant-loop-at l = AreChangedTo (λ k. IsLowered l.fn.place) l.at l.fn.steps l.steps

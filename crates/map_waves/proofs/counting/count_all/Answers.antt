@@ -20,26 +20,19 @@ loop-one-init g c =
 pub with-counts-requires-clause-worked : goal.with-counts-requires-clause-worked
 with-counts-requires-clause-worked g c =
     let numbers = numbers_at g.K.Maker.means g.K.Maker.suits c.args.base.now c.args.steps.now c.args.prepared.now c.requires.prepared c.requires.all c.loop-one.one-index c.one-item.result (omega arith) c.one-item.is in
-    let little = numbers.little in
-    let so_far = c.loop-one.invariant.little_worked in
-    let few = c.requires.few in
-    let all = c.requires.all in
-    omega arith
+    omega (arith, numbers.little, c.loop-one.invariant.little_worked, c.requires.few, c.requires.all)
 
 pub loop-one-preserved : goal.loop-one-preserved
 loop-one-preserved g c =
     let plan = plan_of g.K.Maker.means c.args.base.now c.args.steps.now in
     let i = c.loop-one.one-index in
     let numbers = numbers_at g.K.Maker.means g.K.Maker.suits c.args.base.now c.args.steps.now c.args.prepared.now c.requires.prepared c.requires.all i c.one-item.result (omega arith) c.one-item.is in
-    let changed_next = total_next (λ i. length (change_at plan i).touched) i in
-    let evaluated_next = total_next (λ i. length (damage_at plan i)) i in
-    let worked_next = total_next (work_at plan) i in
     let in_all = c.loop-one.invariant in
     let with = c.with-counts.ensures in
     record {
-      changed = omega (arith, changed_next, numbers.changed, in_all.changed, with.changed);
-      evaluated = omega (arith, evaluated_next, numbers.evaluated, in_all.evaluated, with.evaluated);
-      worked = omega (arith, worked_next, numbers.worked, in_all.worked, with.worked);
+      changed = omega (arith, total_next (λ i. length (change_at plan i).touched) i, numbers.changed, in_all.changed, with.changed);
+      evaluated = omega (arith, total_next (λ i. length (damage_at plan i)) i, numbers.evaluated, in_all.evaluated, with.evaluated);
+      worked = omega (arith, total_next (work_at plan) i, numbers.worked, in_all.worked, with.worked);
       few_changed = omega (arith, in_all.few_changed, with.changed, with.few_changed);
       few_evaluated = omega (arith, in_all.few_evaluated, with.evaluated, with.few_evaluated);
       little_worked = omega (arith, in_all.little_worked, with.worked, numbers.little);

@@ -2,7 +2,7 @@ use Rattle.std.proofs.Common.{◌≡◌, Some, sym, ap, ◌∙◌}
 use Rattle.map_waves.specs.Keeping.{kept_now}
 use Rattle.map_waves.specs.Bases.{kept_by}
 use Rattle.map_waves.proofs.Making.{kept_layer}
-use Rattle.map_waves.proofs.Finishing.{repaired_written, made_left, made_new, made_narrowed, narrowed_rises}
+use Rattle.map_waves.proofs.Gathering.{repaired_written, made_left, made_new, made_narrowed, narrowed_rises}
 use Rattle.map_waves.proofs.finish.finish_step.Goals as goal
 
 pub returns-then-not-step-clause-made : goal.returns-then-not-step-clause-made

@@ -3,8 +3,7 @@ use Rattle.std.proofs.lemmas.Bool.{true≢false}
 use Rattle.std.proofs.lemmas.List.{length_push}
 use Rattle.std.specs.Vec.Iter.{into_iter_items}
 use Rattle.map_waves.proofs.Phasing.{each_pushed}
-use Rattle.map_waves.proofs.Looking.{left_first}
-use Rattle.map_waves.proofs.Rowing.{get_take}
+use Rattle.map_waves.proofs.Rowing.{left_first, get_take}
 use Rattle.map_waves.proofs.finish.take_pieces.Goals as goal
 
 pub unreachable-requires-in_default-one : goal.unreachable-requires-in_default-one

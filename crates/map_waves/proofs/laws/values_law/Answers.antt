@@ -1,4 +1,4 @@
-use Rattle.map_waves.proofs.Valued.{values_are, operands_are_values}
+use Rattle.map_waves.proofs.Righted.{values_are, operands_are_values}
 use Rattle.map_waves.proofs.laws.values_law.Goals as goal
 
 pub returns-clause-values : goal.returns-clause-values

@@ -2,7 +2,7 @@ use Rattle.std.proofs.Common.{◌≡◌, [], ◌∷◌, ◌++◌, length, drop, 
 use Rattle.std.proofs.lemmas.List.{length_push}
 use Rattle.std.specs.Vec.Iter.{into_iter_items}
 use Rattle.map_waves.proofs.Phasing.{each_pushed}
-use Rattle.map_waves.proofs.Looking.{left_first}
+use Rattle.map_waves.proofs.Rowing.{left_first}
 use Rattle.map_waves.proofs.parts.all_found.Goals as goal
 
 pub loop-place-preserved : goal.loop-place-preserved

@@ -7,7 +7,7 @@ use Rattle.map_waves.specs.Prepared.{ArePrepared}
 use Rattle.map_waves.specs.Phases.{AreFaultless, AreAlike, IsStop, IsPhase}
 use Rattle.map_waves.specs.declared.keeping.Made.{Made}
 use Rattle.map_waves.proofs.Phasing.{faultless_then, prepared_then, prepared_faultless, rises_phase}
-use Rattle.map_waves.proofs.Stopping.{reached}
+use Rattle.map_waves.proofs.Depths.{reached}
 use Rattle.map_waves.proofs.phases.repair_all.Goals as goal
 
 pub repair_phase-requires-clause-prepared : goal.repair_phase-requires-clause-prepared
@@ -88,6 +88,4 @@ repair_phase-requires-clause-alike g c ls lives =
     subst (λ rs. AreAlike c.args.steps.now (length rs) c.phase_end-end.result) (sym c.deref.ensures.value) (subst (λ n. AreAlike c.args.steps.now n c.phase_end-end.result) at c.phase_end-end.ensures.alike)
 
 pub returns-clause-tally : goal.returns-clause-tally
-returns-clause-tally g c =
-    let most = c.depths.invariant.most in
-    (length c.depths.prepared.items, omega arith, c.depths.invariant.tally)
+returns-clause-tally g c = (length c.depths.prepared.items, omega (arith, c.depths.invariant.most), c.depths.invariant.tally)

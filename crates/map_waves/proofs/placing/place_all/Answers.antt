@@ -26,8 +26,7 @@ taken-kept-requires g c =
     let there : slice_get c.args.steps.now k ≡ Some x = slice_get_read c.args.steps.now (length c.args.steps.now) k x refl c.loop-k-test.true c.index-steps-k.is in
     some_within (get_or c.args.steps.now k x).kept (length c.loop-k.slots) (λ i e.
     let low = c.requires.slots k i x there (ap (λ (y : Step _). y.kept) c.index-steps-k.is ∙ e) in
-    let same = c.loop-k.auto.slots in
-    omega (arith, low, same))
+    omega (arith, low, c.loop-k.auto.slots))
 
 pub place-now-requires : goal.place-now-requires
 place-now-requires g c =

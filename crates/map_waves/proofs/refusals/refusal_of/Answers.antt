@@ -1,6 +1,6 @@
 use Rattle.std.proofs.Common.{◌+◌, Some, Err, is_ok, take, sym, ap, subst, ◌∙◌}
 use Rattle.map_waves.specs.Refusals.{IsSoFar}
-use Rattle.map_waves.proofs.Looking.{so_far_ok, so_far_overflow}
+use Rattle.map_waves.proofs.Rowing.{so_far_ok, so_far_overflow}
 use Rattle.map_waves.proofs.refusals.refusal_of.Goals as goal
 
 pub loop-one-preserved-in_default : goal.loop-one-preserved-in_default

@@ -5,7 +5,7 @@ use Rattle.map_waves.specs.Plans.{operand_in, changes_to}
 use Rattle.map_waves.specs.Bases.{IsRef, plan_of}
 use Rattle.map_waves.specs.declared.plans.Ref.{Ref}
 use Rattle.map_waves.proofs.Running.{changes_at}
-use Rattle.map_waves.proofs.Operating.{quiet_step}
+use Rattle.map_waves.proofs.Making.{quiet_step}
 use Rattle.map_waves.proofs.skips.has_changed.Goals as goal
 
 pub returns-in-Statement : goal.returns-in-Statement

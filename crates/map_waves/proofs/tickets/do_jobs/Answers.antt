@@ -1,4 +1,4 @@
-use Rattle.map_waves.proofs.Ticketing.{rises_by}
+use Rattle.map_waves.proofs.Rowing.{rises_by}
 use Rattle.map_waves.proofs.tickets.do_jobs.Goals as goal
 
 pub returns-clause-tally : goal.returns-clause-tally

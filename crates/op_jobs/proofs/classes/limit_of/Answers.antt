@@ -1,4 +1,4 @@
-use Rattle.op_jobs.proofs.WholeOps.{limit_value}
+use Rattle.op_jobs.proofs.Repairing.{limit_value}
 use Rattle.op_jobs.proofs.classes.limit_of.Goals as goal
 
 pub returns : goal.returns

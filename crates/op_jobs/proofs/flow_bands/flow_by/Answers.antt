@@ -7,8 +7,7 @@ use Rattle.drainage_flow.specs.FlowBands.{all_flows, AreEven}
 use Rattle.drainage_flow.specs.Whole.{flow_cells}
 use Rattle.drainage_flow.specs.declared.flow_band.FlowBand.{FlowBand}
 use Rattle.drainage_flow.proofs.Seats.{counts_count}
-use Rattle.op_jobs.proofs.OneKind.{flows_kind}
-use Rattle.op_jobs.proofs.FlowBands.{bands_are}
+use Rattle.op_jobs.proofs.Bands.{flows_kind, flows_are}
 use Rattle.op_jobs.proofs.flow_bands.flow_by.Goals as goal
 use Rattle.op_jobs.proofs.flow_bands.flow_by.Goals.{After-pour}
 
@@ -17,7 +16,7 @@ all_of-requires c = λ k p e. flows_kind _ k _ _ _ p (c.requires.each k p e)
 
 pub pour-requires : goal.pour-requires
 pour-requires c = record {
-  bands = bands_are c.args.extent _ _ _ _ c.in_ok-bands.bands.items _ c.args.parts.items c.deref.ensures.value c.deref-2.ensures.value c.deref_mut.ensures.value c.requires.some c.in_ok-bands.ensures.count c.in_ok-bands.ensures.each c.requires.each;
+  bands = flows_are c.args.extent _ _ _ _ c.in_ok-bands.bands.items _ c.args.parts.items c.deref.ensures.value c.deref-2.ensures.value c.deref_mut.ensures.value c.requires.some c.in_ok-bands.ensures.count c.in_ok-bands.ensures.each c.requires.each;
 }
 
 -- the list has the bands that were poured

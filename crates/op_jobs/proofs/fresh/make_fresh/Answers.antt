@@ -1,24 +1,20 @@
-use Rattle.std.proofs.Common.{length, sym, ◌∙◌, subst}
-use Rattle.map_nums.specs.Grids.{Cells}
-use Rattle.op_jobs.specs.Grounds.{IsGround, IsGroundOf, IsGroundPart, IsLabels}
-use Rattle.op_jobs.specs.declared.ground.Ground.{Ground}
+use Rattle.std.proofs.Common.{◌∙◌, subst}
+use Rattle.op_jobs.specs.Grounds.{IsGround, IsGroundOf}
 use Rattle.op_jobs.proofs.LayerLists.{flow_listed, spread_listed, nearest_listed, labels_listed}
 use Rattle.op_jobs.proofs.Repairing.{flow_is, spread_is, nearest_is, region_is}
 use Rattle.op_jobs.proofs.fresh.make_fresh.Goals as goal
 
 pub spread_by-requires-clause-each : goal.spread_by-requires-clause-each
-spread_by-requires-clause-each c = λ k p e. subst (λ (q : Ground). IsGroundPart c.args.extent q (length c.args.parts.items) k p) c.in-Costs.is (c.requires.each k p e)
+spread_by-requires-clause-each c = rw (c.in-Costs.is) at c.requires.each
 
 pub nearest_by-requires-clause-each : goal.nearest_by-requires-clause-each
-nearest_by-requires-clause-each c = λ k p e. subst (λ (q : Ground). IsGroundPart c.args.extent q (length c.args.parts.items) k p) c.in-Nearest.is (c.requires.each k p e)
+nearest_by-requires-clause-each c = rw (c.in-Nearest.is) at c.requires.each
 
 pub flow_by-requires-clause-each : goal.flow_by-requires-clause-each
-flow_by-requires-clause-each c = λ k p e. subst (λ (q : Ground). IsGroundPart c.args.extent q (length c.args.parts.items) k p) c.in-Flow.is (c.requires.each k p e)
+flow_by-requires-clause-each c = rw (c.in-Flow.is) at c.requires.each
 
 pub labels_by-requires-clause-each : goal.labels_by-requires-clause-each
-labels_by-requires-clause-each c = λ k p e.
-    let here = subst (λ (q : Ground). IsGroundPart c.args.extent q (length c.args.parts.items) k p) c.in-Regions.is (c.requires.each k p e) in
-    subst (λ (cells : Cells). IsLabels c.args.extent cells (length c.args.parts.items) k p) (sym c.deref.ensures.value) here
+labels_by-requires-clause-each c = rw (c.deref.ensures.value) (rw (c.in-Regions.is) at c.requires.each)
 
 pub returns-in_ok-costs-in-Costs-clause-made : goal.returns-in_ok-costs-in-Costs-clause-made
 returns-in_ok-costs-in-Costs-clause-made c = λ op operands of ranges is.

@@ -1,6 +1,6 @@
 use Rattle.layer_tiles.specs.Operands.{cells_after}
 use Rattle.map_defs.specs.Operate.{operand}
-use Rattle.op_jobs.proofs.Directions.{direction_answer, operand_is}
+use Rattle.op_jobs.proofs.Ranging.{direction_answer, operand_is}
 use Rattle.op_jobs.proofs.kernels.tile_of_directions.Goals as goal
 
 pub returns-in-Ok-clause-answer : goal.returns-in-Ok-clause-answer

@@ -6,9 +6,8 @@ use Rattle.friction_spread.specs.Costs.{GroundState}
 use Rattle.friction_neighbor.specs.Bands.{IsNearestList}
 use Rattle.op_jobs.specs.Beside.{AreCosts}
 use Rattle.map_waves.specs.declared.keeping.Aside.TheVariants.{Layer}
-use Rattle.op_jobs.proofs.OneKind.{nearest_kind}
-use Rattle.op_jobs.proofs.SpreadBands.{ground_same, nearest_are}
-use Rattle.op_jobs.proofs.WholeSpread.{limit_fits}
+use Rattle.op_jobs.proofs.Bands.{ground_same, nearest_kind, nearest_are}
+use Rattle.op_jobs.proofs.WholeLayers.{limit_fits}
 use Rattle.op_jobs.proofs.nearest_bands.nearest_by.Goals as goal
 
 pub all_of-requires : goal.all_of-requires

@@ -1,4 +1,4 @@
-use Rattle.op_jobs.proofs.WholeOperands.{both_are}
+use Rattle.op_jobs.proofs.Repairing.{both_are}
 use Rattle.op_jobs.proofs.operands.both_of.Goals as goal
 
 pub returns : goal.returns

@@ -1,4 +1,4 @@
-use Rattle.op_jobs.proofs.WholeOperands.{only_is}
+use Rattle.op_jobs.proofs.Repairing.{only_is}
 use Rattle.op_jobs.proofs.operands.only_of.Goals as goal
 
 pub returns : goal.returns

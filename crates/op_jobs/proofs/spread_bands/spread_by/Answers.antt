@@ -1,9 +1,8 @@
 use Rattle.std.proofs.Common.{subst, IfOk}
 use Rattle.friction_spread.specs.Costs.{GroundState}
 use Rattle.friction_spread.specs.Lists.{IsCostList}
-use Rattle.op_jobs.proofs.OneKind.{costs_kind}
-use Rattle.op_jobs.proofs.SpreadBands.{ground_same, costs_are}
-use Rattle.op_jobs.proofs.WholeSpread.{limit_fits}
+use Rattle.op_jobs.proofs.Bands.{ground_same, costs_kind, costs_are}
+use Rattle.op_jobs.proofs.WholeLayers.{limit_fits}
 use Rattle.op_jobs.proofs.spread_bands.spread_by.Goals as goal
 
 pub all_of-requires : goal.all_of-requires

@@ -3,11 +3,8 @@ use Rattle.std.specs.Option.{option_copied}
 use Rattle.op_jobs.specs.Repairs.{IsRepairOf}
 use Rattle.op_jobs.specs.declared.own.Lone.{Lone}
 use Rattle.op_jobs.specs.declared.own.Repair.TheVariants.{Alone}
-use Rattle.op_jobs.proofs.Repairing.{flow_is, spread_is, region_is}
-use Rattle.op_jobs.proofs.WholeFlow.{flow_before}
-use Rattle.op_jobs.proofs.WholeOps.{right_to, answer_from, rises_from}
-use Rattle.op_jobs.proofs.WholeRegions.{regions_before}
-use Rattle.op_jobs.proofs.WholeSpread.{spread_before}
+use Rattle.op_jobs.proofs.Repairing.{flow_is, spread_is, region_is, right_to, answer_from, rises_from}
+use Rattle.op_jobs.proofs.WholeLayers.{flow_before, spread_before, regions_before}
 use Rattle.op_jobs.proofs.whole.repair_whole.Goals as goal
 
 pub repair_flow-requires-clause-before : goal.repair_flow-requires-clause-before

@@ -1,8 +1,7 @@
 use Rattle.std.specs.Option.{option_copied}
 use Rattle.std.proofs.lemmas.Result.{err_from_is_err_and}
 use Rattle.tile_work.specs.Working.{before_of}
-use Rattle.op_jobs.proofs.WholeDamage.{holds_changed}
-use Rattle.op_jobs.proofs.WholeFlow.{flow_made, flow_refused, flow_rises}
+use Rattle.op_jobs.proofs.WholeLayers.{flow_made, flow_refused, flow_rises}
 use Rattle.op_jobs.proofs.whole_flow.repair_flow.Goals as goal
 
 pub returns-in_err-repair-clause-answer : goal.returns-in_err-repair-clause-answer
@@ -12,10 +11,7 @@ returns-in_err-repair-clause-answer g c = λ t u.
 
 pub returns-in_err-repair-clause-tally : goal.returns-in_err-repair-clause-tally
 returns-in_err-repair-clause-tally g c = λ t u.
-    let su = c.args.surface.now in
-    let we = c.args.weights.now in
-    let h = c.extent-surface.ensures.size in
-    flow_rises su we t u h (before_of (option_copied c.args.old)) _ _ (c.flow_repair.ensures.tally t u (holds_changed su.size su h c.requires.surface) (holds_changed su.size we h c.requires.weights))
+    flow_rises c.args.surface.now c.args.weights.now t u c.extent-surface.ensures.size (before_of (option_copied c.args.old)) _ _ c.requires.surface c.requires.weights (c.flow_repair.ensures.tally t u)
 
 pub returns-clause-answer : goal.returns-clause-answer
 returns-clause-answer g c = λ t u.
@@ -23,7 +19,4 @@ returns-clause-answer g c = λ t u.
 
 pub returns-clause-tally : goal.returns-clause-tally
 returns-clause-tally g c = λ t u.
-    let su = c.args.surface.now in
-    let we = c.args.weights.now in
-    let h = c.extent-surface.ensures.size in
-    flow_rises su we t u h (before_of (option_copied c.args.old)) _ _ (c.flow_repair.ensures.tally t u (holds_changed su.size su h c.requires.surface) (holds_changed su.size we h c.requires.weights))
+    flow_rises c.args.surface.now c.args.weights.now t u c.extent-surface.ensures.size (before_of (option_copied c.args.old)) _ _ c.requires.surface c.requires.weights (c.flow_repair.ensures.tally t u)

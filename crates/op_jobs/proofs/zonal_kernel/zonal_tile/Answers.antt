@@ -1,4 +1,4 @@
-use Rattle.op_jobs.proofs.ZonalTold.{zonal_answer}
+use Rattle.op_jobs.proofs.ZonalBook.{zonal_answer}
 use Rattle.op_jobs.proofs.zonal_kernel.zonal_tile.Goals as goal
 
 pub returns-in-Ok-clause-answer : goal.returns-in-Ok-clause-answer

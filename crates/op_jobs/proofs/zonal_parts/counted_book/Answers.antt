@@ -1,7 +1,7 @@
 use Rattle.std.proofs.Common.{List, sym, subst}
 use Rattle.layer_tiles.specs.Tiles.{tiles_in}
 use Rattle.zonal_totals.specs.Ranges.{CountsState, AreRanges}
-use Rattle.op_jobs.proofs.OneKind.{counts_kind}
+use Rattle.op_jobs.proofs.Bands.{counts_kind}
 use Rattle.op_jobs.proofs.ZonalParts.{ranges_are}
 use Rattle.op_jobs.proofs.zonal_parts.counted_book.Goals as goal
 

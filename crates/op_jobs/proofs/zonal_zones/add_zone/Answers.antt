@@ -1,4 +1,4 @@
-use Rattle.std.proofs.Common.{◌<◌, ◌∙◌, None, refl, ap, subst, arith, length, ℤ, to_z, of_z}
+use Rattle.std.proofs.Common.{◌<◌, ◌∙◌, refl, ap, subst, arith, length, ℤ}
 use Rattle.std.proofs.lemmas.Int.{to_z-of_z}
 use Rattle.map_nums.specs.Widths.{value_width}
 use Rattle.map_nums.specs.Grids.{IsSize}
@@ -18,36 +18,32 @@ loop-tile-init c = record {
 
 pub add-requires : goal.add-requires
 add-requires c =
-    let s = c.args.book.now.size in
     let b = c.requires.counts in
-    let w = told_within s b.zones (to_z value_width (of_z value_width c.args.zone)) c.loop-tile.k c.in-Some.tile (subst IsSize (c.extent-extent.ensures.extent ∙ c.requires.set_size) c.tiles-tiles.ensures.size) (c.in-Some.ensures b.values b.zones b.is) in
+    let w = told_within (subst IsSize (c.extent-extent.ensures.extent ∙ c.requires.set_size) c.tiles-tiles.ensures.size) (c.in-Some.ensures b.values b.zones b.is) in
     omega (arith, w.0, ap tiles_in (c.loop-tile.invariant.size ∙ c.requires.set_size))
 
 pub overflow_add-k : goal.overflow_add-k
 overflow_add-k c =
-    let s = c.args.book.now.size in
     let b = c.requires.counts in
-    let w = told_within s b.zones (to_z value_width (of_z value_width c.args.zone)) c.loop-tile.k c.in-Some.tile (subst IsSize (c.extent-extent.ensures.extent ∙ c.requires.set_size) c.tiles-tiles.ensures.size) (c.in-Some.ensures b.values b.zones b.is) in
+    let w = told_within (subst IsSize (c.extent-extent.ensures.extent ∙ c.requires.set_size) c.tiles-tiles.ensures.size) (c.in-Some.ensures b.values b.zones b.is) in
     omega (arith, w.0, w.1, c.tiles-tiles.ensures.tiles, ap tiles_in (c.extent-extent.ensures.extent ∙ c.requires.set_size))
 
 pub loop-tile-preserved : goal.loop-tile-preserved
 loop-tile-preserved c =
-    let s = c.args.book.now.size in
     let inv = c.loop-tile.invariant in
     record {
       size = ap (λ (d : TileSetState). d.size) c.add.ensures ∙ inv.size;
       marks = λ values zones list is a.
           let i = c.in-Some.ensures values zones is in
           let m = inv.marks values zones list is a in
-          let w = told_within s zones (to_z value_width (of_z value_width c.args.zone)) c.loop-tile.k c.in-Some.tile (subst IsSize (c.extent-extent.ensures.extent ∙ c.requires.set_size) c.tiles-tiles.ensures.size) i in
+          let w = told_within (subst IsSize (c.extent-extent.ensures.extent ∙ c.requires.set_size) c.tiles-tiles.ensures.size) i in
           let within : c.in-Some.tile < length c.loop-tile.set.marks = omega (arith, w.0, m.count, c.extent-extent.ensures.set.count, ap tiles_in c.requires.set_size) in
-          first_more s zones (to_z value_width (of_z value_width c.args.zone)) list c.loop-tile.k c.in-Some.tile c.args.set.now.marks c.loop-tile.set.marks c.add.new.self.marks a i m within (ap (λ (d : TileSetState). d.marks) c.add.ensures);
+          first_more a i m within (ap (λ (d : TileSetState). d.marks) c.add.ensures);
     }
 
 pub returns-clause-marks : goal.returns-clause-marks
 returns-clause-marks c = λ values zones is.
-    let s = c.args.book.now.size in
     let i = c.in_default.ensures values zones is in
-    let a = tiles_told s zones (to_z value_width (of_z value_width c.args.zone)) c.loop-tile.k None i in
-    subst (λ (z : ℤ). AreMarked s (HasZone s zones z) c.args.set.now.marks c.loop-tile.set.marks) (to_z-of_z value_width c.args.zone c.ranges.zone)
-    (first_all s zones (to_z value_width (of_z value_width c.args.zone)) i.tiles c.loop-tile.k c.args.set.now.marks c.loop-tile.set.marks a i (c.loop-tile.invariant.marks values zones i.tiles is a))
+    let a = tiles_told i in
+    let s = c.args.book.now.size in
+    subst (λ (z : ℤ). AreMarked s (HasZone s zones z) c.args.set.now.marks c.loop-tile.set.marks) (to_z-of_z value_width c.args.zone c.ranges.zone) (first_all a i (c.loop-tile.invariant.marks values zones i.tiles is a))

@@ -2,7 +2,7 @@ use Rattle.std.proofs.Common.{◌≡◌, ◌∙◌, Some, ℤ, List, pos, get_or
 use Rattle.std.proofs.lemmas.Int.{to_z-of_z}
 use Rattle.std.proofs.lemmas.Option.{slice_get-get_or}
 use Rattle.map_nums.specs.Widths.{value_width}
-use Rattle.op_jobs.proofs.ZonalOthers.{others_more}
+use Rattle.op_jobs.proofs.ZonalMarks.{others_more}
 use Rattle.op_jobs.proofs.zonal_zones.add_zones.Goals as goal
 
 pub loop-zone-preserved : goal.loop-zone-preserved

@@ -1,5 +1,5 @@
 use Rattle.statement_parser.specs.Views.{line_view, manner_of}
-use Rattle.statement_parser.proofs.FormedLines.{formed_parsed, there_parsed}
+use Rattle.statement_parser.proofs.LineParts.{formed_parsed, there_parsed}
 use Rattle.statement_parser.proofs.LineOfLemmas.{parsed_read}
 use Rattle.statement_parser.proofs.line_text.parse_line.Goals as goal
 

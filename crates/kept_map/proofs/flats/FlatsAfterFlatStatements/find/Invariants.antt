@@ -1,5 +1,5 @@
 use Rattle.std.proofs.Common.{◌≡◌, None, length, take}
-use Rattle.kept_map.proofs.FlatLookups.{found_in}
+use Rattle.kept_map.proofs.EditedFlats.{found_in}
 use Rattle.kept_map.proofs.flats.FlatsAfterFlatStatements.find.Given as goal
 
 abbrev pub invariant-loop-other : goal.invariant-loop-other

@@ -1,4 +1,4 @@
-use Rattle.std.proofs.Common.{◌≡◌, ◌∙◌}
+use Rattle.std.proofs.Common.{◌∙◌}
 use Rattle.kept_map.proofs.maps.KeptMap.fill.Goals as goal
 
 pub returns : goal.returns

@@ -12,8 +12,8 @@ returns-in-Some-clause-tells c =
     let told = source_told m c.requires c.args.name.now c.in-Some.place c.index.result.now (sym c.get_index_of.ensures.index ∙ c.in-Some.is) there in
     (told.0, told.1)
 
-pub returns-in-Some-get_index_of-clause-tells : goal.returns-in-Some-get_index_of-clause-tells
-returns-in-Some-get_index_of-clause-tells c =
+pub returns-in-Some-get_index_of : goal.returns-in-Some-get_index_of
+returns-in-Some-get_index_of c =
     let m = c.args.self.now in
     let n = c.args.name.now in
     let place = c.in-Some-get_index_of.place in
@@ -21,18 +21,7 @@ returns-in-Some-get_index_of-clause-tells c =
     let absent : position (bytes_eq n) m.sources.names.keys ≡ None = sym c.get_index_of.ensures.index ∙ none_where c.get_index_of.result c.in_default.not-Some in
     let within : place < length m.kept.items = omega (arith, c.in-Some-get_index_of.ensures.within, c.requires.statements.count, c.requires.statements.planned_are.count) in
     let told = statement_told m c.requires n place own absent (sym c.get_index_of-2.ensures.index ∙ c.in-Some-get_index_of.is) (slice_get_read m.kept.items (length m.kept.items) place own refl within c.index-in-Some-get_index_of.ensures) in
-    (told.0, told.1)
-
-pub returns-in-Some-get_index_of-clause-size : goal.returns-in-Some-get_index_of-clause-size
-returns-in-Some-get_index_of-clause-size c =
-    let m = c.args.self.now in
-    let n = c.args.name.now in
-    let place = c.in-Some-get_index_of.place in
-    let own = c.index-in-Some-get_index_of.result.now in
-    let absent : position (bytes_eq n) m.sources.names.keys ≡ None = sym c.get_index_of.ensures.index ∙ none_where c.get_index_of.result c.in_default.not-Some in
-    let within : place < length m.kept.items = omega (arith, c.in-Some-get_index_of.ensures.within, c.requires.statements.count, c.requires.statements.planned_are.count) in
-    let told = statement_told m c.requires n place own absent (sym c.get_index_of-2.ensures.index ∙ c.in-Some-get_index_of.is) (slice_get_read m.kept.items (length m.kept.items) place own refl within c.index-in-Some-get_index_of.ensures) in
-    told.2
+    record { tells = (told.0, told.1); size = told.2 }
 
 pub returns-in-None-clause-tells : goal.returns-in-None-clause-tells
 returns-in-None-clause-tells c =

@@ -1,4 +1,4 @@
-use Rattle.kept_map.proofs.SameMaps.{kept_stays}
+use Rattle.kept_map.proofs.Copied.{kept_stays}
 use Rattle.kept_map.proofs.maps.KeptMap.reserve.Goals as goal
 
 pub returns-in_err-reserve-2-clause-kept : goal.returns-in_err-reserve-2-clause-kept

@@ -8,50 +8,20 @@ use Rattle.op_jobs.proofs.Once.{grounded_of}
 use Rattle.op_jobs.proofs.ZonalParts.{part_rises_by}
 use Rattle.op_jobs.proofs.statements.StatementsMaker.find_part.Goals as goal
 
-pub find_costs-requires-clause-cells : goal.find_costs-requires-clause-cells
-find_costs-requires-clause-cells g c =
-    let op = op_view c.args.op.now in
-    let q = grounded_of c.args.extent op c.args.operands.now c.args.count c.args.ground.now c.requires.ground in
-    (subst (IsGround c.args.extent c.args.operands.now) c.in-Costs.is q.is).fill
+pub find_costs-requires : goal.find_costs-requires
+find_costs-requires g c = let q = grounded_of _ _ _ _ _ c.requires.ground in record { cells = (subst (IsGround c.args.extent c.args.operands.now) c.in-Costs.is q.is).fill; few = q.few; below = c.requires.below }
 
-pub find_costs-requires-clause-few : goal.find_costs-requires-clause-few
-find_costs-requires-clause-few g c = (grounded_of c.args.extent (op_view c.args.op.now) c.args.operands.now c.args.count c.args.ground.now c.requires.ground).few
+pub find_nearest-requires : goal.find_nearest-requires
+find_nearest-requires g c = let q = grounded_of _ _ _ _ _ c.requires.ground in record { cells = (subst (IsGround c.args.extent c.args.operands.now) c.in-Nearest.is q.is).fill; few = q.few; below = c.requires.below }
 
-pub find_nearest-requires-clause-cells : goal.find_nearest-requires-clause-cells
-find_nearest-requires-clause-cells g c =
-    let op = op_view c.args.op.now in
-    let q = grounded_of c.args.extent op c.args.operands.now c.args.count c.args.ground.now c.requires.ground in
-    (subst (IsGround c.args.extent c.args.operands.now) c.in-Nearest.is q.is).fill
+pub find_flows-requires : goal.find_flows-requires
+find_flows-requires g c = let q = grounded_of _ _ _ _ _ c.requires.ground in record { cells = (subst (IsGround c.args.extent c.args.operands.now) c.in-Flow.is q.is).fill; few = q.few; below = c.requires.below }
 
-pub find_nearest-requires-clause-few : goal.find_nearest-requires-clause-few
-find_nearest-requires-clause-few g c = (grounded_of c.args.extent (op_view c.args.op.now) c.args.operands.now c.args.count c.args.ground.now c.requires.ground).few
+pub find_labels-requires : goal.find_labels-requires
+find_labels-requires g c = let q = grounded_of _ _ _ _ _ c.requires.ground in record { cells = ap length c.deref.ensures.value ∙ (subst (IsGround c.args.extent c.args.operands.now) c.in-Regions.is q.is).count; few = q.few; below = c.requires.below }
 
-pub find_flows-requires-clause-cells : goal.find_flows-requires-clause-cells
-find_flows-requires-clause-cells g c =
-    let op = op_view c.args.op.now in
-    let q = grounded_of c.args.extent op c.args.operands.now c.args.count c.args.ground.now c.requires.ground in
-    (subst (IsGround c.args.extent c.args.operands.now) c.in-Flow.is q.is).fill
-
-pub find_flows-requires-clause-few : goal.find_flows-requires-clause-few
-find_flows-requires-clause-few g c = (grounded_of c.args.extent (op_view c.args.op.now) c.args.operands.now c.args.count c.args.ground.now c.requires.ground).few
-
-pub find_labels-requires-clause-cells : goal.find_labels-requires-clause-cells
-find_labels-requires-clause-cells g c =
-    let op = op_view c.args.op.now in
-    let q = grounded_of c.args.extent op c.args.operands.now c.args.count c.args.ground.now c.requires.ground in
-    ap length c.deref.ensures.value ∙ (subst (IsGround c.args.extent c.args.operands.now) c.in-Regions.is q.is).count
-
-pub find_labels-requires-clause-few : goal.find_labels-requires-clause-few
-find_labels-requires-clause-few g c = (grounded_of c.args.extent (op_view c.args.op.now) c.args.operands.now c.args.count c.args.ground.now c.requires.ground).few
-
-pub count_part-requires-clause-both : goal.count_part-requires-clause-both
-count_part-requires-clause-both g c =
-    let op = op_view c.args.op.now in
-    let q = grounded_of c.args.extent op c.args.operands.now c.args.count c.args.ground.now c.requires.ground in
-    subst (IsGround c.args.extent c.args.operands.now) c.in-Zones.is q.is
-
-pub count_part-requires-clause-few : goal.count_part-requires-clause-few
-count_part-requires-clause-few g c = (grounded_of c.args.extent (op_view c.args.op.now) c.args.operands.now c.args.count c.args.ground.now c.requires.ground).few
+pub count_part-requires : goal.count_part-requires
+count_part-requires g c = let q = grounded_of _ _ _ _ _ c.requires.ground in record { both = subst (IsGround c.args.extent c.args.operands.now) c.in-Zones.is q.is; few = q.few; below = c.requires.below }
 
 pub returns-in_ok-find_costs-in-Costs-clause-part : goal.returns-in_ok-find_costs-in-Costs-clause-part
 returns-in_ok-find_costs-in-Costs-clause-part g c =
@@ -78,5 +48,5 @@ returns-in-Zones-clause-part g c =
 pub returns-in-Zones-clause-looks : goal.returns-in-Zones-clause-looks
 returns-in-Zones-clause-looks g c =
     let op = op_view c.args.op.now in
-    let q = grounded_of c.args.extent op c.args.operands.now c.args.count c.args.ground.now c.requires.ground in
-    part_rises_by c.args.extent op c.args.operands.now c.args.count c.args.k _ _ (subst (IsGroundOf op) c.in-Zones.is q.of) c.count_part.ensures.looks
+    let of = subst (IsGroundOf op) c.in-Zones.is (grounded_of _ _ _ _ _ c.requires.ground).of in
+    part_rises_by c.args.extent op c.args.operands.now c.args.count c.args.k _ _ of c.count_part.ensures.looks

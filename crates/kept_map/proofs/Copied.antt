@@ -1,0 +1,255 @@
+-- A copy of a map has its views: maps of the same views are seen alike, and one is kept where the other is.
+use Rattle.std.proofs.Common.{◌≡◌, ℕ, zero, suc, ◌+◌, false, cond, ◌||◌, List, [], ◌∷◌, ◌++◌, map, take, Option, Some, slice_get, bytes_eq, refl, sym, ap, ◌∙◌, length, None, option_map, subst, ◌≤◌, count_by, position, is_some, IsTrue, get_or}
+use Rattle.std.specs.List.{IsDistinct, list_any, All}
+use Rattle.std.specs.Map.{keys_of, lookup}
+use Rattle.std.proofs.lemmas.Bool.{true≢false}
+use Rattle.std.proofs.lemmas.List.{map-append, take-map, length-map}
+use Rattle.std.proofs.lemmas.Map.Keys.{IsDistinct-head, IsDistinct-tail}
+use Rattle.std.proofs.lemmas.Option.{none-some, same_Some, slice_get-map, slice_get-get_or}
+use Rattle.std.specs.Option.{option_or}
+use Rattle.std.proofs.lemmas.List.Elements.{All-from_recursion}
+use Rattle.std.proofs.lemmas.Map.Made.{is_some-lookup}
+use Rattle.indexmap.specs.IndexMap.{insert_entry}
+use Rattle.indexmap.specs.IndexSet.{insert_key}
+use Rattle.indexmap.proofs.MapLemmas.{absent_from_lookup, insert_entry-absent}
+use Rattle.map_nums.specs.Grids.{Size, IsSize}
+use Rattle.map_words.specs.Names.{is_plain}
+use Rattle.map_defs.specs.Ops.{Name}
+use Rattle.map_defs.specs.Nodes.{Node, find_node}
+use Rattle.map_defs.specs.Statements.{Flat as Meant}
+use Rattle.layer_tiles.specs.Layers.{LayerState, IsLayer}
+use Rattle.statement_parser.specs.Views.{op_view, written_view}
+use Rattle.statement_parser.specs.Formed.{IsWritten, IsProcedure}
+use Rattle.statement_parser.specs.declared.op.Op.{Op as Given}
+use Rattle.procedure_expand.specs.Flats.{flat_view, flats_view}
+use Rattle.procedure_expand.specs.declared.flat.Flat.{Flat}
+use Rattle.map_edits.specs.LayerDefs.{by_op, layers, find_making, nodes_of}
+use Rattle.map_edits.specs.LayerChanges.{operands_in}
+use Rattle.map_edits.specs.EngineStates.{EngineState}
+use Rattle.map_edits.specs.Entries.{Def, source, statement, Entry}
+use Rattle.map_edits.specs.Faults.{fault_of}
+use Rattle.map_edits.specs.Limits.{is_source, is_flat, most_sources, most_flats}
+use Rattle.map_edits.specs.GroupLaws.{IsLawful}
+use Rattle.map_edits.specs.WholeStates.{WholeState}
+use Rattle.map_edits.proofs.Among.{bytes_eq-turned}
+use Rattle.map_waves.specs.declared.keeping.Kept.{Kept}
+use Rattle.map_waves.specs.declared.plans.Step.{Step}
+use Rattle.map_waves.proofs.Making.{all_get}
+use Rattle.op_jobs.specs.Beside.{suits}
+use Rattle.op_jobs.specs.Ranges.{HasRanges}
+use Rattle.op_jobs.specs.declared.beside.Beside.{Beside}
+use Rattle.edit_plans.specs.PlansFor.{AreRefsFor}
+use Rattle.edit_plans.specs.Planned.{FlatDef, IsPlannedStep, is_source_node}
+use Rattle.edit_plans.specs.declared.planning.Planned.{Planned}
+use Rattle.edit_plans.proofs.Taken.{taken_to}
+use Rattle.edit_plans.proofs.There.{none_where}
+use Rattle.kept_map.specs.Copies.{StatementView, item_view, named_view, items_view, StepView, step_view, steps_view, MapView, map_view}
+use Rattle.kept_map.specs.declared.maps.Item.{Item}
+use Rattle.kept_map.specs.Flats.{flats_of_steps}
+use Rattle.kept_map.specs.Keeps.{IsKeptStep, AreKeptSteps, IsItem, IsNamed, IsKept}
+use Rattle.kept_map.specs.Groups.{groups_of}
+use Rattle.kept_map.specs.Maps.{at_place, source_grid, def_by, entries_by, entries_in, names_in, source_in, stamps_seen, seen}
+use Rattle.kept_map.specs.declared.maps.Item.TheVariants.{Source, Statement}
+use Rattle.kept_map.specs.declared.maps.KeptMap.{KeptMap}
+use Rattle.kept_map.proofs.EditedFlats.{flat_by, flat_is, flat_at}
+
+-- ---- names
+
+-- the name at a place is none of those before it
+none_before : (ks : List Name) → IsDistinct bytes_eq ks → (i : ℕ) (n : Name) → slice_get ks i ≡ Some n → list_any (bytes_eq n) (take i ks) ≡ false
+none_before [] apart i n at = absurd (none-some n at)
+none_before (k ∷ ks) apart zero n at = refl
+none_before (k ∷ ks) apart (suc i) n at =
+    let other = all_get (λ y. bytes_eq k y ≡ false) ks (All-from_recursion (λ y. bytes_eq k y ≡ false) ks (IsDistinct-head bytes_eq k ks apart)) i n at in
+    ap (λ b. b || list_any (bytes_eq n) (take i ks)) (bytes_eq-turned k n other)
+    ∙ none_before ks (IsDistinct-tail bytes_eq k ks apart) i n at
+
+pub name_next : (ks copies : List Name) (i : ℕ) (n : Name) → IsDistinct bytes_eq ks → copies ≡ take i ks → slice_get ks i ≡ Some n → insert_key bytes_eq copies n ≡ take (i + 1) ks
+name_next ks copies i n apart so_far at =
+    ap (λ xs. insert_key bytes_eq xs n) so_far
+    ∙ ap (λ b. cond b (take i ks) (take i ks ++ n ∷ [])) (none_before ks apart i n at)
+    ∙ sym (taken_to ks i n at)
+
+-- ---- names with what they stand for
+
+keys_seen : (es : List (List ℕ × Item)) → map (λ (v : List ℕ × Option StatementView). v.0) (items_view es) ≡ keys_of es
+keys_seen [] = refl
+keys_seen (e ∷ es) = ap (λ ks. e.0 ∷ ks) (keys_seen es)
+
+module _ (all : List (List ℕ × Item)) (apart : IsDistinct bytes_eq (keys_of all)) (es : List (List ℕ × Item)) (k : ℕ) (so_far : items_view es ≡ items_view (take k all)) where
+  same_keys : keys_of es ≡ take k (keys_of all)
+  same_keys = sym (keys_seen es) ∙ ap (map (λ (v : List ℕ × Option StatementView). v.0)) so_far ∙ keys_seen (take k all) ∙ sym (take-map (λ (e : List ℕ × Item). e.0) k all)
+
+  pub item_next : (n : Name) (item copy : Item) → slice_get all k ≡ Some (n, item) → item_view copy ≡ item_view item → items_view (insert_entry bytes_eq es n copy) ≡ items_view (take (k + 1) all)
+  item_next n item copy at same =
+      let none : is_some (lookup (bytes_eq n) es) ≡ false = is_some-lookup (bytes_eq n) es ∙ ap (list_any (bytes_eq n)) same_keys ∙ none_before (keys_of all) apart k n key_at in
+      let new : lookup (bytes_eq n) es ≡ None = none_where (lookup (bytes_eq n) es) (λ x is. true≢false (sym (ap is_some is) ∙ none)) in
+      ap items_view (insert_entry-absent bytes_eq n copy es (absent_from_lookup (bytes_eq n) es new))
+      ∙ map-append named_view es ((n, copy) ∷ [])
+      ∙ (λ j. so_far j ++ (n, same j) ∷ [])
+      ∙ sym (map-append named_view (take k all) ((n, item) ∷ []))
+      ∙ ap items_view (sym (taken_to all k (n, item) at))
+    where
+      key_at : slice_get (keys_of all) k ≡ Some n
+      key_at = slice_get-map (λ (e : List ℕ × Item). e.0) all k ∙ ap (option_map (λ (e : List ℕ × Item). e.0)) at
+
+-- ---- lists of the same views
+
+-- one of the same view stands at the place
+alike_at : {X V : Type 0} (view : X → V) (xs ys : List X) → map view ys ≡ map view xs → (k : ℕ) (y : X) → slice_get ys k ≡ Some y → (x : X) × (slice_get xs k ≡ Some x) × (view x ≡ view y)
+alike_at {X} {V} view xs ys same k y at = go (slice_get xs k) refl (sym (slice_get-map view xs k) ∙ ap (λ vs. slice_get vs k) (sym same) ∙ slice_get-map view ys k ∙ ap (option_map view) at)
+  where
+    go : (o : Option X) → slice_get xs k ≡ o → option_map view o ≡ Some (view y) → (x : X) × (slice_get xs k ≡ Some x) × (view x ≡ view y)
+    go None here is = absurd (none-some (view y) is)
+    go (Some x) here is = (x, here, same_Some (view x) (view y) is)
+
+all_alike : {X V : Type 0} (P : X → Type 0) (view : X → V) → ((x y : X) → view y ≡ view x → P x → P y) → (xs ys : List X) → map view ys ≡ map view xs → All P xs → All P ys
+all_alike P view alike xs ys same all k d below =
+    let x = alike_at view xs ys same k (get_or ys k d) (slice_get-get_or ys k d below) in
+    alike x.0 (get_or ys k d) (sym x.2) (all_get P xs all k x.0 x.1)
+
+same_length : (old new : List (Step Given)) → steps_view new ≡ steps_view old → length new ≡ length old
+same_length old new same = sym (length-map new step_view) ∙ ap length same ∙ length-map old step_view
+
+-- ---- steps
+
+planned_alike : (nodes : List Node) (sources names : List Name) (old new : List (Step Given)) → length old ≡ length names → steps_view new ≡ steps_view old → (k : ℕ) (n : Name) (x y : Step Given) → step_view x ≡ step_view y
+    → IsPlannedStep nodes sources (flats_of_steps names old) names names k n x → IsPlannedStep nodes sources (flats_of_steps names new) names names k n y
+planned_alike nodes sources names old new count same k n x y view is =
+    let f = flat_at names old count n is.flat is.from in
+    let g = alike_at step_view new old (sym same) f.0 f.1 f.3 in
+    let count_new : length new ≡ length names = same_length old new same ∙ count in
+    record {
+      flat = flat_by g.0;
+      from = flat_is names new count_new n ∙ ap (λ o. option_map flat_by (at_place new o)) f.2 ∙ ap (option_map flat_by) g.1;
+      op = ap (λ (v : StepView). v.op) (sym view) ∙ is.op ∙ ap (λ (q : FlatDef). op_view q.op) (sym f.4) ∙ ap (λ (v : StepView). v.op) (sym g.2);
+      written = ap (λ (v : StepView). v.written) (sym view) ∙ is.written ∙ ap (λ (q : FlatDef). q.written) (sym f.4) ∙ ap (λ (v : StepView). v.written) (sym g.2);
+      refs = subst (λ (v : StepView). AreRefsFor sources names k v.op.terms v.refs) view is.refs;
+      depth = ap (λ (v : StepView). v.depth) (sym view) ∙ is.depth;
+      kept = ap (λ (v : StepView). v.kept) (sym view) ∙ is.kept;
+    }
+
+kept_step_alike : (s : EngineState) (n : Name) (x y : Step Given) (own : Kept Beside) → step_view x ≡ step_view y → IsKeptStep s n x own → IsKeptStep s n y own
+kept_step_alike s n x y own view is = record {
+  making = subst (λ (v : StepView). find_making (layers s.entries) n ≡ Some (by_op v.op)) view is.making;
+  ranges = subst (λ (v : StepView). HasRanges v.op) view is.ranges;
+  written = ap (λ (v : StepView). v.written) (sym view) ∙ is.written;
+  value = is.value;
+  size = is.size;
+  whole = is.whole;
+  beside = subst (λ (v : StepView). suits s.size v.op (operands_in s v.op) own.beside) view is.beside;
+}
+
+-- ---- the plan
+
+module _ (s : EngineState) (sources : List Name) (old new : Planned) (names : new.names.keys ≡ old.names.keys) (same : steps_view new.steps.items ≡ steps_view old.steps.items) (kept : List (Kept Beside)) (are : AreKeptSteps s sources old kept) where
+  count : length new.steps.items ≡ length old.steps.items
+  count = same_length old.steps.items new.steps.items same
+
+  named_at : (k : ℕ) (n : Name) → slice_get new.names.keys k ≡ Some n → slice_get old.names.keys k ≡ Some n
+  named_at k n at = ap (λ ks. slice_get ks k) (sym names) ∙ at
+
+  step_planned : (k : ℕ) (n : Name) (y : Step Given) → slice_get new.names.keys k ≡ Some n → slice_get new.steps.items k ≡ Some y → IsPlannedStep (nodes_of s.entries) sources (flats_of_steps new.names.keys new.steps.items) new.names.keys new.names.keys k n y
+  step_planned k n y at here =
+      let x = alike_at step_view old.steps.items new.steps.items same k y here in
+      subst (λ ks. IsPlannedStep (nodes_of s.entries) sources (flats_of_steps ks new.steps.items) ks ks k n y) (sym names)
+      (planned_alike (nodes_of s.entries) sources old.names.keys old.steps.items new.steps.items are.planned_are.count same k n x.0 y x.2 (are.planned_are.each k n x.0 (named_at k n at) x.1))
+
+  copied_steps : AreKeptSteps s sources new kept
+  copied_steps = record {
+    planned_are = record { names_are = names ∙ are.planned_are.names_are; count = count ∙ are.planned_are.count ∙ ap length (sym names); each = step_planned };
+    count = are.count ∙ sym count;
+    each = λ k n y own at here kept_at.
+        let x = alike_at step_view old.steps.items new.steps.items same k y here in
+        kept_step_alike s n x.0 y own x.2 (are.each k n x.0 own (named_at k n at) x.1 kept_at);
+  }
+
+-- ---- the state
+
+abbrev def_of : Size → Option LayerState → Option StatementView → Def
+def_of size l None = source (source_grid size l)
+def_of size l (Some s) = statement s.written s.flats
+
+abbrev entry_of : Size → (Name → Option LayerState) → List ℕ × Option StatementView → Entry
+entry_of size ls v = record { name = v.0; def = def_of size (ls v.0) v.1 }
+
+def_view : (size : Size) (l : Option LayerState) (item : Item) → def_by size l item ≡ def_of size l (item_view item)
+def_view size l Source = refl
+def_view size l (Statement written flats) = refl
+
+entries_view : (size : Size) (ls : Name → Option LayerState) (es : List (List ℕ × Item)) → entries_by size ls es ≡ map (entry_of size ls) (items_view es)
+entries_view size ls [] = refl
+entries_view size ls (e ∷ es) = λ j. record { name = e.0; def = def_view size (ls e.0) e.1 j } ∷ entries_view size ls es j
+
+abbrev source_by : MapView → Name → Option LayerState
+source_by v n = at_place v.layers (position (bytes_eq n) v.sources)
+
+abbrev layer_by : MapView → Name → Option LayerState
+layer_by v n = option_or (source_by v n) (option_map (λ (k : Kept Beside). k.layer) (at_place v.kept (position (bytes_eq n) v.planned)))
+
+abbrev names_by : MapView → List Entry → EngineState
+names_by v entries = record { size = v.size; entries = entries; number = v.number }
+
+abbrev seen_with : MapView → List Entry → WholeState
+seen_with v entries = record { names = names_by v entries; procedures = v.procedures; labels = v.labels; symbols = v.symbols; stamps = stamps_seen (layer_by v) (names_by v entries) }
+
+abbrev seen_by : MapView → WholeState
+seen_by v = seen_with v (map (entry_of v.size (source_by v)) v.items)
+
+seen_view : (m : KeptMap) → seen m ≡ seen_by (map_view m)
+seen_view m = ap (seen_with (map_view m)) (entries_view m.extent (source_in m.sources) m.names.entries)
+
+-- ---- items
+
+ranged_alike : (f g : Flat) → flat_view g ≡ flat_view f → HasRanges (op_view f.op) → HasRanges (op_view g.op)
+ranged_alike f g same ranges = subst (λ (v : Meant). HasRanges v.op) (sym same) ranges
+
+item_alike : (i j : Item) → item_view j ≡ item_view i → IsItem i → IsItem j
+item_alike i Source same is = tt
+item_alike Source (Statement written flats) same is = absurd (cc)
+item_alike (Statement written flats) (Statement w fs) same is =
+    let own : StatementView = record { written = written_view w; flats = flats_view fs.items } in
+    let other : StatementView = record { written = written_view written; flats = flats_view flats.items } in
+    let views = same_Some own other same in
+    (subst (λ (v : StatementView). IsWritten v.written) (sym views) is.0, all_alike (λ (f : Flat). HasRanges (op_view f.op)) flat_view ranged_alike flats.items fs.items (ap (λ (v : StatementView). v.flats) views) is.1)
+
+named_one : (e f : List ℕ × Item) → named_view f ≡ named_view e → IsNamed e → IsNamed f
+named_one e f same is = (subst (λ (v : List ℕ × Option StatementView). IsTrue (is_plain v.0)) (sym same) is.0, item_alike e.1 f.1 (ap (λ (v : List ℕ × Option StatementView). v.1) same) is.1)
+
+-- ---- all of it
+
+module _ (m b : KeptMap) (same : map_view b ≡ map_view m) where
+  pub seen_alike : seen b ≡ seen m
+  seen_alike = seen_view b ∙ ap seen_by same ∙ sym (seen_view m)
+
+  same_names : names_in b ≡ names_in m
+  same_names = ap (λ (s : WholeState). s.names) seen_alike
+
+  same_entries : entries_in b ≡ entries_in m
+  same_entries = ap (λ (s : EngineState). s.entries) same_names
+
+  pub kept_alike : IsKept m → IsKept b
+  kept_alike kept = record {
+    size = subst (λ (v : MapView). IsSize v.size) (sym same) kept.size;
+    named = all_alike IsNamed named_view named_one m.names.entries b.names.entries (ap (λ (v : MapView). v.items) same) kept.named;
+    formed = subst (λ (v : MapView). All IsProcedure v.procedures) (sym same) kept.formed;
+    lawful = subst IsLawful (sym seen_alike) kept.lawful;
+    sources_few = subst (λ es. count_by is_source es ≤ most_sources) (sym same_entries) kept.sources_few;
+    flats_few = subst (λ es. count_by is_flat (layers es) ≤ most_flats) (sym same_entries) kept.flats_few;
+    graph_is = ap (λ (v : MapView). v.graph) same ∙ kept.graph_is ∙ ap groups_of (sym same_entries);
+    faultless = ap fault_of same_names ∙ kept.faultless;
+    sources = record {
+      stand = λ n. ap (λ (v : MapView). is_some (position (bytes_eq n) v.sources)) same ∙ kept.sources.stand n ∙ ap (λ (es : List Entry). is_source_node (find_node (nodes_of es) n)) (sym same_entries);
+      apart = subst (λ (v : MapView). IsDistinct bytes_eq v.sources) (sym same) kept.sources.apart;
+      count = ap (λ (v : MapView). length v.layers) same ∙ kept.sources.count ∙ ap (λ (v : MapView). length v.sources) (sym same);
+      whole = subst (λ (v : MapView). All (λ (l : LayerState). (l.size ≡ v.size) × IsLayer l) v.layers) (sym same) kept.sources.whole;
+    };
+    statements =
+        let over : AreKeptSteps (names_in m) m.sources.names.keys b.planned m.kept.items = copied_steps (names_in m) m.sources.names.keys m.planned b.planned (ap (λ (v : MapView). v.planned) same) (ap (λ (v : MapView). v.steps) same) m.kept.items kept.statements in
+        let named : AreKeptSteps (names_in b) m.sources.names.keys b.planned m.kept.items = subst (λ s. AreKeptSteps s m.sources.names.keys b.planned m.kept.items) (sym same_names) over in
+        subst (λ (v : MapView). AreKeptSteps (names_in b) v.sources b.planned v.kept) (sym same) named;
+  }
+
+-- a map that has other room keeps what it keeps
+pub kept_stays : (m b : KeptMap) → b.names.entries ≡ m.names.entries → b.sources.names.keys ≡ m.sources.names.keys → b.sources.layers.items ≡ m.sources.layers.items → IsKept m → IsKept (record m { names = b.names; sources = b.sources })
+kept_stays m b names keys layers = kept_alike m (record m { names = b.names; sources = b.sources }) (λ j. record (map_view m) { items = items_view (names j); sources = keys j; layers = layers j })
