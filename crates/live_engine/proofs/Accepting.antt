@@ -1,5 +1,5 @@
--- What is answered of an edit whose statements are prepared, and what it reads.
-use Rattle.std.proofs.Common.{◌≡◌, ℕ, ◌+◌, ◌-◌, ◌*◌, ◌≤◌, List, length, Ok, sym, ap, ◌∙◌, arith}
+-- An edit whose statements are prepared: what is answered of it, what it reads and counts, and that it can be put in place.
+use Rattle.std.proofs.Common.{◌≡◌, ℕ, ◌+◌, ◌-◌, ◌*◌, ◌≤◌, List, length, Ok, sym, ap, ◌∙◌, arith, zero, suc, ◌<◌, ◌^◌, count_by, Option, Some, None, [], map, get_or, slice_get, refl, subst}
 use Rattle.map_defs.specs.Ops.{Name}
 use Rattle.layer_tiles.specs.Tallies.{TallyState, RisesBy}
 use Rattle.layer_tiles.proofs.Rising.{rises_none, rises_then, rises_within}
@@ -29,6 +29,26 @@ use Rattle.kept_map.specs.declared.maps.KeptMap.{KeptMap}
 use Rattle.kept_map.specs.declared.repairing.Prepared.{Prepared}
 use Rattle.kept_map.proofs.Allowed.{sources_allowed}
 use Rattle.live_engine.specs.Accepts.{ReadsWithin}
+use Rattle.std.proofs.lemmas.List.Sums.{length-filter, count_by-le-length}
+use Rattle.std.proofs.lemmas.List.FromFn.{length-range_with_len}
+use Rattle.map_nums.specs.Grids.{Size, Cells}
+use Rattle.map_nums.specs.Tiles.{tiles}
+use Rattle.map_defs.specs.Differences.{differs, tile_has, changed_tiles}
+use Rattle.layer_tiles.specs.Tiles.{tiles_in}
+use Rattle.map_edits.specs.LayerDefs.{layers, nodes_of}
+use Rattle.map_edits.specs.Limits.{is_source, is_flat, most_sources, most_flats}
+use Rattle.map_waves.specs.Plans.{Plan, change_at, damage_at, reckoned, operands_at}
+use Rattle.map_waves.specs.Answers.{total_of}
+use Rattle.map_waves.proofs.Totals.{total_suc, total_start}
+use Rattle.op_jobs.proofs.Hits.{tiles_few, damage_most}
+use Rattle.kept_map.proofs.Few.{few_nodes, few_whole}
+use Rattle.std.proofs.lemmas.Option.{slice_get_within, slice_get-get_or}
+use Rattle.map_waves.specs.Prepared.{IsReady}
+use Rattle.map_waves.proofs.Rowing.{some_at}
+use Rattle.map_waves.specs.Placing.{slot_of}
+use Rattle.kept_map.specs.Commits.{IsAtRest}
+use Rattle.kept_map.proofs.Ready.{slot_kept, one_place, are_ready}
+use Rattle.live_engine.specs.Settles.{CanSettle}
 
 -- no more than for the tiles of the edit's own source
 pub reads_tried : (s t : WholeState) (e : WholeEdit) → IsLawful s → IsSaid s e → attempted s e ≡ Ok t → (a : ℕ) (x y : TallyState) → a ≤ 64 * (counts_of_touched (touch_of e) s.names t.names).evaluated → RisesBy a 0 x y → ReadsWithin s e x y
@@ -52,10 +72,6 @@ reads_more m e t a x y z few first then =
 pub reads_by_rest : (m : KeptMap) (e : WholeEdit) (t : WholeState) (x y : TallyState) → RisesByRest m e t x y → ReadsWithin (seen m) e x y
 reads_by_rest m e t x y rest = reads_more m e t 0 x x y (omega arith) (rises_none x) rest
 
--- an edit that reads nothing
-pub reads_nothing : (s : WholeState) (e : WholeEdit) (x : TallyState) → ReadsWithin s e x x
-reads_nothing s e x = rises_within 0 0 (edit_reads s e).looks (edit_reads s e).picks x x (omega arith) (omega arith) (rises_none x)
-
 module _ (m : KeptMap) (e : WholeEdit) (t : WholeState) (shift : Shift) (sources : List Name) (kept : IsKept m) (set_up : IsSetUp m e t shift sources) where
   changes : ChangesOnly (touch_of e) (names_in m) t.names
   changes = others_are_kept (seen m) t e kept.lawful set_up.said set_up.attempt
@@ -77,3 +93,84 @@ module _ (m : KeptMap) (e : WholeEdit) (t : WholeState) (shift : Shift) (sources
     pub accepted_is : accept_counted (seen m) e ≡ Ok (record { state = stamped (seen m) t; counts = joined own_counts (counts_view prepared.counts) })
     unfolding accept_counted
     accepted_is = ap (of_attempt (seen m) e) set_up.attempt ∙ ap (unless_fault (touch_of e) (seen m) t) is.faultless ∙ ap (λ c. Ok (record { state = stamped (seen m) t; counts = c })) counted
+
+-- ---- counts that are few enough for their sum with those of the edit's own source
+
+pub tiles_long : (s : Size) → length (tiles s) ≡ tiles_in s
+tiles_long s = length-range_with_len 0 (tiles_in s)
+
+changed_most : (s : Size) (was : Option Cells) (now : Cells) → length (changed_tiles s was now) ≤ tiles_in s
+unfolding changed_tiles
+changed_most s None now = let all = tiles_long s in omega (arith, all)
+changed_most s (Some was) now =
+    let kept = length-filter (tile_has s (differs was now)) (tiles s) in let most = count_by-le-length (tile_has s (differs was now)) (tiles s) in let all = tiles_long s in
+    omega (arith, kept, most, all)
+
+total_most : (f : ℕ → ℕ) (b k : ℕ) → ((i : ℕ) → f i ≤ b) → total_of f k ≤ k * b
+total_most f b zero each = let start = total_start f in omega (arith, start)
+total_most f b (suc k) each = let next = total_suc f k in let rest = total_most f b k each in let one = each k in omega (arith, next, rest, one)
+
+module _ (m : KeptMap) (keeps : IsKept m) (e : WholeEdit) (t : WholeState) (shift : Shift) (sources names : List Name) (steps : List (Step Given)) (prepared : Prepared) (ready : IsPreparedFor m e t shift sources names steps prepared)
+    (sources_few : count_by is_source t.names.entries ≤ most_sources) (flats_few : count_by is_flat (layers t.names.entries) ≤ most_flats) where
+  abbrev plan : Plan
+  plan = plan_in m shift steps
+
+  few_steps : length steps ≤ 96
+  few_steps =
+      let count = ready.under.count in
+      let whole = ap length ready.under.whole in
+      let listed = few_whole (nodes_of t.names.entries) in
+      let nodes = few_nodes t.names.entries in
+      omega (arith, count, whole, listed, nodes)
+
+  few_in_all : (f : ℕ → ℕ) → ((i : ℕ) → f i ≤ tiles_in m.extent) → total_of f (length steps) < 2 ^ 63
+  few_in_all f each =
+      let small = tiles_few m.extent keeps.size in
+      let most = total_most f 16384 (length steps) (λ i. let one = each i in omega (arith, one, small)) in
+      let steps_few = few_steps in
+      omega (arith, most, steps_few)
+
+  pub few_changed : prepared.counts.changed < 2 ^ 63
+  few_changed =
+      let is = ap (λ (c : Counts). c.changed) ready.counts in
+      let few = few_in_all (λ i. length (change_at plan i).touched) (λ i. changed_most m.extent (plan.step i).was (change_at plan i).cells) in
+      omega (arith, is, few)
+
+  pub few_evaluated : prepared.counts.evaluated < 2 ^ 63
+  few_evaluated =
+      let is = ap (λ (c : Counts). c.evaluated) ready.counts in
+      let few = few_in_all (λ i. length (damage_at plan i)) (λ i. damage_most m.extent (plan.step i).op (reckoned (plan.step i)) (operands_at plan i)) in
+      omega (arith, is, few)
+
+-- ---- put in place
+
+module _ (m : KeptMap) (e : WholeEdit) (t : WholeState) (shift : Shift) (prepared : Prepared) (kept : IsKept m) (set_up : IsSetUp m e t shift m.sources.names.keys)
+    (is : IsPreparedFor m e t shift m.sources.names.keys m.planned.names.keys m.planned.steps.items prepared) where
+  -- the step of what is kept at a place, its name and that it rests there
+  rested : (k : ℕ) (x : Step Given) → slice_get m.planned.steps.items k ≡ Some x → IsAtRest k x x
+  rested k x here =
+      let within = slice_get_within m.planned.steps.items k x here in
+      let steps_count = kept.statements.planned_are.count in
+      let kept_count = kept.statements.count in
+      let n = get_or m.planned.names.keys k [] in
+      let named : slice_get m.planned.names.keys k ≡ Some n = slice_get-get_or m.planned.names.keys k [] (omega (arith, within, steps_count)) in
+      let own = some_at m.kept.items k (omega (arith, within, kept_count)) in
+      record {
+        op = refl;
+        depth = refl;
+        kept = is.under.kept k n x named here ∙ one_place m e t shift m.sources.names.keys m.planned.names.keys m.planned.steps.items kept is.under set_up k n named;
+        written = (kept.statements.each k n x own.0 named here own.1).written;
+      }
+
+  pub can_settle : CanSettle m prepared
+  can_settle = record {
+    rest = rested;
+    kept = kept.statements.count;
+    all = is.count ∙ sym kept.statements.count;
+    ready = λ k own r at made.
+        let within = slice_get_within m.kept.items k own at in
+        let kept_count = kept.statements.count in
+        let x = some_at m.planned.steps.items k (omega (arith, within, kept_count)) in
+        let ready = are_ready m e t shift m.sources.names.keys m.planned.names.keys m.planned.steps.items kept is.under prepared.made.items is.made k x.0 r x.1 made in
+        subst (λ o. IsReady m.extent o r) (ap (slot_of (map (λ l. Some l) m.kept.items)) (rested k x.0 x.1).kept ∙ slot_kept m.kept.items (Some k) ∙ at) ready;
+  }

@@ -1,47 +1,101 @@
--- What stood for a name takes the edit of the name back.
-use Rattle.std.proofs.Common.{◌≡◌, ◌<◌, ◌≤◌, ◌⊎◌, inl, inr, ℕ, List, ◌∷◌, ◌++◌, take, drop, length, position, Option, Some, None, option_map, unwrap_or, slice_get, bytes_eq, IsTrue, Vec, refl, sym, ap, subst, ◌∙◌, arith}
+-- What takes the edit of a name back: a draft of the edit that puts the earlier parts back, with what stood for the name.
+use Rattle.std.proofs.Common.{◌≡◌, ℕ, false, List, Option, Some, None, bytes_eq, IsTrue, refl, sym, ap, ◌∙◌, ◌<◌, ◌≤◌, ◌⊎◌, inl, inr, ◌∷◌, ◌++◌, take, drop, length, position, option_map, unwrap_or, slice_get, Vec, subst, arith}
+use Rattle.map_nums.specs.Grids.{Size, Grid}
+use Rattle.map_words.specs.Names.{is_plain}
+use Rattle.map_defs.specs.Ops.{Name}
+use Rattle.map_defs.specs.MadeProcedures.{IsUndotted}
+use Rattle.statement_parser.specs.Views.{written_view}
+use Rattle.procedure_expand.specs.Flats.{flats_view}
+use Rattle.procedure_expand.proofs.Plain.{plain_undotted}
+use Rattle.map_edits.specs.Entries.{Def, source, statement, Entry, put_entry, find_def, drop_entry}
+use Rattle.map_edits.specs.EntriesAt.{entry_at}
+use Rattle.map_edits.specs.LayerDefs.{layers, find_making}
+use Rattle.map_edits.specs.Edits.{with_entries}
+use Rattle.map_edits.specs.Laws.{IsApart}
+use Rattle.map_edits.specs.GroupLaws.{AreGroups}
+use Rattle.map_edits.specs.Pasts.{Past, parts_of, Parts}
+use Rattle.map_edits.specs.Touches.{whole, touch_of}
+use Rattle.map_edits.specs.Touching.{ChangesOnly}
+use Rattle.map_edits.specs.WholeEdits.{put_back, WholeEdit}
+use Rattle.map_edits.proofs.Heads.{head_of}
+use Rattle.map_edits.proofs.Puts.{find_put, find_drop}
+use Rattle.map_edits.proofs.PutBack.{drop_at, drop_none, drop_put, put_put, put_same, at_dropped}
+use Rattle.map_edits.proofs.GroupsKept.{making_stays, put_makings}
+use Rattle.map_edits.proofs.LawfulEdits.{AreGood, IsGoodChange}
+use Rattle.edit_plans.proofs.TouchedAlone.{all_touched}
+use Rattle.kept_map.specs.Maps.{grid_of, entries_in, names_in, seen, source_in, source_grid, def_by, entry_by}
+use Rattle.kept_map.specs.Keeps.{IsKept, IsNamed}
+use Rattle.kept_map.specs.declared.maps.KeptMap.{KeptMap}
+use Rattle.kept_map.proofs.EditedPlans.{group_at, item_named}
+use Rattle.live_engine.specs.Drafts.{seated, entries_after, IsSeat, IsFit, IsDraft, state_after, IsNextStatement, IsDraftOf}
+use Rattle.live_engine.specs.Inverses.{Fits, past_of, back, AreReached, TakesBack}
+use Rattle.live_engine.specs.declared.drafts.Change.{Change}
+use Rattle.live_engine.specs.declared.drafts.Change.TheVariants.{Source, Statement, Out}
+use Rattle.live_engine.specs.declared.drafts.Draft.{Draft}
+use Rattle.live_engine.specs.declared.inverses.Inverse.TheVariants as inverses
+use Rattle.live_engine.proofs.Reached.{reached_lawful, reached_said, kept_reached}
 use Rattle.std.specs.Map.{lookup}
 use Rattle.std.specs.declared.alloc.Global.{Global}
 use Rattle.std.proofs.lemmas.List.{length-append, take-append-drop}
 use Rattle.std.proofs.lemmas.List.Elements.{recursion_from_All}
 use Rattle.std.proofs.lemmas.Option.{none-some, slice_get-map, slice_get_within}
-use Rattle.map_nums.specs.Grids.{Grid}
-use Rattle.map_words.specs.Names.{is_plain}
-use Rattle.map_defs.specs.Ops.{Name}
 use Rattle.map_defs.specs.Statements as meant
-use Rattle.layer_tiles.specs.Layers.{LayerState}
-use Rattle.statement_parser.specs.Views.{written_view}
 use Rattle.statement_parser.specs.declared.line.Written.{Written}
 use Rattle.procedure_expand.specs.declared.flat.Flat.{Flat}
-use Rattle.procedure_expand.specs.Flats.{flats_view}
 use Rattle.statement_graph.specs.Groups.{Group}
-use Rattle.map_edits.specs.Entries.{Def, source, statement, Entry, find_def, put_entry, drop_entry}
-use Rattle.map_edits.specs.EntriesAt.{entry_at}
 use Rattle.map_edits.specs.Marks.{Mark}
-use Rattle.map_edits.specs.Pasts.{Parts, parts_of}
-use Rattle.map_edits.specs.Touches.{whole, touch_of}
-use Rattle.map_edits.specs.WholeEdits.{WholeEdit}
 use Rattle.map_edits.specs.WholeStates.{WholeState}
-use Rattle.map_edits.proofs.Puts.{find_put, find_drop}
-use Rattle.map_edits.proofs.PutBack.{drop_none, drop_put, put_put, put_same, drop_at, at_dropped}
 use Rattle.map_waves.proofs.Making.{all_get}
 use Rattle.kept_map.specs.Groups.{groups_of}
-use Rattle.kept_map.specs.Maps.{grid_of, source_in, source_grid, def_by, entry_by, entries_in, names_in, seen}
-use Rattle.kept_map.specs.Keeps.{IsNamed, IsKept}
 use Rattle.kept_map.specs.declared.maps.Item.{Item}
 use Rattle.kept_map.specs.declared.maps.Item.TheVariants as items
-use Rattle.kept_map.specs.declared.maps.KeptMap.{KeptMap}
 use Rattle.kept_map.proofs.SourceLayers.{source_whole}
 use Rattle.kept_map.proofs.Naming.{item_def, item_source}
-use Rattle.kept_map.proofs.EditedPlans.{item_named}
-use Rattle.live_engine.specs.Drafts.{seated, entries_after, state_after, IsNextStatement, IsFit, IsDraftOf}
-use Rattle.live_engine.specs.Inverses.{back, AreReached, Fits, TakesBack}
 use Rattle.live_engine.specs.Puts.{StoodFor, replaced_by, IsStandBefore}
-use Rattle.live_engine.specs.declared.drafts.Change.{Change}
-use Rattle.live_engine.specs.declared.drafts.Change.TheVariants.{Source, Statement, Out}
 use Rattle.live_engine.specs.declared.inverses.Inverse.{Inverse}
-use Rattle.live_engine.specs.declared.inverses.Inverse.TheVariants as inverses
-use Rattle.live_engine.proofs.Reached.{kept_reached}
+
+-- ---- layers of other names
+
+module _ (es : List Entry) (n : Name) (groups : AreGroups es) (apart : IsApart es) (plain : IsUndotted n) where
+  abbrev MakesOthers : List Entry → Type 0
+  MakesOthers new = (q : Name) → bytes_eq n (head_of q) ≡ false → find_making (layers new) q ≡ find_making (layers es) q
+
+  -- a name that is put in its place, or at one
+  seated_makings : (place : Option ℕ) (d : Def) → IsSeat es n place → AreGood (seated es place n d) → MakesOthers (seated es place n d)
+  seated_makings None d seat good = put_makings es n d groups apart plain (group_at (put_entry es n d) n d good.groups (find_put es n d))
+  seated_makings (Some k) d seat good = λ q differs. sym (making_stays (entry_at es k n d) n good.groups good.apart q differs) ∙ ap (λ xs. find_making (layers xs) q) (drop_at es k n d seat.0)
+
+  change_makings : (size : Size) (change : Change) → IsFit size es n change → AreGood (entries_after es n change) → MakesOthers (entries_after es n change)
+  change_makings size (Source key layer place) fits good = seated_makings place (source (grid_of layer)) fits.seat good
+  change_makings size (Statement written flats place) fits good = seated_makings place (statement (written_view written) (flats_view flats.items)) fits.seat good
+  change_makings size Out fits good = making_stays es n groups apart
+
+pub good_change : (m : KeptMap) (keeps : IsKept m) (n : Name) (change : Change) → IsTrue (is_plain n) → IsFit m.extent (entries_in m) n change → AreGood (entries_after (entries_in m) n change) → IsGoodChange (entries_in m) n (entries_after (entries_in m) n change)
+good_change m keeps n change plain fits good = record { good = good; makings = change_makings (entries_in m) n keeps.lawful.groups keeps.lawful.apart (plain_undotted n plain) m.extent change fits good }
+
+-- ---- the draft
+
+module _ (m : KeptMap) (keeps : IsKept m) (d : Draft) (fits : Fits m.extent (parts_of (seen m)) (inverses.Name d)) where
+  abbrev past : Past
+  past = past_of (inverses.Name d) (parts_of (seen m))
+
+  touches : ChangesOnly (whole d.name) (names_in m) (with_entries (names_in m) past.parts.entries)
+  touches =
+      let good : AreGood past.parts.entries = record { groups = fits.reached.groups; apart = fits.reached.apart; none_looped = fits.reached.none_looped } in
+      all_touched (names_in m) (with_entries (names_in m) past.parts.entries) d.name refl (good_change m keeps d.name d.change fits.suits.plain fits.suits.fits good)
+
+  pub back_draft : IsDraft m (put_back (past_of (inverses.Name d) (parts_of (seen m)))) d
+  back_draft = record {
+    plain = fits.suits.plain;
+    said = reached_said (seen m) past fits.reached touches;
+    touch = refl;
+    attempt = refl;
+    lawful = reached_lawful (seen m) past.parts fits.reached;
+    fits = fits.suits.fits;
+    graph_is = fits.suits.graph_is;
+    sources_few = fits.reached.sources_few;
+    flats_few = fits.reached.flats_few;
+  }
 
 -- ---- lists
 
@@ -146,47 +200,43 @@ module _ (m : KeptMap) (keeps : IsKept m) (n : Name) where
   stood_back (Statement written flats place) before fits is = replaced_back place written flats (lookup (bytes_eq n) m.names.entries) before fits refl is
   stood_back Out before fits stood = dropped_back before stood
 
-  module _ (change before : Change) (labels symbols : Option (List Mark)) (plain : IsTrue (is_plain n)) (is : IsNameBack m n (entries_after (entries_in m) n change) before) where
-    abbrev inverse : Inverse
-    inverse = inverses.Name (record {
-      name = n;
-      change = before;
-      graph = m.graph;
-      labels = option_map (λ (x : List Mark). m.labels) labels;
-      symbols = option_map (λ (x : List Mark). m.symbols) symbols;
-    })
-
-    abbrev after : Parts
-    after = parts_of (state_after (seen m) n change labels symbols)
-
-    abbrev parts_by : List Entry → List Mark → List Mark → Parts
-    parts_by entries labels symbols = record { entries = entries; procedures = m.procedures; labels = labels; symbols = symbols }
-
-    parts_back : back inverse after ≡ parts_of (seen m)
-    parts_back =
-        ap (λ es. parts_by es (unwrap_or (option_map (λ (x : List Mark). m.labels) labels) (unwrap_or labels m.labels)) (unwrap_or (option_map (λ (x : List Mark). m.symbols) symbols) (unwrap_or symbols m.symbols))) is.entries
-        ∙ ap (λ ls. parts_by (entries_in m) ls (unwrap_or (option_map (λ (x : List Mark). m.symbols) symbols) (unwrap_or symbols m.symbols))) (marks_back labels m.labels)
-        ∙ ap (parts_by (entries_in m) m.labels) (marks_back symbols m.symbols)
-
-    after_fits : Fits m.extent after inverse
-    after_fits = record {
-      suits = record { plain = plain; fits = is.fits; graph_is = keeps.graph_is ∙ ap groups_of (sym is.entries) };
-      reached = subst (AreReached m.extent) (sym parts_back) (kept_reached m keeps);
-    }
-
-    taken_back : (t : WholeState) → t.names.size ≡ m.extent → parts_of t ≡ after → TakesBack (seen m) t (whole n) inverse
-    taken_back t size parts = record {
-      size = size;
-      fits = subst (λ z. Fits z (parts_of t) inverse) (sym size) (subst (λ p. Fits m.extent p inverse) (sym parts) after_fits);
-      parts = ap (back inverse) parts ∙ parts_back;
-      touch_is = refl;
-    }
-
 -- the state after the edit is told by its parts
-pub name_back : (m : KeptMap) (keeps : IsKept m) (e : WholeEdit) (n : Name) (change : Change) (graph : List Group) (labels symbols : Option (List Mark)) → IsDraftOf m e n change graph labels symbols
-    → (t : WholeState) (before : Change) → t.names.size ≡ m.extent → parts_of t ≡ parts_of (state_after (seen m) n change labels symbols) → IsStandBefore m n change before
-    → TakesBack (seen m) t (touch_of e) (inverses.Name (record { name = n; change = before; graph = m.graph; labels = option_map (λ (x : List Mark). m.labels) labels; symbols = option_map (λ (x : List Mark). m.symbols) symbols }))
-name_back m keeps e n change graph labels symbols draft t before size parts stood =
-    let is = stood_back m keeps n change before draft.fits stood in
-    let i = inverse m keeps n change before labels symbols draft.plain is in
-    subst (λ touch. TakesBack (seen m) t touch i) (sym draft.touch) (taken_back m keeps n change before labels symbols draft.plain is t size parts)
+module _ (m : KeptMap) (keeps : IsKept m) (e : WholeEdit) (n : Name) (change : Change) (graph : List Group) (labels symbols : Option (List Mark)) (draft : IsDraftOf m e n change graph labels symbols)
+    (t : WholeState) (before : Change) (size : t.names.size ≡ m.extent) (parts : parts_of t ≡ parts_of (state_after (seen m) n change labels symbols)) (stood : IsStandBefore m n change before) where
+  abbrev inverse : Inverse
+  inverse = inverses.Name (record {
+    name = n;
+    change = before;
+    graph = m.graph;
+    labels = option_map (λ (x : List Mark). m.labels) labels;
+    symbols = option_map (λ (x : List Mark). m.symbols) symbols;
+  })
+
+  abbrev after : Parts
+  after = parts_of (state_after (seen m) n change labels symbols)
+
+  abbrev parts_by : List Entry → List Mark → List Mark → Parts
+  parts_by entries labels symbols = record { entries = entries; procedures = m.procedures; labels = labels; symbols = symbols }
+
+  is : IsNameBack m n (entries_after (entries_in m) n change) before
+  is = stood_back m keeps n change before draft.fits stood
+
+  parts_back : back inverse after ≡ parts_of (seen m)
+  parts_back =
+      ap (λ es. parts_by es (unwrap_or (option_map (λ (x : List Mark). m.labels) labels) (unwrap_or labels m.labels)) (unwrap_or (option_map (λ (x : List Mark). m.symbols) symbols) (unwrap_or symbols m.symbols))) is.entries
+      ∙ ap (λ ls. parts_by (entries_in m) ls (unwrap_or (option_map (λ (x : List Mark). m.symbols) symbols) (unwrap_or symbols m.symbols))) (marks_back labels m.labels)
+      ∙ ap (parts_by (entries_in m) m.labels) (marks_back symbols m.symbols)
+
+  after_fits : Fits m.extent after inverse
+  after_fits = record {
+    suits = record { plain = draft.plain; fits = is.fits; graph_is = keeps.graph_is ∙ ap groups_of (sym is.entries) };
+    reached = subst (AreReached m.extent) (sym parts_back) (kept_reached m keeps);
+  }
+
+  pub name_back : TakesBack (seen m) t (touch_of e) inverse
+  name_back = record {
+    size = size;
+    fits = subst (λ z. Fits z (parts_of t) inverse) (sym size) (subst (λ p. Fits m.extent p inverse) (sym parts) after_fits);
+    parts = ap (back inverse) parts ∙ parts_back;
+    touch_is = sym draft.touch;
+  }

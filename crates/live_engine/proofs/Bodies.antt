@@ -1,19 +1,33 @@
--- The body of a formed procedure has names without dots, all different, and result comes last.
-use Rattle.std.proofs.Common.{◌≡◌, inl, inr, Bool, true, false, ◌||◌, List, [], ◌∷◌, ◌++◌, codes, bytes_eq, IsTrue, refl, sym, ap, subst, ◌∙◌, arith}
+-- A formed statement names no name with a dot; the body of a formed procedure has names without dots, all different, and result comes last.
+use Rattle.std.proofs.Common.{List, [], ◌∷◌, flat_map, ◌≡◌, inl, inr, Bool, true, false, ◌||◌, ◌++◌, codes, bytes_eq, IsTrue, refl, sym, ap, subst, ◌∙◌, arith}
 use Rattle.std.proofs.lemmas.Bool.{true≢false, or_left, or_right, false_from_ne_true}
 use Rattle.map_words.specs.Bytes.{Text}
 use Rattle.map_words.specs.Names.{is_plain}
-use Rattle.map_defs.specs.Ops.{Name}
+use Rattle.map_defs.specs.Ops.{Term, layer_term, number_term, term_names, Name}
 use Rattle.map_defs.specs.Statements.{Written, Inner, Procedure}
+use Rattle.map_defs.specs.Statements as statements
+use Rattle.map_defs.specs.FlatNames as names
+use Rattle.map_defs.specs.MadeProcedures.{IsUndotted, written_names, is_result, inner_names}
+use Rattle.map_defs.proofs.FlatNames.{each_join}
 use Rattle.map_defs.specs.FlatNames.{IsIn}
-use Rattle.map_defs.specs.MadeProcedures.{is_result, inner_names}
 use Rattle.map_defs.specs.MadeProcedures as made
-use Rattle.map_edits.proofs.Among.{same_name, bytes_eq-self}
+use Rattle.statement_parser.specs.Formed.{Each, IsTerm, IsWritten, AreInner, IsProcedure}
 use Rattle.statement_parser.specs.Scopes.{has_name}
-use Rattle.statement_parser.specs.Formed.{IsWritten, AreInner, IsProcedure}
-use Rattle.procedure_expand.specs.CalledProcedures.{AreShort}
 use Rattle.procedure_expand.proofs.Plain.{plain_undotted, plain_short, plain_named}
-use Rattle.live_engine.proofs.Undotted.{written_undotted}
+use Rattle.procedure_expand.specs.CalledProcedures.{AreShort}
+use Rattle.map_edits.proofs.Among.{same_name, bytes_eq-self}
+
+term_undotted : (t : Term) → IsTerm t → names.Each IsUndotted (term_names t)
+term_undotted (layer_term n) h = (plain_undotted n h, tt)
+term_undotted (number_term z) h = tt
+
+terms_undotted : (ts : List Term) → Each IsTerm ts → names.Each IsUndotted (flat_map term_names ts)
+terms_undotted [] h = tt
+terms_undotted (t ∷ ts) h = each_join IsUndotted (term_names t) (flat_map term_names ts) (term_undotted t h.0) (terms_undotted ts h.1)
+
+pub written_undotted : (w : Written) → IsWritten w → names.Each IsUndotted (written_names w)
+written_undotted (statements.plain op) h = terms_undotted op.terms h.2
+written_undotted (statements.call p ts) h = terms_undotted ts h.3
 
 abbrev last_of : Written → Inner
 last_of w = record { name = codes "result"; written = w }

@@ -1,30 +1,77 @@
--- How many flat statements of a kind there are after a statement is put.
-use Rattle.std.proofs.Common.{◌≡◌, ℕ, ◌+◌, ◌-◌, ◌≤◌, Bool, true, false, cond, List, [], ◌∷◌, ◌++◌, map, find, length, count_by, sum_by, Option, Some, None, option_map, bytes_eq, refl, sym, ap, ◌∙◌, arith}
+-- What a name stands for, and how many sources and flat statements of a kind there are, before and after one is put.
+use Rattle.std.proofs.Common.{◌≡◌, ℕ, ◌+◌, ◌-◌, ◌≤◌, Bool, true, false, cond, List, [], ◌∷◌, ◌++◌, map, find, length, count_by, sum_by, Option, Some, None, option_map, bytes_eq, refl, sym, ap, ◌∙◌, arith, is_some}
 use Rattle.std.specs.Map.{lookup, values_of}
-use Rattle.std.proofs.lemmas.List.{length-map}
-use Rattle.std.proofs.lemmas.List.Sums.{sum_by-cons, sum_by-append}
-use Rattle.map_nums.specs.Grids.{Size}
+use Rattle.std.proofs.lemmas.List.Sums.{sum_by-cons, sum_by-append, sum_by-le-sum_by}
+use Rattle.map_nums.specs.Grids.{Size, Grid}
 use Rattle.map_defs.specs.Ops.{Name}
 use Rattle.map_defs.specs.Statements as meant
-use Rattle.map_defs.specs.Statements.{Written}
+use Rattle.map_defs.specs.Statements.{Written, call}
 use Rattle.layer_tiles.specs.Layers.{LayerState}
 use Rattle.procedure_expand.specs.declared.flat.Flat.{Flat}
 use Rattle.procedure_expand.specs.Flats.{flat_view, flats_view}
-use Rattle.map_edits.specs.Entries.{Def, statement, Entry, find_def, put_entry}
+use Rattle.map_edits.specs.Entries.{Def, source, statement, Entry, find_def, put_entry}
 use Rattle.map_edits.specs.LayerDefs.{Making, given_grid, by_op, LayerDef, flat_layer, layers}
 use Rattle.map_edits.specs.Limits as limits
 use Rattle.map_edits.specs.Limits.{is_source, is_flat}
 use Rattle.map_edits.proofs.Among.{same_name}
 use Rattle.map_edits.proofs.Groups.{def_layers}
-use Rattle.kept_map.specs.Maps.{def_by, entries_by}
+use Rattle.kept_map.specs.Maps.{def_by, entries_by, entry_by}
 use Rattle.kept_map.specs.declared.maps.Item.{Item}
 use Rattle.kept_map.specs.declared.maps.Item.TheVariants.{Source, Statement}
 use Rattle.live_engine.specs.Counting.{kind_of, is_of, item_count, count_there}
 use Rattle.live_engine.specs.declared.statement_limits.Kind.{Kind}
 use Rattle.kept_map.proofs.SourceLayers.{find_item}
+use Rattle.edit_plans.proofs.There.{some_map}
+use Rattle.live_engine.specs.Standing.{standing_of, is_source_item}
 
 pub count_first : {X : Type 0} (p : X → Bool) (x : X) (xs : List X) → count_by p (x ∷ xs) ≡ cond (p x) 1 0 + count_by p xs
 count_first p x xs = sum_by-cons (λ y. cond (p y) 1 0) x xs
+
+-- ---- a number of each entry, summed
+
+module _ (f : Name → Def → ℕ) where
+  abbrev pub of_entry : Entry → ℕ
+  of_entry e = f e.name e.def
+
+  abbrev pub entries_sum : List Entry → ℕ
+  entries_sum es = sum_by of_entry es
+
+  -- that of what is found for a name
+  abbrev pub sum_there : Name → Option Def → ℕ
+  sum_there n None = 0
+  sum_there n (Some d) = f n d
+
+  pub sum_put : (es : List Entry) (n : Name) (d : Def) → entries_sum (put_entry es n d) + sum_there n (find_def es n) ≡ entries_sum es + f n d
+  sum_put [] n d = let e = sum_by-cons of_entry (record { name = n; def = d }) [] in omega (arith, e)
+  sum_put (e ∷ es) n d = go (bytes_eq e.name n) refl (sum_put es n d)
+    where
+      go : (b : Bool) → bytes_eq e.name n ≡ b → entries_sum (put_entry es n d) + sum_there n (find_def es n) ≡ entries_sum es + f n d
+          → entries_sum (cond b (record e { def = d } ∷ es) (e ∷ put_entry es n d)) + sum_there n (option_map (λ (x : Entry). x.def) (cond b (Some e) (find (λ (x : Entry). bytes_eq x.name n) es))) ≡ entries_sum (e ∷ es) + f n d
+      go true same rest =
+          let a = sum_by-cons of_entry (record e { def = d }) es in
+          let b = sum_by-cons of_entry e es in
+          let new : f e.name d ≡ f n d = ap (λ m. f m d) (same_name e.name n same) in
+          let old : f e.name e.def ≡ f n e.def = ap (λ m. f m e.def) (same_name e.name n same) in
+          omega (arith, a, b, new, old)
+      go false other rest = let a = sum_by-cons of_entry e (put_entry es n d) in let b = sum_by-cons of_entry e es in omega (arith, a, b, rest)
+
+-- ---- sources
+
+abbrev source_one : Name → Def → ℕ
+source_one n d = cond (is_source (record { name = n; def = d })) 1 0
+
+-- no source more by a statement
+pub sources_put : (es : List Entry) (n : Name) (w : Written) (fs : List meant.Flat) → count_by is_source (put_entry es n (statement w fs)) ≤ count_by is_source es
+sources_put es n w fs =
+    let put : count_by is_source (put_entry es n (statement w fs)) + sum_there source_one n (find_def es n) ≡ count_by is_source es + 0 = sum_put source_one es n (statement w fs) in
+    omega (arith, put)
+
+-- as many with another grid for a source
+pub sources_stay : (es : List Entry) (n : Name) (old new : Grid) → find_def es n ≡ Some (source old) → count_by is_source (put_entry es n (source new)) ≡ count_by is_source es
+sources_stay es n old new is =
+    let put : count_by is_source (put_entry es n (source new)) + sum_there source_one n (find_def es n) ≡ count_by is_source es + 1 = sum_put source_one es n (source new) in
+    let was : sum_there source_one n (find_def es n) ≡ 1 = ap (sum_there source_one n) is in
+    omega (arith, put, was)
 
 -- ---- layers that pass a test
 
@@ -35,35 +82,25 @@ module _ (p : LayerDef → Bool) where
   count_cons : (n : Name) (d : Def) (es : List Entry) → count_by p (layers (record { name = n; def = d } ∷ es)) ≡ count_by p (def_layers n d) + count_by p (layers es)
   count_cons n d es = count_join (def_layers n d) (layers es)
 
+  abbrev own_layers : Name → Def → ℕ
+  own_layers n d = count_by p (def_layers n d)
+
+  layers_summed : (es : List Entry) → count_by p (layers es) ≡ entries_sum own_layers es
+  layers_summed [] = refl
+  layers_summed (e ∷ es) = count_cons e.name e.def es ∙ ap (λ k. own_layers e.name e.def + k) (layers_summed es) ∙ sym (sum_by-cons (of_entry own_layers) e es)
+
   -- those of what is found for a name
   abbrev pub layers_there : Name → Option Def → ℕ
-  layers_there n None = 0
-  layers_there n (Some d) = count_by p (def_layers n d)
+  layers_there n o = sum_there own_layers n o
 
   pub count_put : (es : List Entry) (n : Name) (d : Def) → count_by p (layers (put_entry es n d)) + layers_there n (find_def es n) ≡ count_by p (layers es) + count_by p (def_layers n d)
-  count_put [] n d = let e = count_cons n d [] in omega (arith, e)
-  count_put (e ∷ es) n d = go (bytes_eq e.name n) refl (count_put es n d)
-    where
-      go : (b : Bool) → bytes_eq e.name n ≡ b → count_by p (layers (put_entry es n d)) + layers_there n (find_def es n) ≡ count_by p (layers es) + count_by p (def_layers n d)
-          → count_by p (layers (cond b (record e { def = d } ∷ es) (e ∷ put_entry es n d))) + layers_there n (option_map (λ (x : Entry). x.def) (cond b (Some e) (find (λ (x : Entry). bytes_eq x.name n) es))) ≡ count_by p (layers (e ∷ es)) + count_by p (def_layers n d)
-      go true same rest =
-          let a = count_cons e.name d es in
-          let b = count_cons e.name e.def es in
-          let new : count_by p (def_layers e.name d) ≡ count_by p (def_layers n d) = ap (λ m. count_by p (def_layers m d)) (same_name e.name n same) in
-          let old : count_by p (def_layers e.name e.def) ≡ count_by p (def_layers n e.def) = ap (λ m. count_by p (def_layers m e.def)) (same_name e.name n same) in
-          omega (arith, a, b, new, old)
-      go false other rest = let a = count_cons e.name e.def (put_entry es n d) in let b = count_cons e.name e.def es in omega (arith, a, b, rest)
+  count_put es n d = let new = layers_summed (put_entry es n d) in let old = layers_summed es in let put = sum_put own_layers es n d in omega (arith, new, old, put)
 
+  -- what is found is counted among all, as a statement without flat ones in its place shows
   pub there_least : (es : List Entry) (n : Name) → layers_there n (find_def es n) ≤ count_by p (layers es)
-  there_least [] n = omega arith
-  there_least (e ∷ es) n = go (bytes_eq e.name n) refl (there_least es n)
-    where
-      go : (b : Bool) → bytes_eq e.name n ≡ b → layers_there n (find_def es n) ≤ count_by p (layers es) → layers_there n (option_map (λ (x : Entry). x.def) (cond b (Some e) (find (λ (x : Entry). bytes_eq x.name n) es))) ≤ count_by p (layers (e ∷ es))
-      go true same rest =
-          let a = count_cons e.name e.def es in
-          let old : count_by p (def_layers e.name e.def) ≡ count_by p (def_layers n e.def) = ap (λ m. count_by p (def_layers m e.def)) (same_name e.name n same) in
-          omega (arith, a, old)
-      go false other rest = let a = count_cons e.name e.def es in omega (arith, a, rest)
+  there_least es n =
+      let put : count_by p (layers (put_entry es n (statement (call [] []) []))) + layers_there n (find_def es n) ≡ count_by p (layers es) + 0 = count_put es n (statement (call [] []) []) in
+      omega (arith, put)
 
 -- ---- items
 
@@ -122,37 +159,46 @@ one_kind kind n (given_grid grid) = omega arith
 one_kind kind n (by_op op) = at_most_one (limits.is_of kind (record { name = n; making = by_op op }))
 
 kind_flat : (kind : limits.Kind) (ls : List LayerDef) → count_by (limits.is_of kind) ls ≤ count_by is_flat ls
-kind_flat kind [] = omega arith
-kind_flat kind (l ∷ ls) =
-    let a = count_first (limits.is_of kind) l ls in
-    let b = count_first is_flat l ls in
-    let one = one_kind kind l.name l.making in
-    let rest = kind_flat kind ls in
-    omega (arith, a, b, one, rest)
+kind_flat kind ls = sum_by-le-sum_by (λ l. cond (limits.is_of kind l) 1 0) (λ l. cond (is_flat l) 1 0) ls (λ l. one_kind kind l.name l.making)
 
 pub few_of : (kind : Kind) (size : Size) (grids : Name → Option LayerState) (items : List (List ℕ × Item)) → sum_by (item_count kind) (values_of items) ≤ count_by is_flat (layers (entries_by size grids items))
 few_of kind size grids items = let e = items_count kind size grids items in let less = kind_flat (kind_of kind) (layers (entries_by size grids items)) in omega (arith, e, less)
 
--- ---- all flat statements, and sources
-
-layers_flat : (fs : List meant.Flat) → count_by is_flat (map flat_layer fs) ≡ length (map flat_layer fs)
-layers_flat [] = refl
-layers_flat (f ∷ fs) =
-    let one : count_by is_flat (map flat_layer (f ∷ fs)) ≡ 1 + count_by is_flat (map flat_layer fs) = count_first is_flat (flat_layer f) (map flat_layer fs) in
-    let more = layers_flat fs in
-    omega (arith, one, more)
+-- ---- all flat statements
 
 pub flats_all : (fs : List meant.Flat) → count_by is_flat (map flat_layer fs) ≡ length fs
-flats_all fs = layers_flat fs ∙ length-map fs flat_layer
+flats_all [] = refl
+flats_all (f ∷ fs) =
+    let one : count_by is_flat (map flat_layer (f ∷ fs)) ≡ 1 + count_by is_flat (map flat_layer fs) = count_first is_flat (flat_layer f) (map flat_layer fs) in
+    let more = flats_all fs in
+    omega (arith, one, more)
 
--- no source more
-pub sources_put : (es : List Entry) (n : Name) (w : Written) (fs : List meant.Flat) → count_by is_source (put_entry es n (statement w fs)) ≤ count_by is_source es
-sources_put [] n w fs = omega arith
-sources_put (e ∷ es) n w fs = go (bytes_eq e.name n) (sources_put es n w fs)
-  where
-    go : (b : Bool) → count_by is_source (put_entry es n (statement w fs)) ≤ count_by is_source es → count_by is_source (cond b (record e { def = statement w fs } ∷ es) (e ∷ put_entry es n (statement w fs))) ≤ count_by is_source (e ∷ es)
-    go true rest =
-        let new : count_by is_source (record e { def = statement w fs } ∷ es) ≡ 0 + count_by is_source es = count_first is_source (record e { def = statement w fs }) es in
-        let old = count_first is_source e es in
-        omega (arith, new, old)
-    go false rest = let new = count_first is_source e (put_entry es n (statement w fs)) in let old = count_first is_source e es in omega (arith, new, old, rest)
+pub flats_stay : (es : List Entry) (n : Name) (old new : Grid) → find_def es n ≡ Some (source old) → count_by is_flat (layers (put_entry es n (source new))) ≡ count_by is_flat (layers es)
+flats_stay es n old new is =
+    let put : count_by is_flat (layers (put_entry es n (source new))) + layers_there is_flat n (find_def es n) ≡ count_by is_flat (layers es) + 0 = count_put is_flat es n (source new) in
+    let was : layers_there is_flat n (find_def es n) ≡ 0 = ap (layers_there is_flat n) is in
+    omega (arith, put, was)
+
+-- ---- what a name stands for, by its item
+
+module _ (size : Size) (ls : Name → Option LayerState) where
+  pub kind_at : (items : List (List ℕ × Item)) (n : Name) (o : Option Item) → lookup (bytes_eq n) items ≡ o → standing_of (option_map (def_by size (ls n)) o) ≡ standing_of (find_def (entries_by size ls items) n)
+  kind_at items n o e = ap (λ x. standing_of (option_map (def_by size (ls n)) x)) (sym e) ∙ ap standing_of (sym (find_item size ls items n))
+
+  pub has_at : (items : List (List ℕ × Item)) (n : Name) → is_some (lookup (bytes_eq n) items) ≡ is_some (find_def (entries_by size ls items) n)
+  has_at items n = sym (some_map (def_by size (ls n)) (lookup (bytes_eq n) items)) ∙ ap is_some (sym (find_item size ls items n))
+
+  source_item : (e : List ℕ × Item) → is_source (entry_by size ls e) ≡ is_source_item e.1
+  source_item e = by_item e.0 e.1
+    where
+      by_item : (n : Name) (item : Item) → is_source (entry_by size ls (n, item)) ≡ is_source_item item
+      by_item n Source = refl
+      by_item n (Statement written flats) = refl
+
+  pub count_items : (items : List (List ℕ × Item)) → count_by is_source_item (map (λ (e : List ℕ × Item). e.1) items) ≡ count_by is_source (entries_by size ls items)
+  count_items [] = refl
+  count_items (e ∷ es) =
+      sum_by-cons (λ (i : Item). cond (is_source_item i) 1 0) e.1 (map (λ (f : List ℕ × Item). f.1) es)
+      ∙ ap (λ k. cond (is_source_item e.1) 1 0 + k) (count_items es)
+      ∙ ap (λ b. cond b 1 0 + count_by is_source (entries_by size ls es)) (sym (source_item e))
+      ∙ sym (sum_by-cons (λ (x : Entry). cond (is_source x) 1 0) (entry_by size ls e) (entries_by size ls es))

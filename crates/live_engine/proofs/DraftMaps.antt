@@ -1,10 +1,8 @@
 -- A map after a draft is put in place.
-use Rattle.std.proofs.Common.{◌≡◌, ◌<◌, ℕ, ℤ, List, [], ◌∷◌, ◌++◌, length, map, position, slice_get, Option, Some, None, option_map, unwrap_or, Ok, Vec, bytes_eq, refl, sym, ap, subst, ◌∙◌}
-use Rattle.std.specs.List.{All, IsDistinct}
+use Rattle.std.proofs.Common.{◌≡◌, ℕ, List, [], ◌∷◌, ◌++◌, length, map, position, slice_get, Option, Some, None, option_map, unwrap_or, Ok, bytes_eq, refl, sym, ap, subst, ◌∙◌}
+use Rattle.std.specs.List.{All}
 use Rattle.std.proofs.lemmas.List.{length-replicate}
 use Rattle.std.specs.Map.{remove_entry}
-use Rattle.std.specs.declared.alloc.Global.{Global}
-use Rattle.indexmap.specs.IndexMap.{spare}
 use Rattle.map_nums.specs.Counts.{raised}
 use Rattle.map_nums.specs.Grids.{Size}
 use Rattle.map_defs.specs.Ops.{Name}
@@ -12,9 +10,7 @@ use Rattle.layer_tiles.specs.Layers.{LayerState, IsLayer, layer_of}
 use Rattle.layer_tiles.specs.Tiles.{tiles_in}
 use Rattle.statement_parser.specs.Formed.{IsProcedure}
 use Rattle.statement_parser.specs.Views.{op_view}
-use Rattle.statement_parser.specs.declared.line.Written.{Written}
 use Rattle.statement_parser.specs.declared.op.Op.{Op as Given}
-use Rattle.procedure_expand.specs.declared.flat.Flat.{Flat}
 use Rattle.procedure_expand.proofs.Plain.{plain_undotted}
 use Rattle.statement_graph.specs.Groups.{Group}
 use Rattle.map_edits.specs.Entries.{Entry}
@@ -36,7 +32,6 @@ use Rattle.kept_map.specs.Keeps.{IsNamed, IsKept, AreKeptSources}
 use Rattle.kept_map.specs.Commits.{IsAtRest, IsCommitted}
 use Rattle.kept_map.specs.Lowering.{IsTakenOut}
 use Rattle.kept_map.specs.Repairs.{IsUnder, counts_view}
-use Rattle.kept_map.specs.Rooms.{HasNextRoom}
 use Rattle.kept_map.specs.declared.maps.Item.{Item}
 use Rattle.kept_map.specs.declared.maps.Item.TheVariants as items
 use Rattle.kept_map.specs.declared.maps.Sources.{Sources}
@@ -44,136 +39,46 @@ use Rattle.kept_map.specs.declared.maps.KeptMap.{KeptMap}
 use Rattle.kept_map.specs.declared.repairing.Prepared.{Prepared}
 use Rattle.kept_map.proofs.Committed.{committed_prepared}
 use Rattle.kept_map.proofs.Ready.{rests_after}
-use Rattle.kept_map.proofs.SourcesDropped.{IsWithout, without, dropped_sources, dropped_entries, dropped_stamps, rest_dropped}
+use Rattle.kept_map.proofs.SourcesDropped.{without, dropped_sources, dropped_entries, dropped_stamps, rest_dropped}
 use Rattle.live_engine.specs.Accepts.{Accepts}
-use Rattle.live_engine.specs.Drafts.{entries_after, IsSeat, state_after, sources_after, counts_with, IsDraftOf, IsRepairedOf, HasRoomFor, CanEnter}
+use Rattle.live_engine.specs.Drafts.{entries_after, state_after, sources_after, counts_with, IsDraftOf, IsRepairedOf, HasRoomFor, CanEnter}
 use Rattle.live_engine.specs.Inverses.{TakesBack}
-use Rattle.live_engine.specs.Puts.{ArePut, CanSeat, seated_item, IsEntered, StoodFor, IsStandBefore}
+use Rattle.live_engine.specs.Puts.{ArePut, seated_item, IsEntered, StoodFor, IsStandBefore}
 use Rattle.live_engine.specs.declared.drafts.Change.{Change}
 use Rattle.live_engine.specs.declared.drafts.Change.TheVariants.{Source, Statement, Out}
 use Rattle.live_engine.specs.declared.drafts.Draft.{Draft}
 use Rattle.live_engine.specs.declared.edits.Accepted as told
 use Rattle.live_engine.specs.declared.inverses.Inverse.TheVariants as inverses
 use Rattle.live_engine.proofs.Accepting.{accepted_is}
-use Rattle.live_engine.proofs.AddedStates.{no_place}
+use Rattle.live_engine.proofs.Drafting.{no_place}
 use Rattle.live_engine.proofs.Backs.{name_back}
-use Rattle.live_engine.proofs.DraftStates.{there, others_stay, draft_change, own_counts, own_joined, out_value}
+use Rattle.live_engine.proofs.DraftStates.{there, others_stay, draft_change, own_counts, own_joined, out_value, kept_sources, kept_stamps}
 use Rattle.live_engine.proofs.Items.{named_remove}
-use Rattle.live_engine.proofs.Seated.{named_seated, entries_seated, can_seat}
-use Rattle.live_engine.proofs.SeatedSources.{entries_added, sources_added, stamps_added}
-use Rattle.live_engine.proofs.StatementSources.{kept_sources, kept_stamps}
-
--- all tiles have one stamp
-fresh_stamps : (one other : Size) (cells : List (Option ℤ)) (k : ℕ) → one ≡ other → (layer_of one cells k).stamps ≡ (layer_of other cells k).stamps
-fresh_stamps one other cells k same = ap (λ (s : Size). (layer_of s cells k).stamps) same
+use Rattle.live_engine.proofs.Seated.{named_seated, entries_seated, can_seat, entries_added, sources_added, stamps_added}
 
 fresh_whole : (l : LayerState) (k : ℕ) → IsLayer l → IsLayer (layer_of l.size l.cells k)
 fresh_whole l k whole = record { size = whole.size; cells = whole.cells; are_cells = whole.are_cells; stamps = length-replicate (tiles_in l.size) k }
 
-module _ (m : KeptMap) (keeps : IsKept m) (e : WholeEdit) (n : Name) (graph : List Group) (labels symbols : Option (List Mark)) (planned : Planned) (prepared : Prepared) (old entered : KeptMap) (put : ArePut m old graph planned prepared) where
+module _ (m : KeptMap) (keeps : IsKept m) (e : WholeEdit) (draft : Draft) (planned : Planned) (prepared : Prepared) (old entered : KeptMap)
+    (put : ArePut m old draft.graph planned prepared) where
+  abbrev n : Name
+  n = draft.name
+
   abbrev after : Change → WholeState
-  after change = state_after (seen m) n change labels symbols
+  after change = state_after (seen m) n change draft.labels draft.symbols
 
   abbrev Drafted : Change → Type 0
-  Drafted change = IsDraftOf m e n change graph labels symbols
+  Drafted change = IsDraftOf m e n change draft.graph draft.labels draft.symbols
 
   abbrev Entered : Change → Type 0
   Entered change = IsEntered old entered n change
 
   abbrev Repaired : Change → Type 0
-  Repaired change = IsRepairedOf m e n change labels symbols planned prepared
+  Repaired change = IsRepairedOf m e n change draft.labels draft.symbols planned prepared
 
-  -- then the marks are exchanged
-  abbrev pub new : KeptMap
-  new = record entered { labels = unwrap_or labels entered.labels; symbols = unwrap_or symbols entered.symbols }
-
-  -- what stays as it was
-  others : (change : Change) → Entered change → entered ≡ record old { names = entered.names; sources = entered.sources; planned = entered.planned }
-  others (Source key layer place) is = is.others ∙ sym (ap (λ (x : KeptMap). record old { names = entered.names; sources = entered.sources; planned = x.planned }) is.others)
-  others (Statement written flats place) is = is.0 ∙ sym (ap (λ (x : KeptMap). record old { names = entered.names; sources = x.sources; planned = x.planned }) is.0)
-  others Out is = is.others
-
-  pub labels_stay : (change : Change) → Entered change → entered.labels ≡ m.labels
-  labels_stay change is = ap (λ (x : KeptMap). x.labels) (others change is) ∙ ap (λ (x : KeptMap). x.labels) put.others
-
-  pub symbols_stay : (change : Change) → Entered change → entered.symbols ≡ m.symbols
-  symbols_stay change is = ap (λ (x : KeptMap). x.symbols) (others change is) ∙ ap (λ (x : KeptMap). x.symbols) put.others
-
-  -- ---- by what stands for the name
-
-  abbrev fresh : LayerState → LayerState
-  fresh layer = layer_of layer.size layer.cells (raised m.number 1)
-
-  moved_sources : (key : Name) (layer : LayerState) (place : Option ℕ) → Entered (Source key layer place) → (entered.sources.names.keys ≡ m.sources.names.keys ++ n ∷ []) × (entered.sources.layers.items ≡ m.sources.layers.items ++ fresh layer ∷ [])
-  moved_sources key layer place is =
-      (is.names ∙ ap (λ (x : KeptMap). x.sources.names.keys ++ n ∷ []) put.others, is.layers ∙ ap (λ (x : KeptMap). x.sources.layers.items ++ layer_of layer.size layer.cells x.number ∷ []) put.others)
-
-  same_sources : (written : Written) (flats : Vec Flat Global) (place : Option ℕ) → Entered (Statement written flats place) → entered.sources ≡ m.sources
-  same_sources written flats place is = ap (λ (x : KeptMap). x.sources) is.0 ∙ ap (λ (x : KeptMap). x.sources) put.others
-
-  taken_out : Entered Out → IsTakenOut (position (bytes_eq n) m.sources.names.keys) m.sources entered.sources old.planned.steps.items entered.planned.steps.items
-  taken_out is = subst (λ (x : Sources). IsTakenOut (position (bytes_eq n) x.names.keys) x entered.sources old.planned.steps.items entered.planned.steps.items) (ap (λ (x : KeptMap). x.sources) put.others) is.taken
-
-  left : Entered Out → IsWithout m.extent n m.sources entered.sources
-  left is = without m keeps n entered.sources is.apart old.planned.steps.items entered.planned.steps.items (position (bytes_eq n) m.sources.names.keys) refl (taken_out is)
-
-  abbrev items_after : Change → List (List ℕ × Item)
-  items_after (Source key layer place) = seated_item m.names.entries place n items.Source
-  items_after (Statement written flats place) = seated_item m.names.entries place n (items.Statement written flats)
-  items_after Out = remove_entry (bytes_eq n) m.names.entries
-
-  items_are : (change : Change) → Entered change → entered.names.entries ≡ items_after change
-  items_are (Source key layer place) is = is.items ∙ ap (λ (x : KeptMap). seated_item x.names.entries place n items.Source) put.others
-  items_are (Statement written flats place) is = is.1 ∙ ap (λ (x : KeptMap). seated_item x.names.entries place n (items.Statement written flats)) put.others
-  items_are Out is = is.items ∙ ap (λ (x : KeptMap). remove_entry (bytes_eq n) x.names.entries) put.others
-
-  entries_are : (change : Change) → Drafted change → Entered change → entries_by m.extent (source_in entered.sources) (items_after change) ≡ entries_after (entries_in m) n change
-  entries_are (Source key layer place) d is = let more = moved_sources key layer place is in entries_added m keeps n d.fits.absent (fresh layer) entered.sources more.0 more.1 place
-  entries_are (Statement written flats place) d is =
-      ap (λ (q : Sources). entries_by m.extent (source_in q) (items_after (Statement written flats place))) (same_sources written flats place is)
-      ∙ entries_seated m.extent (source_in m.sources) m.names.entries place n (items.Statement written flats)
-  entries_are Out d is = dropped_entries m keeps n entered.sources (left is)
-
-  named : (change : Change) → Drafted change → All IsNamed (items_after change)
-  named (Source key layer place) d = named_seated m.names.entries place n items.Source keeps.named d.plain tt
-  named (Statement written flats place) d = named_seated m.names.entries place n (items.Statement written flats) keeps.named d.plain (d.fits.formed, d.fits.ranges)
-  named Out d = named_remove m.names.entries n keeps.named
-
-  sources_are : (change : Change) → Drafted change → Entered change → AreKeptSources (after change).names entered.sources
-  sources_are (Source key layer place) d is =
-      let more = moved_sources key layer place is in
-      let change = draft_change m keeps e n graph labels symbols (Source key layer place) d in
-      sources_added m keeps n d.fits.absent (fresh layer) entered.sources more.0 more.1 (after (Source key layer place)) refl change.good
-      (there m keeps e n graph labels symbols (Source key layer place) d) (others_stay m keeps e n graph labels symbols (Source key layer place) d) is.apart d.fits.sized (fresh_whole layer (raised m.number 1) d.fits.whole)
-  sources_are (Statement written flats place) d is =
-      subst (AreKeptSources (after (Statement written flats place)).names) (sym (same_sources written flats place is)) (kept_sources m keeps e n graph labels symbols written flats place d)
-  sources_are Out d is = dropped_sources m keeps n entered.sources (left is) (after Out).names refl refl (draft_change m keeps e n graph labels symbols Out d).good is.apart
-
-  stamps_are : (change : Change) → Drafted change → Entered change → (q : Name) (l : LayerState) → source_in entered.sources q ≡ Some l → l.stamps ≡ stamps_at (seen m) (after change) q
-  stamps_are (Source key layer place) d is =
-      let more = moved_sources key layer place is in
-      let change = draft_change m keeps e n graph labels symbols (Source key layer place) d in
-      stamps_added m keeps n d.fits.absent (fresh layer) entered.sources more.0 more.1 (after (Source key layer place)) refl change.good
-      (there m keeps e n graph labels symbols (Source key layer place) d) (others_stay m keeps e n graph labels symbols (Source key layer place) d) (plain_undotted n d.plain)
-      (fresh_stamps layer.size m.extent layer.cells (raised m.number 1) d.fits.sized)
-  stamps_are (Statement written flats place) d is =
-      subst (λ (held : Sources). (q : Name) (l : LayerState) → source_in held q ≡ Some l → l.stamps ≡ stamps_at (seen m) (after (Statement written flats place)) q) (sym (same_sources written flats place is))
-      (kept_stamps m keeps e n graph labels symbols written flats place d)
-  stamps_are Out d is = dropped_stamps m keeps n entered.sources (left is) (after Out) refl refl (draft_change m keeps e n graph labels symbols Out d).good
-
-  plan_names : (change : Change) → Entered change → entered.planned.names.keys ≡ old.planned.names.keys
-  plan_names (Source key layer place) is = ap (λ (x : KeptMap). x.planned.names.keys) is.others
-  plan_names (Statement written flats place) is = ap (λ (x : KeptMap). x.planned.names.keys) is.0
-  plan_names Out is = is.plan_names
-
-  plan_count : (change : Change) → Entered change → length entered.planned.steps.items ≡ length old.planned.steps.items
-  plan_count (Source key layer place) is = ap (λ (x : KeptMap). length x.planned.steps.items) is.others
-  plan_count (Statement written flats place) is = ap (λ (x : KeptMap). length x.planned.steps.items) is.0
-  plan_count Out is = go (position (bytes_eq n) m.sources.names.keys) (taken_out is)
-    where
-      go : (o : Option ℕ) → IsTakenOut o m.sources entered.sources old.planned.steps.items entered.planned.steps.items → length entered.planned.steps.items ≡ length old.planned.steps.items
-      go None is = ap length is.2
-      go (Some place) is = is.2.0
+  -- the map with the statements put, before the name is entered
+  abbrev with_statements : KeptMap
+  with_statements = record m { graph = draft.graph; planned = old.planned; kept = old.kept; number = raised m.number 1 }
 
   -- the steps at rest, over sources with these names
   abbrev Rest : List Name → List (Step Given) → Type 0
@@ -184,87 +89,141 @@ module _ (m : KeptMap) (keeps : IsKept m) (e : WholeEdit) (n : Name) (graph : Li
       let here : Rest sources old.planned.steps.items = rests_after m e t shift sources planned.names.keys planned.steps.items keeps under old.planned.steps.items put.rests in
       subst (λ ks. Rest ks entered.planned.steps.items) (sym names) (subst (Rest sources) (sym steps) here)
 
-  at_rest : (change : Change) → Drafted change → Repaired change → Entered change → Rest entered.sources.names.keys entered.planned.steps.items
-  at_rest (Source key layer place) d r is =
-      rested (after (Source key layer place)) r.shift (m.sources.names.keys ++ n ∷ []) r.ready.under (ap (λ (x : KeptMap). x.planned.steps.items) is.others) (moved_sources key layer place is).0
-  at_rest (Statement written flats place) d r is =
-      rested (after (Statement written flats place)) r.shift m.sources.names.keys r.ready.under (ap (λ (x : KeptMap). x.planned.steps.items) is.0) (ap (λ (q : Sources). q.names.keys) (same_sources written flats place is))
-  at_rest Out d r is =
-      rest_dropped m e (after Out) r.shift planned.names.keys planned.steps.items keeps r.ready.under d.lawful.none_looped n (out_value m keeps e n graph labels symbols d)
-      entered.sources old.planned.steps.items entered.planned.steps.items put.rests (position (bytes_eq n) m.sources.names.keys) refl (taken_out is)
+  steps_left : (o : Option ℕ) → IsTakenOut o m.sources entered.sources old.planned.steps.items entered.planned.steps.items → length entered.planned.steps.items ≡ length old.planned.steps.items
+  steps_left None is = ap length is.2
+  steps_left (Some place) is = is.2.0
+
+  -- ---- by what stands for the name
+
+  -- the names and the sources with it, and the steps over them
+  record IsIn (change : Change) : Type 0 where
+    others : entered ≡ record old { names = entered.names; sources = entered.sources; planned = entered.planned }
+    items_after : List (List ℕ × Item)
+    items_are : entered.names.entries ≡ items_after
+    entries : entries_by m.extent (source_in entered.sources) items_after ≡ entries_after (entries_in m) n change
+    named : All IsNamed items_after
+    sources : AreKeptSources (after change).names entered.sources
+    stamps : (q : Name) (l : LayerState) → source_in entered.sources q ≡ Some l → l.stamps ≡ stamps_at (seen m) (after change) q
+    plan_names : entered.planned.names.keys ≡ old.planned.names.keys
+    plan_count : length entered.planned.steps.items ≡ length old.planned.steps.items
+    rest : Rest entered.sources.names.keys entered.planned.steps.items
+
+  is_in : (change : Change) → Drafted change → Repaired change → Entered change → IsIn change
+  is_in (Source key layer place) d r is =
+      let to : Change = Source key layer place in
+      let change = draft_change m keeps e draft to d in
+      let stands = there m keeps e draft to d in
+      let stay = others_stay m keeps e draft to d in
+      let fresh : LayerState = layer_of layer.size layer.cells (raised m.number 1) in
+      let names : entered.sources.names.keys ≡ m.sources.names.keys ++ n ∷ [] = is.names ∙ ap (λ (x : KeptMap). x.sources.names.keys ++ n ∷ []) put.others in
+      let layers : entered.sources.layers.items ≡ m.sources.layers.items ++ fresh ∷ [] = is.layers ∙ ap (λ (x : KeptMap). x.sources.layers.items ++ layer_of layer.size layer.cells x.number ∷ []) put.others in
+      record {
+        others = is.others ∙ sym (ap (λ (x : KeptMap). record old { names = entered.names; sources = entered.sources; planned = x.planned }) is.others);
+        items_after = seated_item m.names.entries place n items.Source;
+        items_are = is.items ∙ ap (λ (x : KeptMap). seated_item x.names.entries place n items.Source) put.others;
+        entries = entries_added m keeps n d.fits.absent fresh entered.sources names layers place;
+        named = named_seated m.names.entries place n items.Source keeps.named d.plain tt;
+        sources = sources_added m keeps n d.fits.absent fresh entered.sources names layers (after to) refl change.good stands stay is.apart d.fits.sized (fresh_whole layer (raised m.number 1) d.fits.whole);
+        stamps = stamps_added m keeps n d.fits.absent fresh entered.sources names layers (after to) refl change.good stands stay (plain_undotted n d.plain)
+            (ap (λ (s : Size). (layer_of s layer.cells (raised m.number 1)).stamps) d.fits.sized);
+        plan_names = ap (λ (x : KeptMap). x.planned.names.keys) is.others;
+        plan_count = ap (λ (x : KeptMap). length x.planned.steps.items) is.others;
+        rest = rested (after to) r.shift (m.sources.names.keys ++ n ∷ []) r.ready.under (ap (λ (x : KeptMap). x.planned.steps.items) is.others) names;
+      }
+  is_in (Statement written flats place) d r is =
+      let to : Change = Statement written flats place in
+      let item : Item = items.Statement written flats in
+      let same : entered.sources ≡ m.sources = ap (λ (x : KeptMap). x.sources) is.0 ∙ ap (λ (x : KeptMap). x.sources) put.others in
+      record {
+        others = is.0 ∙ sym (ap (λ (x : KeptMap). record old { names = entered.names; sources = x.sources; planned = x.planned }) is.0);
+        items_after = seated_item m.names.entries place n item;
+        items_are = is.1 ∙ ap (λ (x : KeptMap). seated_item x.names.entries place n item) put.others;
+        entries = ap (λ (q : Sources). entries_by m.extent (source_in q) (seated_item m.names.entries place n item)) same ∙ entries_seated m.extent (source_in m.sources) m.names.entries place n item;
+        named = named_seated m.names.entries place n item keeps.named d.plain (d.fits.formed, d.fits.ranges);
+        sources = subst (AreKeptSources (after to).names) (sym same) (kept_sources m keeps e draft written flats place d);
+        stamps = subst (λ (held : Sources). (q : Name) (l : LayerState) → source_in held q ≡ Some l → l.stamps ≡ stamps_at (seen m) (after to) q) (sym same) (kept_stamps m keeps e draft written flats place d);
+        plan_names = ap (λ (x : KeptMap). x.planned.names.keys) is.0;
+        plan_count = ap (λ (x : KeptMap). length x.planned.steps.items) is.0;
+        rest = rested (after to) r.shift m.sources.names.keys r.ready.under (ap (λ (x : KeptMap). x.planned.steps.items) is.0) (ap (λ (q : Sources). q.names.keys) same);
+      }
+  is_in Out d r is =
+      let place : Option ℕ = position (bytes_eq n) m.sources.names.keys in
+      let taken : IsTakenOut place m.sources entered.sources old.planned.steps.items entered.planned.steps.items =
+      subst (λ (x : Sources). IsTakenOut (position (bytes_eq n) x.names.keys) x entered.sources old.planned.steps.items entered.planned.steps.items) (ap (λ (x : KeptMap). x.sources) put.others) is.taken in
+      let left = without m keeps n entered.sources is.apart old.planned.steps.items entered.planned.steps.items place refl taken in
+      let good = (draft_change m keeps e draft Out d).good in
+      record {
+        others = is.others;
+        items_after = remove_entry (bytes_eq n) m.names.entries;
+        items_are = is.items ∙ ap (λ (x : KeptMap). remove_entry (bytes_eq n) x.names.entries) put.others;
+        entries = dropped_entries m keeps n entered.sources left;
+        named = named_remove m.names.entries n keeps.named;
+        sources = dropped_sources m keeps n entered.sources left (after Out).names refl refl good is.apart;
+        stamps = dropped_stamps m keeps n entered.sources left (after Out) refl refl good;
+        plan_names = is.plan_names;
+        plan_count = steps_left place taken;
+        rest = rest_dropped m e (after Out) r.shift planned.names.keys planned.steps.items keeps r.ready.under d.lawful.none_looped n (out_value m keeps e draft d)
+            entered.sources old.planned.steps.items entered.planned.steps.items put.rests place refl taken;
+      }
 
   -- ---- before it is entered
 
-  seats : (place : Option ℕ) → IsSeat (entries_in m) n place → CanSeat old.names.entries n place
-  seats place seat = subst (λ (x : KeptMap). CanSeat x.names.entries n place) (sym put.others) (can_seat m.extent (source_in m.sources) m.names.entries n place seat)
-
   pub can_enter : (change : Change) → Drafted change → HasRoomFor m change → CanEnter old n change
-  can_enter (Source key layer place) d room = (
-    subst HasNextRoom (sym put.others) (record { names = room.names; sources = room.sources }),
-    d.fits.same,
-    ap (λ (x : KeptMap). position (bytes_eq n) x.sources.names.keys) put.others ∙ no_place m keeps n d.fits.absent,
-    seats place d.fits.seat,
-  )
-  can_enter (Statement written flats place) d room = (subst (λ (x : KeptMap). 0 < spare x.names) (sym put.others) room, seats place d.fits.seat)
-  can_enter Out d room =
-      (subst (λ (x : KeptMap). IsDistinct bytes_eq x.sources.names.keys) (sym put.others) keeps.sources.apart, subst (λ (x : KeptMap). length x.sources.layers.items ≡ length x.sources.names.keys) (sym put.others) keeps.sources.count)
+  can_enter change d room = subst (λ (x : KeptMap). CanEnter x n change) (sym put.others) (can change d room)
+    where
+      can : (change : Change) → Drafted change → HasRoomFor m change → CanEnter with_statements n change
+      can (Source key layer place) d room =
+          (record { names = room.names; sources = room.sources }, d.fits.same, no_place m keeps n d.fits.absent, can_seat m.extent (source_in m.sources) m.names.entries n place d.fits.seat)
+      can (Statement written flats place) d room = (room, can_seat m.extent (source_in m.sources) m.names.entries n place d.fits.seat)
+      can Out d room = (keeps.sources.apart, keeps.sources.count)
 
   -- what stood there before
-  stood_there : (before : Change) → StoodFor old n before → StoodFor m n before
-  stood_there (Source key layer (Some k)) is = subst (λ (x : KeptMap). StoodFor x n (Source key layer (Some k))) put.others is
-  stood_there (Source key layer None) is = absurd is
-  stood_there (Statement written flats (Some k)) is = subst (λ (x : KeptMap). StoodFor x n (Statement written flats (Some k))) put.others is
-  stood_there (Statement written flats None) is = absurd is
-  stood_there Out is = subst (λ (x : KeptMap). StoodFor x n Out) put.others is
-
   stood_before : (change before : Change) → IsStandBefore old n change before → IsStandBefore m n change before
   stood_before (Source key layer place) before is = is
-  stood_before (Statement written flats place) before is = subst (λ (x : KeptMap). IsStandBefore x n (Statement written flats place) before) put.others is
-  stood_before Out before is = stood_there before is
+  stood_before Out (Source key layer (Some k)) is = subst (λ (x : KeptMap). StoodFor x n (Source key layer (Some k))) put.others is
+  stood_before Out (Statement written flats (Some k)) is = subst (λ (x : KeptMap). StoodFor x n (Statement written flats (Some k))) put.others is
+  stood_before change before is = subst (λ (x : KeptMap). IsStandBefore x n change before) put.others is
 
-  -- ---- all of it
+  -- ---- all of it, the marks too
 
-  module _ (change : Change) (d : Drafted change) (r : Repaired change) (entering : Entered change) where
-    same : entered ≡ record old { names = entered.names; sources = entered.sources; planned = entered.planned }
-    same = others change entering
+  module _ (labels symbols : List Mark) (labels_are : labels ≡ unwrap_or draft.labels entered.labels) (symbols_are : symbols ≡ unwrap_or draft.symbols entered.symbols)
+      (change : Change) (d : Drafted change) (r : Repaired change) (entering : Entered change) where
+    abbrev new : KeptMap
+    new = record entered { labels = labels; symbols = symbols }
 
-    extent_stays : entered.extent ≡ m.extent
-    extent_stays = ap (λ (x : KeptMap). x.extent) same ∙ ap (λ (x : KeptMap). x.extent) put.others
+    at : IsIn change
+    at = is_in change d r entering
 
-    procedures_stay : entered.procedures ≡ m.procedures
-    procedures_stay = ap (λ (x : KeptMap). x.procedures) same ∙ ap (λ (x : KeptMap). x.procedures) put.others
-
-    number_rises : entered.number ≡ raised m.number 1
-    number_rises = ap (λ (x : KeptMap). x.number) same ∙ ap (λ (x : KeptMap). x.number) put.others
+    stays : entered ≡ record with_statements { names = entered.names; sources = entered.sources; planned = entered.planned }
+    stays = at.others ∙ ap (λ (x : KeptMap). record x { names = entered.names; sources = entered.sources; planned = entered.planned }) put.others
 
     abbrev state_of : Size → List (List ℕ × Item) → ℕ → EngineState
     state_of size entries number = record { size = size; entries = entries_by size (source_in entered.sources) entries; number = number }
 
     names_are : names_in new ≡ (after change).names
     names_are =
-        ap (λ s. state_of s entered.names.entries entered.number) extent_stays
-        ∙ ap (λ es. state_of m.extent es entered.number) (items_are change entering)
-        ∙ ap (state_of m.extent (items_after change)) number_rises
-        ∙ ap (λ (es : List Entry). record { size = m.extent; entries = es; number = raised m.number 1 }) (entries_are change d entering)
+        ap (λ (x : KeptMap). state_of x.extent entered.names.entries x.number) stays
+        ∙ ap (λ es. state_of m.extent es (raised m.number 1)) at.items_are
+        ∙ ap (λ (es : List Entry). record { size = m.extent; entries = es; number = raised m.number 1 }) at.entries
 
     is_committed : IsCommitted m new (after change) planned.names.keys planned.steps.items prepared.made.items
     is_committed = record {
       names_are = names_are;
-      procedures = procedures_stay;
-      labels = ap (unwrap_or labels) (labels_stay change entering);
-      symbols = ap (unwrap_or symbols) (symbols_stay change entering);
-      named = subst (All IsNamed) (sym (items_are change entering)) (named change d);
-      formed = subst (All IsProcedure) (sym procedures_stay) keeps.formed;
+      procedures = ap (λ (x : KeptMap). x.procedures) stays;
+      labels = labels_are ∙ ap (λ (x : KeptMap). unwrap_or draft.labels x.labels) stays;
+      symbols = symbols_are ∙ ap (λ (x : KeptMap). unwrap_or draft.symbols x.symbols) stays;
+      named = subst (All IsNamed) (sym at.items_are) at.named;
+      formed = subst (λ (x : KeptMap). All IsProcedure x.procedures) (sym stays) keeps.formed;
       sources_few = d.sources_few;
       flats_few = d.flats_few;
-      graph_is = ap (λ (x : KeptMap). x.graph) same ∙ ap (λ (x : KeptMap). x.graph) put.others ∙ d.graph_is;
-      sources = sources_are change d entering;
-      stamped = stamps_are change d entering;
-      plan_names = plan_names change entering ∙ put.plan_names;
-      plan_count = plan_count change entering ∙ put.rests.0;
-      rest = at_rest change d r entering;
-      kept_count = ap (λ (x : KeptMap). length x.kept.items) same ∙ put.kept_count;
-      placed = subst (ArePlaced m.extent (raised m.number 1) (map (λ k. Some k) m.kept.items) planned.steps.items prepared.made.items) (ap (λ (x : KeptMap). x.kept.items) (sym same)) put.placed;
+      graph_is = ap (λ (x : KeptMap). x.graph) stays ∙ d.graph_is;
+      sources = at.sources;
+      stamped = at.stamps;
+      plan_names = at.plan_names ∙ put.plan_names;
+      plan_count = at.plan_count ∙ put.rests.0;
+      rest = at.rest;
+      kept_count = ap (λ (x : KeptMap). length x.kept.items) stays ∙ put.kept_count;
+      placed = subst (λ (x : KeptMap). ArePlaced m.extent (raised m.number 1) (map (λ k. Some k) m.kept.items) planned.steps.items prepared.made.items x.kept.items) (sym stays) put.placed;
     }
 
     committed : IsKept new × (seen new ≡ stamped (seen m) (after change))
@@ -276,20 +235,17 @@ module _ (m : KeptMap) (keeps : IsKept m) (e : WholeEdit) (n : Name) (graph : Li
     pub draft_accepts : (accepted : told.Accepted) → accepted.number ≡ new.number → counts_view accepted.counts ≡ counts_with m.extent change (counts_view prepared.counts) → Accepts (seen m) (seen new) e (Ok accepted)
     draft_accepts accepted number counts =
         let is = accepted_is m e (after change) r.shift (sources_after m.sources.names.keys n change) keeps r.set_up planned.names.keys planned.steps.items prepared r.ready in
-        let own = ap (λ o. joined o (counts_view prepared.counts)) (own_counts m keeps e n graph labels symbols change d) ∙ own_joined m.extent change (counts_view prepared.counts) ∙ sym counts in (
+        let own = ap (λ o. joined o (counts_view prepared.counts)) (own_counts m keeps e draft change d) ∙ own_joined m.extent change (counts_view prepared.counts) ∙ sym counts in (
           is ∙ ap (λ o. Ok (record { state = stamped (seen m) (after change); counts = o })) own ∙ ap (λ s. Ok (record { state = s; counts = counts_view accepted.counts })) (sym committed.1),
           number,
         )
 
     -- of each edit that would make it
-    pub draft_takes_back : (f : WholeEdit) → IsDraftOf m f n change graph labels symbols → (before : Change) → IsStandBefore old n change before
-        → (stood : Draft) → stood ≡ record { name = n; change = before; graph = m.graph; labels = option_map (λ (x : List Mark). entered.labels) labels; symbols = option_map (λ (x : List Mark). entered.symbols) symbols }
-        → TakesBack (seen m) (seen new) (touch_of f) (inverses.Name stood)
-    draft_takes_back f is before stand stood stood_is =
-        let own : Draft = record { name = n; change = before; graph = m.graph; labels = option_map (λ (x : List Mark). m.labels) labels; symbols = option_map (λ (x : List Mark). m.symbols) symbols } in
-        let same_marks : stood ≡ own =
-        stood_is
-        ∙ ap (λ (ms : List Mark). record { name = n; change = before; graph = m.graph; labels = option_map (λ (x : List Mark). ms) labels; symbols = option_map (λ (x : List Mark). entered.symbols) symbols }) (labels_stay change entering)
-        ∙ ap (λ (ms : List Mark). record { name = n; change = before; graph = m.graph; labels = option_map (λ (x : List Mark). m.labels) labels; symbols = option_map (λ (x : List Mark). ms) symbols }) (symbols_stay change entering) in
-        subst (λ (q : Draft). TakesBack (seen m) (seen new) (touch_of f) (inverses.Name q)) (sym same_marks)
-        (name_back m keeps f n change graph labels symbols is (seen new) before extent_stays (ap parts_of committed.1) (stood_before change before stand))
+    pub draft_takes_back : (f : WholeEdit) → IsDraftOf m f n change draft.graph draft.labels draft.symbols → (before : Change) → IsStandBefore old n change before
+        → (graph : List Group) (own_labels own_symbols : Option (List Mark)) → graph ≡ m.graph
+        → own_labels ≡ option_map (λ (x : List Mark). entered.labels) draft.labels → own_symbols ≡ option_map (λ (x : List Mark). entered.symbols) draft.symbols
+        → TakesBack (seen m) (seen new) (touch_of f) (inverses.Name (record { name = n; change = before; graph = graph; labels = own_labels; symbols = own_symbols }))
+    draft_takes_back f is before stand graph own_labels own_symbols graph_is labels_stood symbols_stood =
+        let ls = labels_stood ∙ ap (λ (x : KeptMap). option_map (λ (y : List Mark). x.labels) draft.labels) stays in
+        let ss = symbols_stood ∙ ap (λ (x : KeptMap). option_map (λ (y : List Mark). x.symbols) draft.symbols) stays in
+        rw (graph_is, ls, ss) (name_back m keeps f n change draft.graph draft.labels draft.symbols is (seen new) before (ap (λ (x : KeptMap). x.extent) stays) (ap parts_of committed.1) (stood_before change before stand))

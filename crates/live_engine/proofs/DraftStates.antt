@@ -1,5 +1,5 @@
 -- The state that a draft would make: what becomes of the sources, which flat statements are planned, and what of it counts.
-use Rattle.std.proofs.Common.{◌≡◌, ℕ, ◌+◌, false, cond, List, [], ◌∷◌, ◌++◌, length, slice_get, Option, Some, None, option_map, bytes_eq, Bor, Vec, refl, sym, ap, subst, ◌∙◌, arith}
+use Rattle.std.proofs.Common.{◌≡◌, ℕ, ◌+◌, Bool, true, false, List, [], ◌∷◌, ◌++◌, length, position, slice_get, Option, Some, None, is_some, option_map, Result, Ok, Err, IfOk, bytes_eq, Bor, Vec, refl, sym, ap, subst, ◌∙◌, arith}
 use Rattle.std.specs.List.{All}
 use Rattle.std.specs.declared.alloc.Global.{Global}
 use Rattle.std.proofs.lemmas.Option.{none-some}
@@ -16,42 +16,45 @@ use Rattle.statement_parser.specs.declared.line.Written.{Written}
 use Rattle.procedure_expand.specs.declared.flat.Flat.{Flat}
 use Rattle.procedure_expand.specs.Flats.{flats_view}
 use Rattle.procedure_expand.proofs.Plain.{plain_undotted}
-use Rattle.statement_graph.specs.Groups.{Group}
 use Rattle.op_jobs.specs.Ranges.{HasRanges}
 use Rattle.map_edits.specs.Entries.{Def, source, statement, Entry, find_def}
 use Rattle.map_edits.specs.EngineStates.{EngineState, made, value_of}
 use Rattle.map_edits.specs.LayerDefs.{Making, given_grid, by_op, layers, find_making, nodes_of}
 use Rattle.map_edits.specs.LayerChanges.{now_of, changed_of}
 use Rattle.map_edits.specs.EditCounts.{Counts}
-use Rattle.map_edits.specs.Marks.{Mark}
-use Rattle.map_edits.specs.Touches.{whole, touch_of, is_whole, source_damage}
+use Rattle.map_edits.specs.StampsAfter.{stamps_at}
+use Rattle.map_edits.specs.Touches.{whole, touch_of, is_whole}
 use Rattle.map_edits.specs.WholeEdits.{WholeEdit}
 use Rattle.map_edits.specs.WholeStates.{WholeState, cells_of}
-use Rattle.map_edits.proofs.Among.{bytes_eq-self, bytes_eq-turned}
+use Rattle.map_edits.proofs.Among.{same_name, bytes_eq-self, bytes_eq-turned}
 use Rattle.map_edits.proofs.Heads.{head_of, head_undotted}
 use Rattle.map_edits.proofs.Groups.{group_making, making_by_head}
 use Rattle.map_edits.proofs.Puts.{find_drop, find_drop_other}
 use Rattle.map_edits.proofs.LawfulEdits.{AreGood, IsGoodChange, good_of}
 use Rattle.map_edits.proofs.Unfolds.{value_unfolds}
 use Rattle.map_waves.specs.Bases.{source_by}
+use Rattle.map_waves.specs.declared.plans.Shift.{Shift}
 use Rattle.map_waves.specs.declared.plans.Shift.TheVariants.{Nothing, Loaded}
 use Rattle.edit_plans.specs.Planned.{AreSources}
 use Rattle.edit_plans.specs.SourceCounts.{joined, no_counts, counts_of_source, counts_of_touched}
-use Rattle.edit_plans.specs.declared.planning.Planned.{Planned}
-use Rattle.kept_map.specs.Maps.{grid_of, entries_in, names_in, names_with, seen}
-use Rattle.kept_map.specs.Keeps.{IsKept}
+use Rattle.kept_map.specs.Maps.{grid_of, source_in, entries_in, names_in, names_with, seen}
+use Rattle.kept_map.specs.Keeps.{IsKept, AreKeptSources}
 use Rattle.kept_map.specs.Edits.{IsSetUp, IsReplanned}
 use Rattle.kept_map.specs.Repairs.{IsPreparedFor}
 use Rattle.kept_map.specs.declared.maps.KeptMap.{KeptMap}
-use Rattle.kept_map.specs.declared.repairing.Prepared.{Prepared}
+use Rattle.kept_map.specs.declared.halts.Halt.{Halt}
+use Rattle.kept_map.specs.declared.preparing.Replanned.{Replanned}
 use Rattle.kept_map.proofs.Given.{making_source, source_making, source_value}
 use Rattle.kept_map.proofs.EditedFlats.{IsWrittenAs}
 use Rattle.kept_map.proofs.EditedPlans.{flats_make, flats_made, flats_touched, flats_ranged, stand_added, stand_defined, stand_dropped}
+use Rattle.kept_map.proofs.Naming.{source_def}
+use Rattle.kept_map.proofs.SourcesAfter.{is_source_def, stand_by, stood_by, other_stamps}
 use Rattle.kept_map.proofs.SettingUp.{nothing_operands, loaded_operands, left_changes, loaded_changes, others_left, absent_before}
-use Rattle.live_engine.specs.Drafts.{entries_after, state_after, sources_after, flats_written, counts_with, IsDraftOf, IsRepairedOf}
+use Rattle.live_engine.specs.Drafts.{entries_after, state_after, draft_state, sources_after, flats_written, counts_with, IsDraftOf, IsDraft, IsRepairedFor}
 use Rattle.live_engine.specs.declared.drafts.Change.{Change}
 use Rattle.live_engine.specs.declared.drafts.Change.TheVariants.{Source, Statement, Out}
-use Rattle.live_engine.proofs.FewCounts.{tiles_long}
+use Rattle.live_engine.specs.declared.drafts.Draft.{Draft}
+use Rattle.live_engine.proofs.Accepting.{tiles_long}
 use Rattle.live_engine.proofs.Seated.{find_seated, others_seated}
 
 -- all tiles of a layer that wasn't there
@@ -70,23 +73,24 @@ joined_none c =
 -- what an edit of a name counts of the name's own source
 abbrev pub own_of : Size → Change → Counts
 own_of size (Source key layer place) = record { changed = tiles_in size; evaluated = tiles_in size; worked = 0 }
-own_of size (Statement written flats place) = no_counts
-own_of size Out = no_counts
+own_of size change = no_counts
 
 pub own_joined : (size : Size) (change : Change) (counts : Counts) → joined (own_of size change) counts ≡ counts_with size change counts
 own_joined size (Source key layer place) counts = refl
-own_joined size (Statement written flats place) counts = joined_none counts
-own_joined size Out counts = joined_none counts
+own_joined size change counts = joined_none counts
 
-module _ (m : KeptMap) (keeps : IsKept m) (e : WholeEdit) (n : Name) (graph : List Group) (labels symbols : Option (List Mark)) where
+module _ (m : KeptMap) (keeps : IsKept m) (e : WholeEdit) (draft : Draft) where
+  abbrev n : Name
+  n = draft.name
+
   abbrev after : Change → WholeState
-  after change = state_after (seen m) n change labels symbols
+  after change = state_after (seen m) n change draft.labels draft.symbols
 
   abbrev new : Change → List Entry
   new change = entries_after (entries_in m) n change
 
   abbrev Drafted : Change → Type 0
-  Drafted change = IsDraftOf m e n change graph labels symbols
+  Drafted change = IsDraftOf m e n change draft.graph draft.labels draft.symbols
 
   undotted_name : (change : Change) → Drafted change → IsUndotted n
   undotted_name change is = plain_undotted n is.plain
@@ -154,7 +158,7 @@ module _ (m : KeptMap) (keeps : IsKept m) (e : WholeEdit) (n : Name) (graph : Li
           ∙ ap (λ (l : LayerState). Some l.cells) (sym same)
 
   -- where no layer is loaded, a source stays or is gone
-  left_up : (change : Change) (is : Drafted change) → sources_after m.sources.names.keys n change ≡ m.sources.names.keys
+  pub left_up : (change : Change) (is : Drafted change) → sources_after m.sources.names.keys n change ≡ m.sources.names.keys
       → ((grid : Grid) → find_def (entries_in m) n ≡ Some (source grid) → find_def (new change) n ≡ None) → IsSetUp m e (after change) Nothing (sources_after m.sources.names.keys n change)
   left_up change is same gone =
       let c = draft_change change is in
@@ -169,12 +173,6 @@ module _ (m : KeptMap) (keeps : IsKept m) (e : WholeEdit) (n : Name) (graph : Li
         count = let len = ap length same in let count = keeps.sources.count in omega (arith, len, count);
       }
 
-  statement_set_up : (written : Written) (flats : Vec Flat Global) (place : Option ℕ) (is : Drafted (Statement written flats place)) → IsSetUp m e (after (Statement written flats place)) Nothing m.sources.names.keys
-  statement_set_up written flats place is = left_up (Statement written flats place) is refl (λ grid def. absurd (is.fits.other grid def))
-
-  out_set_up : Drafted Out → IsSetUp m e (after Out) Nothing m.sources.names.keys
-  out_set_up is = left_up Out is refl (λ grid def. there Out is)
-
   -- ---- the plan
 
   stand : (change : Change) → Drafted change → AreSources (nodes_of (new change)) (sources_after m.sources.names.keys n change)
@@ -184,11 +182,10 @@ module _ (m : KeptMap) (keeps : IsKept m) (e : WholeEdit) (n : Name) (graph : Li
   stand Out is = stand_dropped m keeps (new Out) n (undotted_name Out is) (draft_change Out is) (there Out is)
 
   ranged : (change : Change) → Drafted change → All (λ (f : Flat). HasRanges (op_view f.op)) (flats_written change)
-  ranged (Source key layer place) is = λ k d within. absurd (omega arith)
   ranged (Statement written flats place) is = is.fits.ranges
-  ranged Out is = λ k d within. absurd (omega arith)
+  ranged change is = λ k d within. absurd (omega arith)
 
-  pub draft_replanned : (change : Change) → Drafted change → IsReplanned m e (after change) (sources_after m.sources.names.keys n change) graph n (flats_written change)
+  pub draft_replanned : (change : Change) → Drafted change → IsReplanned m e (after change) (sources_after m.sources.names.keys n change) draft.graph n (flats_written change)
   draft_replanned change is =
       let plain = undotted_name change is in
       let c = draft_change change is in
@@ -205,32 +202,6 @@ module _ (m : KeptMap) (keeps : IsKept m) (e : WholeEdit) (n : Name) (graph : Li
         flats_few = is.flats_few;
       }
 
-  -- ---- where no layer is loaded
-
-  abbrev Asked : Change → List Flat → List Name → Type 0
-  Asked change written sources = IsSetUp m e (after change) Nothing sources × IsReplanned m e (after change) sources graph n written
-
-  sources_are : names_with m.sources None ≡ m.sources.names.keys
-  sources_are = append-nil m.sources.names.keys
-
-  pub statement_asked : (written : Written) (flats : Vec Flat Global) (place : Option ℕ) (these : List Flat) → these ≡ flats.items → Drafted (Statement written flats place) → Asked (Statement written flats place) these (names_with m.sources None)
-  statement_asked written flats place these same is =
-      subst (Asked (Statement written flats place) these) (sym sources_are)
-      (statement_set_up written flats place is, subst (IsReplanned m e (after (Statement written flats place)) m.sources.names.keys graph n) (sym same) (draft_replanned (Statement written flats place) is))
-
-  pub out_asked : Drafted Out → Asked Out [] (names_with m.sources None)
-  out_asked is = subst (Asked Out []) (sym sources_are) (out_set_up is, draft_replanned Out is)
-
-  module _ (planned : Planned) (prepared : Prepared) where
-    abbrev Readied : Change → List Name → Type 0
-    Readied change sources = IsPreparedFor m e (after change) Nothing sources planned.names.keys planned.steps.items prepared
-
-    pub statement_repaired : (written : Written) (flats : Vec Flat Global) (place : Option ℕ) → Drafted (Statement written flats place) → Readied (Statement written flats place) (names_with m.sources None) → IsRepairedOf m e n (Statement written flats place) labels symbols planned prepared
-    statement_repaired written flats place is ready = record { shift = Nothing; set_up = statement_set_up written flats place is; ready = subst (Readied (Statement written flats place)) sources_are ready }
-
-    pub out_repaired : Drafted Out → Readied Out (names_with m.sources None) → IsRepairedOf m e n Out labels symbols planned prepared
-    out_repaired is ready = record { shift = Nothing; set_up = out_set_up is; ready = subst (Readied Out) sources_are ready }
-
   -- ---- what counts
 
   -- a name that is out is no layer any more
@@ -238,10 +209,7 @@ module _ (m : KeptMap) (keeps : IsKept m) (e : WholeEdit) (n : Name) (graph : Li
   no_making is = making_by_head (new Out) n is.lawful.groups is.lawful.apart ∙ ap (group_making n) (ap (find_def (new Out)) (head_undotted n (undotted_name Out is)) ∙ there Out is)
 
   own_source : (change : Change) → Drafted change → counts_of_touched (whole n) (names_in m) (after change).names ≡ own_of m.extent change
-  own_source (Source key layer place) is =
-      ap (counts_of_source (whole n) (names_in m) t n) making
-      ∙ ap (λ k. record { changed = k; evaluated = length (source_damage m.extent (whole n) n); worked = 0 }) changed
-      ∙ ap (λ (k : ℕ). record { changed = tiles_in m.extent; evaluated = k; worked = 0 }) damaged
+  own_source (Source key layer place) is = rw (making, changed, bytes_eq-self n, tiles_long m.extent) refl
     where
       t : EngineState
       t = (after (Source key layer place)).names
@@ -251,9 +219,6 @@ module _ (m : KeptMap) (keeps : IsKept m) (e : WholeEdit) (n : Name) (graph : Li
 
       changed : length (changed_of (names_in m) t n) ≡ tiles_in m.extent
       changed = all_changed m.extent (cells_of (names_in m) n) (now_of t n) (absent_before m keeps n (undotted_name (Source key layer place) is) is.fits.absent)
-
-      damaged : length (source_damage m.extent (whole n) n) ≡ tiles_in m.extent
-      damaged = ap (λ b. length (cond b (tiles m.extent) [])) (bytes_eq-self n) ∙ tiles_long m.extent
   own_source (Statement written flats place) is = go (find_making (layers (new (Statement written flats place))) n) refl
     where
       go : (o : Option Making) → find_making (layers (new (Statement written flats place))) n ≡ o → counts_of_source (whole n) (names_in m) (after (Statement written flats place)).names n o ≡ no_counts
@@ -269,3 +234,92 @@ module _ (m : KeptMap) (keeps : IsKept m) (e : WholeEdit) (n : Name) (graph : Li
 
   pub own_counts : (change : Change) → Drafted change → counts_of_touched (touch_of e) (names_in m) (after change).names ≡ own_of m.extent change
   own_counts change is = ap (λ touch. counts_of_touched touch (names_in m) (after change).names) is.touch ∙ own_source change is
+
+  -- ---- the sources of a map, which a statement leaves as they are
+
+  module _ (written : Written) (flats : Vec Flat Global) (place : Option ℕ) (d : Drafted (Statement written flats place)) where
+    abbrev put : Change
+    put = Statement written flats place
+
+    places_stay : (q : Name) → is_some (position (bytes_eq q) m.sources.names.keys) ≡ is_source_def (find_def (new put) q)
+    places_stay q = stood_by m keeps q ∙ go (bytes_eq q n) refl
+      where
+        no_source : (o : Option Def) → ((grid : Grid) → o ≡ Some (source grid) → ⊥) → is_source_def o ≡ false
+        no_source None other = refl
+        no_source (Some (source grid)) other = absurd (other grid refl)
+        no_source (Some (statement w fs)) other = refl
+
+        go : (b : Bool) → bytes_eq q n ≡ b → is_source_def (find_def (entries_in m) q) ≡ is_source_def (find_def (new put) q)
+        go true same =
+            let at = same_name q n same in
+            ap (λ a. is_source_def (find_def (entries_in m) a)) at ∙ no_source (find_def (entries_in m) n) d.fits.other ∙ sym (ap (λ a. is_source_def (find_def (new put) a)) at ∙ ap is_source_def (there put d))
+        go false other = ap is_source_def (sym (others_stay put d q other))
+
+    pub kept_sources : AreKeptSources (after put).names m.sources
+    kept_sources = record { stand = stand_by (new put) m.sources.names.keys d.lawful.groups d.lawful.apart places_stay; apart = keeps.sources.apart; count = keeps.sources.count; whole = keeps.sources.whole }
+
+    pub kept_stamps : (q : Name) (l : LayerState) → source_in m.sources q ≡ Some l → l.stamps ≡ stamps_at (seen m) (after put) q
+    kept_stamps q l at = other_stamps m keeps (after put) refl (good put d) q l (go (bytes_eq q n) refl) at
+      where
+        go : (b : Bool) → bytes_eq q n ≡ b → find_def (new put) q ≡ find_def (entries_in m) q
+        go true same = absurd (d.fits.other (grid_of l) (ap (find_def (entries_in m)) (sym (same_name q n same)) ∙ source_def m q keeps l at))
+        go false other = others_stay put d q other
+
+-- ---- what is asked of a repair, and what it then tells of the draft
+
+pub record IsAsked (m : KeptMap) (e : WholeEdit) (d : Draft) (shift : Shift) (sources : List Name) (written : List Flat) : Type 0 where
+  pub names : sources ≡ sources_after m.sources.names.keys d.name d.change
+  pub set_up : IsSetUp m e (draft_state (seen m) d) shift sources
+  pub replanned : IsReplanned m e (draft_state (seen m) d) sources d.graph d.name written
+
+module _ (m : KeptMap) (keeps : IsKept m) (d : Draft) where
+  abbrev Drafts : WholeEdit → Change → Type 0
+  Drafts e change = IsDraftOf m e d.name change d.graph d.labels d.symbols
+
+  abbrev sources_with : Change → List Name
+  sources_with change = sources_after m.sources.names.keys d.name change
+
+  abbrev made_by : Change → WholeState
+  made_by change = state_after (seen m) d.name change d.labels d.symbols
+
+  asked_as : (change : Change) (shift : Shift) (sources : List Name) (written : List Flat) → d.change ≡ change → sources ≡ sources_with change → written ≡ flats_written change
+      → ((e : WholeEdit) → Drafts e change → IsSetUp m e (made_by change) shift (sources_with change)) → (e : WholeEdit) → IsDraft m e d → IsAsked m e d shift sources written
+  asked_as change shift sources written is names flats set_up e draft =
+      let drafted = subst (Drafts e) is draft in
+      let planned = draft_replanned m keeps e d change drafted in
+      subst (λ (q : Change). IsAsked m e (record d { change = q }) shift sources written) (sym is) (record {
+        names = names;
+        set_up = subst (IsSetUp m e (made_by change) shift) (sym names) (set_up e drafted);
+        replanned = subst (λ ks. IsReplanned m e (made_by change) ks d.graph d.name written) (sym names) (subst (IsReplanned m e (made_by change) (sources_with change) d.graph d.name) (sym flats) planned);
+      })
+
+  pub source_asked : (key : Name) (layer : LayerState) (place : Option ℕ) → d.change ≡ Source key layer place → (b : Bor LayerState) → b.now ≡ layer → (e : WholeEdit) → IsDraft m e d → IsAsked m e d (Loaded b) (m.sources.names.keys ++ d.name ∷ []) []
+  source_asked key layer place is b same = asked_as (Source key layer place) (Loaded b) (m.sources.names.keys ++ d.name ∷ []) [] is refl refl (λ e drafted. source_set_up m keeps e d key layer place drafted b same)
+
+  pub statement_asked : (written : Written) (flats : Vec Flat Global) (place : Option ℕ) → d.change ≡ Statement written flats place → (these : List Flat) → these ≡ flats.items → (e : WholeEdit) → IsDraft m e d → IsAsked m e d Nothing (names_with m.sources None) these
+  statement_asked written flats place is these same = asked_as (Statement written flats place) Nothing (names_with m.sources None) these is (append-nil m.sources.names.keys) same
+      (λ e drafted. left_up m keeps e d (Statement written flats place) drafted refl (λ grid def. absurd (drafted.fits.other grid def)))
+
+  pub out_asked : d.change ≡ Out → (e : WholeEdit) → IsDraft m e d → IsAsked m e d Nothing (names_with m.sources None) []
+  out_asked is = asked_as Out Nothing (names_with m.sources None) [] is (append-nil m.sources.names.keys) refl
+      (λ e drafted. left_up m keeps e d Out drafted refl (λ grid def. there m keeps e d Out drafted))
+
+module _ (m : KeptMap) (d : Draft) {shift : Shift} {sources : List Name} {written : List Flat} (asked : (e : WholeEdit) → IsDraft m e d → IsAsked m e d shift sources written) where
+  pub asked_for : (e : WholeEdit) × IsDraft m e d → (e : WholeEdit) × (t : WholeState) × IsSetUp m e t shift sources × IsReplanned m e t sources d.graph d.name written
+  asked_for draft = let a = asked draft.0 draft.1 in (draft.0, draft_state (seen m) d, a.set_up, a.replanned)
+
+  pub told : (Q : WholeEdit → WholeState → Type 0) → ((e : WholeEdit) (t : WholeState) → IsSetUp m e t shift sources → IsReplanned m e t sources d.graph d.name written → Q e t) → (e : WholeEdit) → IsDraft m e d → Q e (draft_state (seen m) d)
+  told Q tells e draft = let a = asked e draft in tells e (draft_state (seen m) d) a.set_up a.replanned
+
+  pub told_repaired : (r : Result Replanned Halt)
+      → ((e : WholeEdit) (t : WholeState) → IsSetUp m e t shift sources → IsReplanned m e t sources d.graph d.name written → IfOk r (λ p. IsPreparedFor m e t shift sources p.planned.names.keys p.planned.steps.items p.prepared))
+      → (e : WholeEdit) → IsDraft m e d → IfOk r (λ p. IsRepairedFor m e d p.planned p.prepared)
+  told_repaired (Err halt) tells e draft = tt
+  told_repaired (Ok p) tells e draft =
+      let a = asked e draft in
+      let ready = tells e (draft_state (seen m) d) a.set_up a.replanned in
+      record {
+        shift = shift;
+        set_up = subst (IsSetUp m e (draft_state (seen m) d) shift) a.names a.set_up;
+        ready = subst (λ ks. IsPreparedFor m e (draft_state (seen m) d) shift ks p.planned.names.keys p.planned.steps.items p.prepared) a.names ready;
+      }

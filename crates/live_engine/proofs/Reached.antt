@@ -1,5 +1,5 @@
 -- Parts of a state that the engine may have: those of a map, and those that are put back.
-use Rattle.std.proofs.Common.{◌≡◌, ◌∙◌}
+use Rattle.std.proofs.Common.{◌∙◌}
 use Rattle.map_nums.specs.Counts.{raised}
 use Rattle.map_edits.specs.Edits.{with_entries}
 use Rattle.map_edits.specs.GroupLaws.{IsLawful, IsSaid}

@@ -32,14 +32,5 @@ module _ (s t : WholeState) (e : WholeEdit) (tried : attempted s e ≡ Ok t) whe
 
 -- whatever the edit, what is put back among them
 pub refused_stays : (s t : WholeState) (e : WholeEdit) (r : refused.Refusal) → Refuses s t e r → t ≡ s
-refused_stays s t e (a_refusal.Unknown n) is = is.1
-refused_stays s t e (a_refusal.Derived n) is = is.1
-refused_stays s t e (a_refusal.Exists n) is = is.1
-refused_stays s t e (a_refusal.Size rows columns) is = is.1
-refused_stays s t e (a_refusal.Limit which) is = is.1
-refused_stays s t e (a_refusal.Cycle n) is = is.1
-refused_stays s t e (a_refusal.Viewers n count) is = is.1
-refused_stays s t e (a_refusal.Overflow n row column) is = is.1
-refused_stays s t e (a_refusal.NoProcedure n) is = is.1
-refused_stays s t e (a_refusal.Terms given wanted) is = is.1
 refused_stays s t e a_refusal.NoMemory is = is
+refused_stays s t e r is = is.1

@@ -40,7 +40,7 @@ use Rattle.kept_map.proofs.Naming.{placed_item, item_source, source_def}
 use Rattle.kept_map.proofs.SourceLayers.{source_at, source_whole}
 use Rattle.live_engine.specs.Inverses.{with_tiles, repainted, back, past_of, AreReached, SuitsTiles, Fits, TakesBack}
 use Rattle.live_engine.specs.Painting.{rectangle_of}
-use Rattle.live_engine.specs.Repainting.{repainted_state, IsRepaintOf, HadTiles}
+use Rattle.live_engine.specs.Repainting.{repainted_state, IsRepaintOf}
 use Rattle.live_engine.specs.declared.inverses.Inverse.TheVariants as inverses
 use Rattle.live_engine.specs.declared.repainting.Repaint.{Repaint}
 use Rattle.live_engine.proofs.Reached.{kept_reached, reached_lawful, reached_said}
@@ -112,7 +112,8 @@ module _ (s : Size) (cells : Cells) (held : List (ℕ × Block)) (size : IsSize 
 
 -- ---- the tiles that a repainted source had
 
-module _ (m : KeptMap) (keeps : IsKept m) (e : WholeEdit) (grid : Grid) (d : Repaint) (is : IsRepaintOf m e grid d) (taken : PatchState) (had : HadTiles m is.place d.patch taken) where
+module _ (m : KeptMap) (keeps : IsKept m) (e : WholeEdit) (grid : Grid) (d : Repaint) (is : IsRepaintOf m e grid d) (taken : PatchState)
+    (taken_is : taken ≡ record { size = d.patch.size; tiles = tiles_at is.layer.size is.layer.cells d.patch.tiles }) where
   abbrev l : LayerState
   l = is.layer
 
@@ -127,9 +128,6 @@ module _ (m : KeptMap) (keeps : IsKept m) (e : WholeEdit) (grid : Grid) (d : Rep
 
   whole : (l.size ≡ m.extent) × IsLayer l
   whole = source_whole m.sources d.name (names_in m) l keeps.sources found
-
-  taken_is : taken ≡ record { size = d.patch.size; tiles = tiles_at l.size l.cells d.patch.tiles }
-  taken_is = had l is.there
 
   -- the source has its own grid again
   source_back : source (with_tiles grid taken) ≡ source (grid_of l)

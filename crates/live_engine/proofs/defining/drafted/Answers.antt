@@ -1,45 +1,24 @@
-use Rattle.std.proofs.Common.{List, Some, None, Ok, Err, IsTrue, refl, sym, subst}
-use Rattle.map_defs.specs.Ops.{Name}
-use Rattle.map_defs.specs.Nodes.{Node}
-use Rattle.map_defs.specs.Depths.{is_looped}
+use Rattle.std.proofs.Common.{List, Some, None, Ok, Err, sym, subst}
 use Rattle.statement_parser.specs.Views.{written_view}
-use Rattle.statement_parser.specs.declared.line.Written.{Written}
 use Rattle.procedure_expand.specs.declared.flat.Flat.{Flat}
 use Rattle.procedure_expand.specs.Flats.{flats_view}
-use Rattle.statement_graph.specs.Groups.{nodes_in, put_group}
 use Rattle.statement_graph.specs.Puts.{FitsAs}
-use Rattle.statement_graph.specs.declared.refusal.GraphRefusal.{GraphRefusal}
-use Rattle.statement_graph.specs.declared.refusal.GraphRefusal.TheVariants.{Cycle, NoMemory}
 use Rattle.kept_map.specs.Groups.{statement_nodes, IsGraphWith}
 use Rattle.kept_map.specs.Maps.{source_in, seen}
-use Rattle.kept_map.specs.declared.maps.KeptMap.{KeptMap}
 use Rattle.live_engine.specs.Accepts.{Refuses}
 use Rattle.live_engine.specs.Counting.{IsBeyond}
 use Rattle.live_engine.specs.Defining.{defines, entries_with_it, not_put}
 use Rattle.live_engine.specs.declared.edits.Refusal.{Refusal}
-use Rattle.live_engine.specs.declared.edits.Refusal.TheVariants as refusals
-use Rattle.live_engine.proofs.StatementEntries.{defined_source, other_kind, stands_for_none, defined_beyond, fits_graph, defined_cycle, defined_draft}
+use Rattle.live_engine.proofs.Drafting.{defined_source, other_kind, stands_for_none, defined_beyond, fits_graph, defined_not_put, defined_draft}
 use Rattle.live_engine.proofs.defining.drafted.Goals as goal
 
--- the graph doesn't take the statement
-refused_put : (m : KeptMap) (n : Name) (w : Written) (nodes : List Node) → (IsTrue (is_looped (nodes_in (put_group m.graph n nodes)) n) → Refuses (seen m) (seen m) (defines n w) (refusals.Cycle n))
-    → (r : GraphRefusal) → IsGraphWith m.graph n nodes (Err r) → Refuses (seen m) (seen m) (defines n w) (not_put n r)
-refused_put m n w nodes loops Cycle looped = loops looped
-refused_put m n w nodes loops NoMemory is = refl
-
 pub returns-in-Source-clause-drafted : goal.returns-in-Source-clause-drafted
-returns-in-Source-clause-drafted c =
-    let m = c.args.map.now in
-    let n = c.args.name in
-    let w = c.args.written in
-    defined_source m c.requires.kept n w c.in-Source.ensures
+returns-in-Source-clause-drafted c = defined_source c.args.map.now c.requires.kept c.args.name c.args.written c.in-Source.ensures
 
 pub returns-in-Err-clause-drafted : goal.returns-in-Err-clause-drafted
 returns-in-Err-clause-drafted c =
-    let m = c.args.map.now in
-    let n = c.args.name in
-    let w = c.args.written in
-    stands_for_none m c.requires.kept n w (other_kind m c.requires.kept n w c.kind_of.result c.kind_of.ensures c.in_default.not-Source) c.in-Err.refusal c.in-Err.ensures.flats
+    let other = other_kind c.args.map.now c.requires.kept c.args.name c.args.written c.kind_of.result c.kind_of.ensures c.in_default.not-Source in
+    stands_for_none c.args.map.now c.requires.kept c.args.name c.args.written other c.in-Err.refusal c.in-Err.ensures.flats
 
 pub returns-in-Some-clause-drafted : goal.returns-in-Some-clause-drafted
 returns-in-Some-clause-drafted c =
@@ -71,7 +50,7 @@ returns-in-Err-with_statement c =
     record {
       room = tt;
       drafted = subst (λ (q : Refusal). Refuses (seen m) (seen m) (defines n w) q) (sym c.not_put.ensures)
-          (refused_put m n w (statement_nodes (flats_view c.in-Ok.flats.items)) (defined_cycle m c.requires.kept n w other c.in-Ok.flats.items c.in-Ok.ensures.flats.0 few) c.in-Err-with_statement.refusal refused);
+          (defined_not_put m c.requires.kept n w other c.in-Ok.flats.items c.in-Ok.ensures.flats.0 few c.in-Err-with_statement.refusal refused);
     }
 
 pub returns-in-Ok-with_statement : goal.returns-in-Ok-with_statement

@@ -3,14 +3,12 @@ use Rattle.map_edits.specs.Marks.{drop_marks}
 use Rattle.map_edits.specs.Refusals.{unknown}
 use Rattle.kept_map.specs.Maps.{seen}
 use Rattle.live_engine.specs.Dropping.{drops}
-use Rattle.live_engine.proofs.DroppedStates.{drop_unknown, without_it, dropped_draft}
+use Rattle.live_engine.proofs.Drafting.{without_it, dropped_draft}
 use Rattle.live_engine.proofs.Refusing.{accept_refused}
 use Rattle.live_engine.proofs.dropping.drafted.Goals as goal
 
 pub returns-then-not-has-clause-drafted : goal.returns-then-not-has-clause-drafted
-returns-then-not-has-clause-drafted c =
-    let s = seen c.args.map.now in
-    (accept_refused s (drops c.args.name) (unknown c.args.name) (drop_unknown s c.args.name (sym c.has.ensures ∙ c.if-not-has.true)), refl)
+returns-then-not-has-clause-drafted c = (accept_refused (seen c.args.map.now) (drops c.args.name) (unknown c.args.name) (rw (sym c.has.ensures ∙ c.if-not-has.true) refl), refl)
 
 pub returns-clause-drafted : goal.returns-clause-drafted
 returns-clause-drafted c =

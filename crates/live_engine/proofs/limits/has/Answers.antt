@@ -1,6 +1,6 @@
 use Rattle.std.proofs.Common.{◌∙◌}
 use Rattle.kept_map.specs.Maps.{source_in}
-use Rattle.live_engine.proofs.Standings.{has_at}
+use Rattle.live_engine.proofs.Counted.{has_at}
 use Rattle.live_engine.proofs.limits.has.Goals as goal
 
 pub returns : goal.returns

@@ -3,7 +3,7 @@ use Rattle.std.specs.Option.{option_copied}
 use Rattle.std.specs.Map.{lookup}
 use Rattle.kept_map.specs.Maps.{source_in}
 use Rattle.kept_map.specs.declared.maps.Item.TheVariants.{Source, Statement}
-use Rattle.live_engine.proofs.Standings.{kind_at}
+use Rattle.live_engine.proofs.Counted.{kind_at}
 use Rattle.live_engine.proofs.limits.kind_of.Goals as goal
 
 pub returns-in-None : goal.returns-in-None

@@ -1,6 +1,6 @@
 use Rattle.std.proofs.Common.{◌∙◌}
 use Rattle.kept_map.specs.Maps.{source_in}
-use Rattle.live_engine.proofs.Standings.{count_items}
+use Rattle.live_engine.proofs.Counted.{count_items}
 use Rattle.live_engine.proofs.limits.sources.Goals as goal
 
 pub returns : goal.returns

@@ -8,20 +8,18 @@ use Rattle.live_engine.specs.Notes.{edit_of_note}
 use Rattle.live_engine.proofs.Noted.{is_noted, count_kept, count_accepted, note_beside, note_back}
 use Rattle.live_engine.proofs.noting.take_note.Goals as goal
 
-pub returns-clause-accepts : goal.returns-clause-accepts
-returns-clause-accepts c =
+pub returns : goal.returns
+returns c =
     let m = c.args.map.now in
     let note = c.args.note in
     let kept = c.requires.kept in
     let is = note_beside m note kept c.requires.may in
     let put = c.in_ok-before.ensures in
-    let new = is_noted m _ _ kept is c.put.new.map c.count.new.map put.0 c.count.ensures.map in (
-      count_accepted m _ _ kept is c.put.new.map c.count.new.map put.0 c.count.ensures.map c.count.result c.count.ensures.number c.count.ensures.counts,
-      subst (λ (x : KeptMap). TakesBack (seen m) (seen x) (touch_of (edit_of_note note)) c.in_ok-before.before) (sym new) (note_back m note c.in_ok-before.before (raised m.number 1) kept put.1),
-    )
-
-pub returns-clause-kept : goal.returns-clause-kept
-returns-clause-kept c =
-    let m = c.args.map.now in
-    let kept = c.requires.kept in
-    count_kept m _ _ kept (note_beside m c.args.note kept c.requires.may) c.put.new.map c.count.new.map c.in_ok-before.ensures.0 c.count.ensures.map
+    let new = is_noted m _ _ kept is c.put.new.map c.count.new.map put.0 c.count.ensures.map in
+    record {
+      accepts = (
+        count_accepted m _ _ kept is c.put.new.map c.count.new.map put.0 c.count.ensures.map c.count.result c.count.ensures.number c.count.ensures.counts,
+        subst (λ (x : KeptMap). TakesBack (seen m) (seen x) (touch_of (edit_of_note note)) c.in_ok-before.before) (sym new) (note_back m note c.in_ok-before.before (raised m.number 1) kept put.1),
+      );
+      kept = count_kept m _ _ kept is c.put.new.map c.count.new.map put.0 c.count.ensures.map;
+    }

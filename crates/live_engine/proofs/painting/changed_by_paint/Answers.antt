@@ -6,7 +6,7 @@ use Rattle.map_waves.specs.Operands.{IsOperand}
 use Rattle.layer_tiles.proofs.Rising.{rises_within, rises_looked}
 use Rattle.live_engine.specs.Painting.{rectangle_of, met_tiles}
 use Rattle.live_engine.proofs.MetTiles.{met_numbers}
-use Rattle.live_engine.proofs.Exact.{left_cells, left_operand}
+use Rattle.live_engine.proofs.PaintedTiles.{left_cells, left_operand}
 use Rattle.live_engine.proofs.painting.changed_by_paint.Goals as goal
 
 pub returns-clause-cells : goal.returns-clause-cells
@@ -27,14 +27,14 @@ pub returns-clause-met : goal.returns-clause-met
 returns-clause-met g c =
     let s = c.args.layer.now.size in
     let e = c.in_ok-patch.ensures in
-    c.len-met.ensures.len ∙ met_numbers s (rectangle_of c.args.rectangle) c.in_ok-patch.patch c.extent-patch.ensures.patch e.size (λ t. (e.met t).0) (λ t. (e.met t).1)
+    c.len-met.ensures.len ∙ met_numbers s (rectangle_of c.args.rectangle) c.in_ok-patch.patch c.extent-patch.ensures.patch e.size e.met
 
 pub returns-clause-tally : goal.returns-clause-tally
 returns-clause-tally g c =
     let s = c.args.layer.now.size in
     let e = c.in_ok-patch.ensures in
     let count = length (met_tiles s (rectangle_of c.args.rectangle)) in
-    let tiles = met_numbers s (rectangle_of c.args.rectangle) c.in_ok-patch.patch c.extent-patch.ensures.patch e.size (λ t. (e.met t).0) (λ t. (e.met t).1) in
+    let tiles = met_numbers s (rectangle_of c.args.rectangle) c.in_ok-patch.patch c.extent-patch.ensures.patch e.size e.met in
     rises_within (count + 2 * length c.in_ok-patch.patch.tiles) 0 (3 * count) 0 _ _ (omega (arith, tiles)) (omega arith) (rises_looked count 0 (2 * length c.in_ok-patch.patch.tiles) _ _ _ c.painted_tiles.ensures.tally c.narrow.ensures.looks)
 
 pub returns-in_err-patch-clause-tally : goal.returns-in_err-patch-clause-tally

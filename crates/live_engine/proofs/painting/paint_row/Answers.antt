@@ -1,6 +1,6 @@
 use Rattle.std.proofs.Common.{arith}
 use Rattle.live_engine.specs.Painting.{rectangle_of}
-use Rattle.live_engine.proofs.Painted.{painted_more}
+use Rattle.live_engine.proofs.PaintedTiles.{painted_more}
 use Rattle.live_engine.proofs.painting.paint_row.Goals as goal
 
 pub loop-c-preserved : goal.loop-c-preserved

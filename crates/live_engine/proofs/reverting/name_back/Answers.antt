@@ -10,7 +10,7 @@ use Rattle.live_engine.specs.Drafts.{IsDraft}
 use Rattle.live_engine.specs.Inverses.{Fits, past_of}
 use Rattle.live_engine.specs.declared.drafts.Draft.{Draft}
 use Rattle.live_engine.specs.declared.inverses.Inverse.TheVariants as inverses
-use Rattle.live_engine.proofs.Putting.{back_draft}
+use Rattle.live_engine.proofs.Backs.{back_draft}
 use Rattle.live_engine.proofs.Refusing.{refused_stays}
 use Rattle.live_engine.proofs.reverting.name_back.Goals as goal
 
@@ -25,35 +25,25 @@ same_draft m roomy d same keeps fits =
 
 pub carry-requires-clause-draft : goal.carry-requires-clause-draft
 carry-requires-clause-draft g c κs within =
-    let m = c.args.map.now in
-    let d = c.args.draft in
-    (back_of m d, same_draft m c.reserve.new.self d c.reserve.ensures.seen (c.reserve.ensures.kept c.requires.kept) c.requires.fits)
+    (back_of c.args.map.now c.args.draft, same_draft c.args.map.now c.reserve.new.self c.args.draft c.reserve.ensures.seen (c.reserve.ensures.kept c.requires.kept) c.requires.fits)
 
 pub returns-in-Ok-clause-reverted : goal.returns-in-Ok-clause-reverted
 returns-in-Ok-clause-reverted g c =
-    let m = c.args.map.now in
-    let d = c.args.draft in
-    let is = same_draft m c.reserve.new.self d c.reserve.ensures.seen (c.reserve.ensures.kept c.requires.kept) c.requires.fits in
-    subst (λ s. Accepts s (seen c.carry.new.map) (back_of m d) (Ok c.in-Ok.accepted)) c.reserve.ensures.seen (c.in-Ok.ensures.carried (back_of m d) is)
+    let is = same_draft c.args.map.now c.reserve.new.self c.args.draft c.reserve.ensures.seen (c.reserve.ensures.kept c.requires.kept) c.requires.fits in
+    subst (λ s. Accepts s (seen c.carry.new.map) (back_of c.args.map.now c.args.draft) (Ok c.in-Ok.accepted)) c.reserve.ensures.seen (c.in-Ok.ensures.carried _ is)
 
 pub returns-in-Ok-clause-reads : goal.returns-in-Ok-clause-reads
 returns-in-Ok-clause-reads g c =
-    let m = c.args.map.now in
-    let d = c.args.draft in
-    let is = same_draft m c.reserve.new.self d c.reserve.ensures.seen (c.reserve.ensures.kept c.requires.kept) c.requires.fits in
-    subst (λ s. ReadsWithin s (back_of m d) (g.M.Tally.counts c.args.tally.now) (g.M.Tally.counts c.carry.new.tally)) c.reserve.ensures.seen (c.carry.ensures.reads (back_of m d) is)
+    let is = same_draft c.args.map.now c.reserve.new.self c.args.draft c.reserve.ensures.seen (c.reserve.ensures.kept c.requires.kept) c.requires.fits in
+    subst (λ s. ReadsWithin s (back_of c.args.map.now c.args.draft) (g.M.Tally.counts c.args.tally.now) (g.M.Tally.counts c.carry.new.tally)) c.reserve.ensures.seen (c.carry.ensures.reads _ is)
 
 pub returns-clause-reverted : goal.returns-clause-reverted
 returns-clause-reverted g c =
-    let m = c.args.map.now in
-    let d = c.args.draft in
-    let is = same_draft m c.reserve.new.self d c.reserve.ensures.seen (c.reserve.ensures.kept c.requires.kept) c.requires.fits in
-    let left = c.in-Err.ensures.carried (back_of m d) is in
-    (ap (λ q. inverses.Name q) left.0, refused_stays (seen c.reserve.new.self) (seen c.carry.new.map) (back_of m d) c.in-Err.left.refusal left.1 ∙ c.reserve.ensures.seen)
+    let is = same_draft c.args.map.now c.reserve.new.self c.args.draft c.reserve.ensures.seen (c.reserve.ensures.kept c.requires.kept) c.requires.fits in
+    let left = c.in-Err.ensures.carried _ is in
+    (ap (λ q. inverses.Name q) left.0, refused_stays (seen c.reserve.new.self) (seen c.carry.new.map) _ c.in-Err.left.refusal left.1 ∙ c.reserve.ensures.seen)
 
 pub returns-clause-reads : goal.returns-clause-reads
 returns-clause-reads g c =
-    let m = c.args.map.now in
-    let d = c.args.draft in
-    let is = same_draft m c.reserve.new.self d c.reserve.ensures.seen (c.reserve.ensures.kept c.requires.kept) c.requires.fits in
-    subst (λ s. ReadsWithin s (back_of m d) (g.M.Tally.counts c.args.tally.now) (g.M.Tally.counts c.carry.new.tally)) c.reserve.ensures.seen (c.carry.ensures.reads (back_of m d) is)
+    let is = same_draft c.args.map.now c.reserve.new.self c.args.draft c.reserve.ensures.seen (c.reserve.ensures.kept c.requires.kept) c.requires.fits in
+    subst (λ s. ReadsWithin s (back_of c.args.map.now c.args.draft) (g.M.Tally.counts c.args.tally.now) (g.M.Tally.counts c.carry.new.tally)) c.reserve.ensures.seen (c.carry.ensures.reads _ is)

@@ -1,10 +1,8 @@
 use Rattle.std.proofs.Common.{ap}
-use Rattle.map_nums.specs.Grids.{Grid}
 use Rattle.map_edits.specs.Pasts.{parts_of}
-use Rattle.map_edits.specs.WholeEdits.{WholeEdit, put_back}
+use Rattle.map_edits.specs.WholeEdits.{put_back}
 use Rattle.kept_map.specs.Maps.{seen}
 use Rattle.live_engine.specs.Inverses.{past_of}
-use Rattle.live_engine.specs.Repainting.{repainted_state, IsRepaintOf}
 use Rattle.live_engine.specs.declared.inverses.Inverse.TheVariants as inverses
 use Rattle.live_engine.proofs.Accepting.{reads_by_rest}
 use Rattle.live_engine.proofs.Refusing.{refused_stays}
@@ -12,36 +10,25 @@ use Rattle.live_engine.proofs.TileBacks.{back_repaint}
 use Rattle.live_engine.proofs.reverting.tiles_back.Goals as goal
 
 pub carry-requires-clause-draft : goal.carry-requires-clause-draft
-carry-requires-clause-draft g c =
-    let m = c.args.map.now in
-    let d = c.args.repaint in
-    let e = put_back (past_of (inverses.Tiles d) (parts_of (seen m))) in
-    let r = back_repaint m c.requires.kept d c.requires.fits in
-    let draft : (f : WholeEdit) × (grid : Grid) × IsRepaintOf m f grid d = (e, r.0, r.1) in
-    λ κs within. draft
+carry-requires-clause-draft g c κs within =
+    let r = back_repaint c.args.map.now c.requires.kept c.args.repaint c.requires.fits in
+    (put_back (past_of (inverses.Tiles c.args.repaint) (parts_of (seen c.args.map.now))), r.0, r.1)
 
 pub returns-in-Ok-clause-reverted : goal.returns-in-Ok-clause-reverted
 returns-in-Ok-clause-reverted g c = let r = back_repaint c.args.map.now c.requires.kept c.args.repaint c.requires.fits in c.in-Ok.ensures.carried _ r.0 r.1
 
 pub returns-in-Ok-clause-reads : goal.returns-in-Ok-clause-reads
 returns-in-Ok-clause-reads g c =
-    let m = c.args.map.now in
-    let d = c.args.repaint in
-    let r = back_repaint m c.requires.kept d c.requires.fits in
-    let e = put_back (past_of (inverses.Tiles d) (parts_of (seen m))) in
-    reads_by_rest m e (repainted_state (seen m) d.name r.0) _ _ (c.carry.ensures.reads e r.0 r.1)
+    let r = back_repaint c.args.map.now c.requires.kept c.args.repaint c.requires.fits in
+    reads_by_rest c.args.map.now _ _ _ _ (c.carry.ensures.reads _ r.0 r.1)
 
 pub returns-clause-reverted : goal.returns-clause-reverted
 returns-clause-reverted g c =
-    let m = c.args.map.now in
-    let r = back_repaint m c.requires.kept c.args.repaint c.requires.fits in
+    let r = back_repaint c.args.map.now c.requires.kept c.args.repaint c.requires.fits in
     let left = c.in-Err.ensures.carried _ r.0 r.1 in
-    (ap inverses.Tiles left.0, refused_stays (seen m) (seen c.carry.new.map) _ c.in-Err.left.refusal left.1)
+    (ap inverses.Tiles left.0, refused_stays (seen c.args.map.now) (seen c.carry.new.map) _ c.in-Err.left.refusal left.1)
 
 pub returns-clause-reads : goal.returns-clause-reads
 returns-clause-reads g c =
-    let m = c.args.map.now in
-    let d = c.args.repaint in
-    let r = back_repaint m c.requires.kept d c.requires.fits in
-    let e = put_back (past_of (inverses.Tiles d) (parts_of (seen m))) in
-    reads_by_rest m e (repainted_state (seen m) d.name r.0) _ _ (c.carry.ensures.reads e r.0 r.1)
+    let r = back_repaint c.args.map.now c.requires.kept c.args.repaint c.requires.fits in
+    reads_by_rest c.args.map.now _ _ _ _ (c.carry.ensures.reads _ r.0 r.1)
