@@ -1,8 +1,8 @@
 -- A map whose edit is put in place is kept again, and is seen as the state that the edit makes.
-use Rattle.std.proofs.Common.{◌≡◌, ℕ, true, List, length, Option, Some, None, is_some, option_map, slice_get, refl, sym, ap, subst, ◌∙◌, ◌≤◌, Bool, false, cond, [], ◌∷◌, map, filter, count_by, position, unwrap_or, bytes_eq, Ok}
+use Rattle.std.proofs.Common.{◌≡◌, ℕ, true, List, length, Option, Some, None, is_some, option_map, slice_get, refl, sym, ap, subst, ◌∙◌, ◌≤◌, Bool, inl, inr, [], ◌∷◌, map, filter, count_by, position, unwrap_or, bytes_eq, Ok}
 use Rattle.std.proofs.lemmas.List.{length-replicate}
 use Rattle.std.specs.List.{list_any}
-use Rattle.std.proofs.lemmas.Bool.{false≢true}
+use Rattle.std.proofs.lemmas.Bool.{false≢true, cases_Bool}
 use Rattle.map_nums.specs.Counts.{raised}
 use Rattle.map_nums.specs.Grids.{Size, IsSize, Cells, Grid, cells_in}
 use Rattle.map_defs.specs.Ops.{Name, Op}
@@ -61,7 +61,7 @@ use Rattle.kept_map.specs.declared.repairing.Prepared.{Prepared}
 use Rattle.kept_map.proofs.LayersByName.{no_source, kept_step, layer_kept, stamps_found, source_there, layer_source, statement_listed}
 use Rattle.kept_map.proofs.Attempted.{attempt_counts}
 use Rattle.kept_map.proofs.Ready.{slot_kept, rest_planned}
-use Rattle.kept_map.proofs.Faults.{accepted, faultless_cells}
+use Rattle.kept_map.proofs.Allowed.{accepted, faultless_cells}
 
 -- what is in place of a statement: its grid after the edit, with the stamps after it
 pub record IsPlacedFor (m : KeptMap) (t : WholeState) (n : Name) (op : Op) (new : Kept Beside) : Type 0 where
@@ -75,11 +75,10 @@ pub record IsPlacedFor (m : KeptMap) (t : WholeState) (n : Name) (op : Op) (new 
 -- what is the same of each layer that is left by a test
 same_layers : (f g : LayerDef → Stamps) (q : LayerDef → Bool) (P : LayerDef → Type 0) → ((l : LayerDef) → P l → q l ≡ true → f l ≡ g l) → (ls : List LayerDef) → EachLayer P ls → map f (filter q ls) ≡ map g (filter q ls)
 same_layers f g q P same [] each = refl
-same_layers f g q P same (l ∷ ls) each = go (q l) refl (same_layers f g q P same ls each.1)
-  where
-    go : (b : Bool) → q l ≡ b → map f (filter q ls) ≡ map g (filter q ls) → map f (cond b (l ∷ filter q ls) (filter q ls)) ≡ map g (cond b (l ∷ filter q ls) (filter q ls))
-    go true h rest = ap (λ x. x ∷ map f (filter q ls)) (same l each.0 h) ∙ ap (λ xs. g l ∷ xs) rest
-    go false h rest = rest
+same_layers f g q P same (l ∷ ls) each = elim (cases_Bool (q l)) [
+  | inl h ↦ rw h (ap (λ x. x ∷ map f (filter q ls)) (same l each.0 h) ∙ ap (λ xs. g l ∷ xs) (same_layers f g q P same ls each.1))
+  | inr h ↦ rw h (same_layers f g q P same ls each.1)
+]
 
 module _ (m m' : KeptMap) (e : WholeEdit) (t : WholeState) (shift : Shift) (sources names : List Name) (steps : List (Step Given)) (made : List (Option (Made Beside))) (kept : IsKept m) (set_up : IsSetUp m e t shift sources)
     (under : IsUnder m e t shift sources names steps) (faultless : fault_after e t ≡ None) (count : length made ≡ length steps) (are_made : AreMadeOf m shift steps made) (new : IsCommitted m m' t names steps made) where
@@ -113,13 +112,6 @@ module _ (m m' : KeptMap) (e : WholeEdit) (t : WholeState) (shift : Shift) (sour
     step_for : IsStepFor (touch_of e) (names_in m) t.names (p.step k) sources names k n
     step_for = under.plan.steps k n at
 
-    was_is : was_of own ≡ cells_of (names_in m) n
-    was_is = ap (λ (d : StepDef). d.was) (sym step_is) ∙ step_for.was
-
-    operands_are : operands_in t.names (p.step k).op ≡ cells_after (operands_at p k)
-    operands_are = all_each (term_cells t.names.size (value_of t.names)) (p.step k).op.terms (cells_after (operands_at p k))
-        (operands_made (touch_of e) (names_in m) t.names p sources names under.plan orderly.none_looped k n at)
-
     -- ---- what was kept
 
     -- it is what is kept under the name
@@ -146,7 +138,8 @@ module _ (m m' : KeptMap) (e : WholeEdit) (t : WholeState) (shift : Shift) (sour
 
       beside_is : suits t.names.size (op_view x.op) (operands_in t.names (op_view x.op)) now.beside
       beside_is = subst (λ (o : Op). suits t.names.size o (operands_in t.names o) now.beside) (ap (λ (d : StepDef). d.op) step_is)
-          (subst (λ (os : List Cells). suits t.names.size (p.step k).op os now.beside) (sym operands_are)
+          (subst (λ (os : List Cells). suits t.names.size (p.step k).op os now.beside) (sym (all_each (term_cells t.names.size (value_of t.names)) (p.step k).op.terms (cells_after (operands_at p k))
+          (operands_made (touch_of e) (names_in m) t.names p sources names under.plan orderly.none_looped k n at)))
           (subst (λ (s : Size). suits s (p.step k).op (cells_after (operands_at p k)) now.beside) under.plan.size right.beside))
 
       stamp_count : length now.layer.stamps ≡ tiles_in now.layer.size
@@ -164,29 +157,23 @@ module _ (m m' : KeptMap) (e : WholeEdit) (t : WholeState) (shift : Shift) (sour
         stamps = stamp_count;
       }
 
-      -- a statement that was undefined
-      fresh_stamps : own ≡ None → IsPlacedLayer {B = Beside} None (shown m.extent own r) (raised m.number 1) now.layer → now.layer.stamps ≡ stamps_at (seen m) t n
-      fresh_stamps is layer =
-          ap (λ (l : LayerState). l.stamps) layer
-          ∙ ap (λ s. (layer_of s now.layer.cells (raised m.number 1)).stamps) (ap (λ (c : ChangeState). c.size) prepared.change ∙ under.plan.size)
-          ∙ ap (λ j. (layer_of t.names.size now.layer.cells j).stamps) (sym number)
-          ∙ new_is_stamped (seen m) t n now.layer.cells (sym was_is ∙ ap (λ (o : Option (Kept Beside)). was_of o) is)
-
-      -- one that was kept
-      kept_stamps : (old : Kept Beside) → own ≡ Some old → IsPlacedLayer (Some old) (shown m.extent own r) (raised m.number 1) now.layer → now.layer.stamps ≡ stamps_at (seen m) t n
-      kept_stamps old is layer =
-          let was = was_kept old is in
-          let size : old.layer.size ≡ t.names.size = was.size ∙ under.plan.size in
-          old_is_stamped (seen m) t n old.layer.cells now.layer.cells old.layer.stamps now.layer.stamps (subst (λ s. IsSize s) size was.whole.size) was.value value_is (old_stamps old is)
-          (subst (λ s. IsStamped s old.layer.cells now.layer.cells t.names.number old.layer.stamps now.layer.stamps) size
-          (subst (λ j. IsStamped old.layer.size old.layer.cells now.layer.cells j old.layer.stamps now.layer.stamps) (sym number) layer.2))
-
       stamps_are : now.layer.stamps ≡ stamps_at (seen m) t n
       stamps_are = go own refl placed.layer
         where
           go : (o : Option (Kept Beside)) → own ≡ o → IsPlacedLayer o (shown m.extent own r) (raised m.number 1) now.layer → now.layer.stamps ≡ stamps_at (seen m) t n
-          go None is layer = fresh_stamps is layer
-          go (Some old) is layer = kept_stamps old is layer
+          -- a statement that was undefined
+          go None is layer =
+              ap (λ (l : LayerState). l.stamps) layer
+              ∙ ap (λ s. (layer_of s now.layer.cells (raised m.number 1)).stamps) (ap (λ (c : ChangeState). c.size) prepared.change ∙ under.plan.size)
+              ∙ ap (λ j. (layer_of t.names.size now.layer.cells j).stamps) (sym number)
+              ∙ new_is_stamped (seen m) t n now.layer.cells (sym (ap (λ (d : StepDef). d.was) (sym step_is) ∙ step_for.was) ∙ ap (λ (o : Option (Kept Beside)). was_of o) is)
+          -- one that was kept
+          go (Some old) is layer =
+              let was = was_kept old is in
+              let size : old.layer.size ≡ t.names.size = was.size ∙ under.plan.size in
+              old_is_stamped (seen m) t n old.layer.cells now.layer.cells old.layer.stamps now.layer.stamps (subst (λ s. IsSize s) size was.whole.size) was.value value_is (old_stamps old is)
+              (subst (λ s. IsStamped s old.layer.cells now.layer.cells t.names.number old.layer.stamps now.layer.stamps) size
+              (subst (λ j. IsStamped old.layer.size old.layer.cells now.layer.cells j old.layer.stamps now.layer.stamps) (sym number) layer.2))
 
       pub placed_for : IsPlacedFor m t n (op_view x.op) now
       placed_for = record { making = step_for.making ∙ ap (λ (d : StepDef). Some (by_op d.op)) step_is; size = right.size ∙ under.plan.size; value = value_is; whole = layer_is; beside = beside_is; stamps = stamps_are }
@@ -227,12 +214,10 @@ module _ (m m' : KeptMap) (e : WholeEdit) (t : WholeState) (shift : Shift) (sour
 
   -- ---- all statements
 
-  planned : IsPlanned (nodes_of s.entries) m'.sources.names.keys (flats_of_steps names m'.planned.steps.items) names names m'.planned.steps.items
-  planned = rest_planned (nodes_of s.entries) (groups_once s.entries orderly.groups orderly.apart) m'.sources.names.keys names steps m'.planned.steps.items under.whole under.count new.plan_count under.depths new.rest
-
   kept_steps : AreKeptSteps s m'.sources.names.keys m'.planned m'.kept.items
   kept_steps = record {
-    planned_are = subst (λ ns. IsPlanned (nodes_of s.entries) m'.sources.names.keys (flats_of_steps ns m'.planned.steps.items) ns ns m'.planned.steps.items) (sym new.plan_names) planned;
+    planned_are = subst (λ ns. IsPlanned (nodes_of s.entries) m'.sources.names.keys (flats_of_steps ns m'.planned.steps.items) ns ns m'.planned.steps.items) (sym new.plan_names)
+        (rest_planned (nodes_of s.entries) (groups_once s.entries orderly.groups orderly.apart) m'.sources.names.keys names steps m'.planned.steps.items under.whole under.count new.plan_count under.depths new.rest);
     count = new.kept_count ∙ sym new.plan_count;
     each = λ k n y own at rested now. is_kept_step k n y own (ap (λ ns. slice_get ns k) (sym new.plan_names) ∙ at) rested now;
   }

@@ -1,5 +1,5 @@
--- A copy of a map has its views: maps of the same views are seen alike, and one is kept where the other is.
-use Rattle.std.proofs.Common.{◌≡◌, ℕ, zero, suc, ◌+◌, false, cond, ◌||◌, List, [], ◌∷◌, ◌++◌, map, take, Option, Some, slice_get, bytes_eq, refl, sym, ap, ◌∙◌, length, None, option_map, subst, ◌≤◌, count_by, position, is_some, IsTrue, get_or}
+-- A map without names is kept. A copy of a map has its views: maps of the same views are seen alike, and one is kept where the other is.
+use Rattle.std.proofs.Common.{◌≡◌, ℕ, zero, suc, ◌+◌, false, cond, ◌||◌, List, [], ◌∷◌, ◌++◌, map, take, Option, Some, slice_get, bytes_eq, refl, sym, ap, ◌∙◌, length, None, option_map, subst, ◌≤◌, count_by, position, is_some, IsTrue, get_or, arith}
 use Rattle.std.specs.List.{IsDistinct, list_any, All}
 use Rattle.std.specs.Map.{keys_of, lookup}
 use Rattle.std.proofs.lemmas.Bool.{true≢false}
@@ -30,7 +30,7 @@ use Rattle.map_edits.specs.Entries.{Def, source, statement, Entry}
 use Rattle.map_edits.specs.Faults.{fault_of}
 use Rattle.map_edits.specs.Limits.{is_source, is_flat, most_sources, most_flats}
 use Rattle.map_edits.specs.GroupLaws.{IsLawful}
-use Rattle.map_edits.specs.WholeStates.{WholeState}
+use Rattle.map_edits.specs.WholeStates.{WholeState, no_names}
 use Rattle.map_edits.proofs.Among.{bytes_eq-turned}
 use Rattle.map_waves.specs.declared.keeping.Kept.{Kept}
 use Rattle.map_waves.specs.declared.plans.Step.{Step}
@@ -52,6 +52,8 @@ use Rattle.kept_map.specs.Maps.{at_place, source_grid, def_by, entries_by, entri
 use Rattle.kept_map.specs.declared.maps.Item.TheVariants.{Source, Statement}
 use Rattle.kept_map.specs.declared.maps.KeptMap.{KeptMap}
 use Rattle.kept_map.proofs.EditedFlats.{flat_by, flat_is, flat_at}
+use Rattle.map_defs.specs.Depths.{by_depth}
+use Rattle.map_edits.proofs.LawfulValues.{none_is_lawful}
 
 -- ---- names
 
@@ -82,6 +84,7 @@ module _ (all : List (List ℕ × Item)) (apart : IsDistinct bytes_eq (keys_of a
 
   pub item_next : (n : Name) (item copy : Item) → slice_get all k ≡ Some (n, item) → item_view copy ≡ item_view item → items_view (insert_entry bytes_eq es n copy) ≡ items_view (take (k + 1) all)
   item_next n item copy at same =
+      let key_at = slice_get-map (λ (e : List ℕ × Item). e.0) all k ∙ ap (option_map (λ (e : List ℕ × Item). e.0)) at in
       let none : is_some (lookup (bytes_eq n) es) ≡ false = is_some-lookup (bytes_eq n) es ∙ ap (list_any (bytes_eq n)) same_keys ∙ none_before (keys_of all) apart k n key_at in
       let new : lookup (bytes_eq n) es ≡ None = none_where (lookup (bytes_eq n) es) (λ x is. true≢false (sym (ap is_some is) ∙ none)) in
       ap items_view (insert_entry-absent bytes_eq n copy es (absent_from_lookup (bytes_eq n) es new))
@@ -89,9 +92,6 @@ module _ (all : List (List ℕ × Item)) (apart : IsDistinct bytes_eq (keys_of a
       ∙ (λ j. so_far j ++ (n, same j) ∷ [])
       ∙ sym (map-append named_view (take k all) ((n, item) ∷ []))
       ∙ ap items_view (sym (taken_to all k (n, item) at))
-    where
-      key_at : slice_get (keys_of all) k ≡ Some n
-      key_at = slice_get-map (λ (e : List ℕ × Item). e.0) all k ∙ ap (option_map (λ (e : List ℕ × Item). e.0)) at
 
 -- ---- lists of the same views
 
@@ -201,9 +201,6 @@ seen_view m = ap (seen_with (map_view m)) (entries_view m.extent (source_in m.so
 
 -- ---- items
 
-ranged_alike : (f g : Flat) → flat_view g ≡ flat_view f → HasRanges (op_view f.op) → HasRanges (op_view g.op)
-ranged_alike f g same ranges = subst (λ (v : Meant). HasRanges v.op) (sym same) ranges
-
 item_alike : (i j : Item) → item_view j ≡ item_view i → IsItem i → IsItem j
 item_alike i Source same is = tt
 item_alike Source (Statement written flats) same is = absurd (cc)
@@ -211,7 +208,7 @@ item_alike (Statement written flats) (Statement w fs) same is =
     let own : StatementView = record { written = written_view w; flats = flats_view fs.items } in
     let other : StatementView = record { written = written_view written; flats = flats_view flats.items } in
     let views = same_Some own other same in
-    (subst (λ (v : StatementView). IsWritten v.written) (sym views) is.0, all_alike (λ (f : Flat). HasRanges (op_view f.op)) flat_view ranged_alike flats.items fs.items (ap (λ (v : StatementView). v.flats) views) is.1)
+    (subst (λ (v : StatementView). IsWritten v.written) (sym views) is.0, all_alike (λ (f : Flat). HasRanges (op_view f.op)) flat_view (λ f g same ranges. subst (λ (v : Meant). HasRanges v.op) (sym same) ranges) flats.items fs.items (ap (λ (v : StatementView). v.flats) views) is.1)
 
 named_one : (e f : List ℕ × Item) → named_view f ≡ named_view e → IsNamed e → IsNamed f
 named_one e f same is = (subst (λ (v : List ℕ × Option StatementView). IsTrue (is_plain v.0)) (sym same) is.0, item_alike e.1 f.1 (ap (λ (v : List ℕ × Option StatementView). v.1) same) is.1)
@@ -253,3 +250,35 @@ module _ (m b : KeptMap) (same : map_view b ≡ map_view m) where
 -- a map that has other room keeps what it keeps
 pub kept_stays : (m b : KeptMap) → b.names.entries ≡ m.names.entries → b.sources.names.keys ≡ m.sources.names.keys → b.sources.layers.items ≡ m.sources.layers.items → IsKept m → IsKept (record m { names = b.names; sources = b.sources })
 kept_stays m b names keys layers = kept_alike m (record m { names = b.names; sources = b.sources }) (λ j. record (map_view m) { items = items_view (names j); sources = keys j; layers = layers j })
+
+module _ (m : KeptMap) (names : m.names.entries ≡ []) (procedures : m.procedures ≡ []) (labels : m.labels ≡ []) (symbols : m.symbols ≡ []) (number : m.number ≡ 0) where
+  pub seen_empty : seen m ≡ no_names m.extent
+  seen_empty = rw (names, procedures, labels, symbols, number) refl
+
+  pub kept_empty : IsSize m.extent → m.graph ≡ [] → m.sources.names.keys ≡ [] → m.sources.layers.items ≡ [] → m.planned.names.keys ≡ [] → m.planned.steps.items ≡ [] → m.kept.items ≡ [] → IsKept m
+  unfolding by_depth fault_of IsDistinct
+  kept_empty size graph sources layers planned steps kept = record {
+    size = size;
+    named = rw names (λ k d h. absurd (omega arith));
+    formed = rw procedures (λ k d h. absurd (omega arith));
+    lawful = subst IsLawful (sym seen_empty) (none_is_lawful m.extent);
+    sources_few = rw names (omega arith);
+    flats_few = rw names (omega arith);
+    graph_is = rw (graph, names) refl;
+    faultless = ap (λ (s : WholeState). fault_of s.names) seen_empty;
+    sources = record {
+      stand = λ n. rw (sources, names) refl;
+      apart = rw sources tt;
+      count = rw (sources, layers) refl;
+      whole = rw layers (λ k d h. absurd (omega arith));
+    };
+    statements = record {
+      planned_are = record {
+        names_are = rw (planned, names) refl;
+        count = rw (steps, planned) refl;
+        each = λ k n x named at. absurd (none-some n (sym (ap (λ ns. slice_get ns k) planned) ∙ named));
+      };
+      count = rw (kept, steps) refl;
+      each = λ k n x own named at here. absurd (none-some n (sym (ap (λ ns. slice_get ns k) planned) ∙ named));
+    };
+  }

@@ -43,7 +43,7 @@ some_of : (o : Option FlatDef) (op : Op) → option_map op_of o ≡ Some (by_op 
 some_of None op e = absurd (none-some (by_op op) e)
 some_of (Some f) op e = (f, refl)
 
-lookup-append : (n : Name) (xs ys : List (List ℕ × FlatDef)) → lookup (bytes_eq n) (xs ++ ys) ≡ option_or (lookup (bytes_eq n) xs) (lookup (bytes_eq n) ys)
+pub lookup-append : (n : Name) (xs ys : List (List ℕ × FlatDef)) → lookup (bytes_eq n) (xs ++ ys) ≡ option_or (lookup (bytes_eq n) xs) (lookup (bytes_eq n) ys)
 lookup-append n [] ys = refl
 lookup-append n (x ∷ xs) ys = elim (cases_Bool (bytes_eq n x.0)) [ inl h ↦ rw h refl | inr h ↦ rw h (lookup-append n xs ys) ]
 
@@ -138,7 +138,7 @@ brought edited e = if bytes_eq e.0 edited then [] else item_flats e.1
 abbrev pub found_in : Name → Name → List (List ℕ × Item) → Option FlatDef
 found_in edited n items = lookup (bytes_eq n) (flat_map (brought edited) items)
 
-abbrev unless_edited : Bool → Option FlatDef → Option FlatDef
+abbrev pub unless_edited : Bool → Option FlatDef → Option FlatDef
 unless_edited true o = None
 unless_edited false o = o
 
@@ -209,28 +209,11 @@ module _ (n : Name) (written : List Flat) where
   written_made (Some (statement w flats)) op wrote e = some_of own_flat op (sym (flats_found true written n) ∙ ap (λ fs. find_making (map flat_layer fs) n) (sym wrote) ∙ e)
 
   -- the name's flat statements begin with it
-  none_outside : (edited : Name) (d : Option Def) → IsUndotted edited → ((x : Def) → d ≡ Some x → IsGroup edited x) → bytes_eq edited (head_of n) ≡ false → IsWrittenAs d written → own_flat ≡ None
+  pub none_outside : (edited : Name) (d : Option Def) → IsUndotted edited → ((x : Def) → d ≡ Some x → IsGroup edited x) → bytes_eq edited (head_of n) ≡ false → IsWrittenAs d written → own_flat ≡ None
   none_outside edited None plain group differs wrote = no_own wrote
   none_outside edited (Some (source grid)) plain group differs wrote = no_own wrote
   none_outside edited (Some (statement w flats)) plain group differs wrote =
       map_none op_of own_flat (sym (flats_found true written n) ∙ ap (λ fs. find_making (map flat_layer fs) n) (sym wrote) ∙ outsider edited (statement w flats) n plain (group (statement w flats) refl) differs)
-
-module _ (size : Size) (ls : Name → Option LayerState) (items : List (List ℕ × Item)) (edited n : Name) (written : List Flat) (groups : AreGroups (entries_by size ls items)) (apart : IsApart (entries_by size ls items)) where
-  -- those of the edited name
-  pub after_own : bytes_eq edited (head_of n) ≡ true → lookup (bytes_eq n) (flats_after items edited written) ≡ lookup (bytes_eq n) (map (flat_def true) written)
-  after_own same =
-      lookup-append n (map (flat_def true) written) (flat_map (brought edited) items)
-      ∙ ap (option_or (lookup (bytes_eq n) (map (flat_def true) written)))
-      (others_by_head size ls edited n items groups apart ∙ ap (λ b. unless_edited b (in_item n (lookup (bytes_eq (head_of n)) items))) (bytes_eq_swaps (head_of n) edited ∙ same))
-      ∙ or_none (lookup (bytes_eq n) (map (flat_def true) written))
-
-  -- and of every other
-  pub after_other : (d : Option Def) → IsUndotted edited → ((x : Def) → d ≡ Some x → IsGroup edited x) → IsWrittenAs d written → bytes_eq edited (head_of n) ≡ false
-      → lookup (bytes_eq n) (flats_after items edited written) ≡ in_item n (lookup (bytes_eq (head_of n)) items)
-  after_other d plain group wrote differs =
-      lookup-append n (map (flat_def true) written) (flat_map (brought edited) items)
-      ∙ ap (λ o. option_or o (found_in edited n items)) (none_outside n written edited d plain group differs wrote)
-      ∙ others_by_head size ls edited n items groups apart ∙ ap (λ b. unless_edited b (in_item n (lookup (bytes_eq (head_of n)) items))) (bytes_eq_swaps (head_of n) edited ∙ differs)
 
 -- the first flat statement of a list has another name
 pub lookup_rest : (n : Name) (written : Bool) (flats : List Flat) (first : Flat) → 1 ≤ length flats → first ≡ get_or flats 0 first → bytes_eq first.name n ≡ false

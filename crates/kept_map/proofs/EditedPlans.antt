@@ -1,5 +1,5 @@
 -- What an edit of a name makes of the flat statements and of the sources of a map.
-use Rattle.std.proofs.Common.{◌≡◌, ℕ, Bool, true, false, cond, ◌||◌, List, [], ◌∷◌, ◌++◌, length, map, position, Option, Some, None, is_some, option_map, bytes_eq, refl, sym, ap, ◌∙◌, if◌then◌else◌, inl, inr}
+use Rattle.std.proofs.Common.{◌≡◌, ℕ, Bool, true, false, cond, ◌||◌, List, [], ◌∷◌, ◌++◌, length, map, flat_map, position, Option, Some, None, is_some, option_map, bytes_eq, refl, sym, ap, ◌∙◌, if◌then◌else◌, inl, inr}
 use Rattle.std.specs.List.{All, AllByRecursion, list_any}
 use Rattle.std.specs.Map.{lookup}
 use Rattle.std.specs.Option.{option_or}
@@ -30,13 +30,13 @@ use Rattle.edit_plans.specs.Planned.{FlatDef, is_source_node, AreSources}
 use Rattle.edit_plans.proofs.Positions.{position_push}
 use Rattle.kept_map.specs.Maps.{source_in, def_by, entries_in}
 use Rattle.kept_map.specs.Keeps.{IsItem, IsNamed, IsKept}
-use Rattle.kept_map.specs.Flats.{flat_def, item_flats, flats_after}
+use Rattle.kept_map.specs.Flats.{flat_def, flats_after}
 use Rattle.kept_map.specs.declared.maps.Item.{Item}
 use Rattle.kept_map.specs.declared.maps.Item.TheVariants.{Source, Statement}
 use Rattle.kept_map.specs.declared.maps.KeptMap.{KeptMap}
-use Rattle.kept_map.proofs.SourceLayers.{find_item}
+use Rattle.kept_map.proofs.SourceLayers.{find_item, bytes_eq_swaps}
 use Rattle.kept_map.proofs.Given.{group_there, undotted, node_source}
-use Rattle.kept_map.proofs.EditedFlats.{op_of, flag_found, in_item, item_flag, item_makes, item_made, IsWrittenAs, written_makes, written_made, after_own, after_other, or_none}
+use Rattle.kept_map.proofs.EditedFlats.{op_of, flag_found, in_item, item_flag, item_makes, item_made, IsWrittenAs, written_makes, written_made, lookup-append, brought, found_in, unless_edited, others_by_head, none_outside, or_none}
 
 -- ---- what stands for a name
 
@@ -71,17 +71,10 @@ group_at es n d groups e = (group_there es n d groups e).1
 
 -- ---- ranges
 
-abbrev IsRanged : Flat → Type 0
-IsRanged f = HasRanges (op_view f.op)
-
-ranged_flat : (b : Bool) (fs : List Flat) (n : Name) (f : FlatDef) → All IsRanged fs → lookup (bytes_eq n) (map (flat_def b) fs) ≡ Some f → HasRanges (op_view f.op)
+ranged_flat : (b : Bool) (fs : List Flat) (n : Name) (f : FlatDef) → All (λ (q : Flat). HasRanges (op_view q.op)) fs → lookup (bytes_eq n) (map (flat_def b) fs) ≡ Some f → HasRanges (op_view f.op)
 ranged_flat b fs n f all e =
     let r = place_from_lookup (bytes_eq n) (map (flat_def b) fs) f e in
     all_get (λ (q : List ℕ × FlatDef). HasRanges (op_view q.1.op)) (map (flat_def b) fs) (All-map (λ (q : List ℕ × FlatDef). HasRanges (op_view q.1.op)) (flat_def b) fs all) r.0 (r.1, f) r.2
-
-ranged_item : (item : Item) (n : Name) (f : FlatDef) → IsItem item → lookup (bytes_eq n) (item_flats item) ≡ Some f → HasRanges (op_view f.op)
-ranged_item Source n f is e = absurd (none-some f e)
-ranged_item (Statement w flats) n f is e = ranged_flat false flats.items n f is.1 e
 
 pub item_named : (items : List (List ℕ × Item)) (n : Name) (item : Item) → AllByRecursion IsNamed items → lookup (bytes_eq n) items ≡ Some item → IsItem item
 item_named items n item all e = let r = place_from_lookup (bytes_eq n) items item e in (all_get IsNamed items (All-from_recursion IsNamed items all) r.0 (r.1, item) r.2).1
@@ -98,11 +91,20 @@ module _ (m : KeptMap) (keeps : IsKept m) (new : List Entry) (edited : Name) (wr
   group : (d : Def) → find_def new edited ≡ Some d → IsGroup edited d
   group d is = group_at new edited d change.good.groups is
 
+  others_found : (n : Name) → found_in edited n m.names.entries ≡ unless_edited (bytes_eq (head_of n) edited) (in_item n (item_at n))
+  others_found n = others_by_head m.extent (source_in m.sources) edited n m.names.entries keeps.lawful.groups keeps.lawful.apart
+
   found_own : (n : Name) → bytes_eq edited (head_of n) ≡ true → found_after n ≡ lookup (bytes_eq n) (map (flat_def true) written)
-  found_own n same = after_own m.extent (source_in m.sources) m.names.entries edited n written keeps.lawful.groups keeps.lawful.apart same
+  found_own n same =
+      lookup-append n (map (flat_def true) written) (flat_map (brought edited) m.names.entries)
+      ∙ ap (option_or (lookup (bytes_eq n) (map (flat_def true) written))) (others_found n ∙ ap (λ b. unless_edited b (in_item n (item_at n))) (bytes_eq_swaps (head_of n) edited ∙ same))
+      ∙ or_none (lookup (bytes_eq n) (map (flat_def true) written))
 
   found_other : (n : Name) → bytes_eq edited (head_of n) ≡ false → found_after n ≡ in_item n (item_at n)
-  found_other n differs = after_other m.extent (source_in m.sources) m.names.entries edited n written keeps.lawful.groups keeps.lawful.apart (find_def new edited) plain group wrote differs
+  found_other n differs =
+      lookup-append n (map (flat_def true) written) (flat_map (brought edited) m.names.entries)
+      ∙ ap (λ o. option_or o (found_in edited n m.names.entries)) (none_outside n written edited (find_def new edited) plain group differs wrote)
+      ∙ others_found n ∙ ap (λ b. unless_edited b (in_item n (item_at n))) (bytes_eq_swaps (head_of n) edited ∙ differs)
 
   making_own : (n : Name) → bytes_eq edited (head_of n) ≡ true → find_making (layers new) n ≡ group_making n (find_def new edited)
   making_own n same = making_by_head new n change.good.groups change.good.apart ∙ ap (λ q. group_making n (find_def new q)) (sym (same_name edited (head_of n) same))
@@ -157,7 +159,8 @@ module _ (m : KeptMap) (keeps : IsKept m) (new : List Entry) (edited : Name) (wr
     where
       by_item : (o : Option Item) → lookup (bytes_eq (head_of n)) m.names.entries ≡ o → in_item n o ≡ Some f → HasRanges (op_view f.op)
       by_item None at e = absurd (none-some f e)
-      by_item (Some item) at e = ranged_item item n f (item_named m.names.entries (head_of n) item (recursion_from_All IsNamed m.names.entries keeps.named) at) e
+      by_item (Some Source) at e = absurd (none-some f e)
+      by_item (Some (Statement w flats)) at e = ranged_flat false flats.items n f (item_named m.names.entries (head_of n) (Statement w flats) (recursion_from_All IsNamed m.names.entries keeps.named) at).1 e
 
 -- ---- the sources
 

@@ -14,12 +14,9 @@ use Rattle.map_edits.proofs.Looks.{length-nodes}
 use Rattle.map_edits.proofs.Summed.{depth_is_place}
 use Rattle.edit_plans.specs.Planned.{whole_names}
 
-count_cons : {X : Type 0} (p : X → Bool) (x : X) (xs : List X) → count_by p (x ∷ xs) ≡ cond (p x) 1 0 + count_by p xs
-count_cons p x xs = sum_by-cons (λ y. cond (p y) 1 0) x xs
-
 flats_counted : (fs : List Flat) → length (map flat_layer fs) ≤ count_by is_flat (map flat_layer fs)
 flats_counted [] = omega arith
-flats_counted (f ∷ fs) = let rest = flats_counted fs in let one = count_cons is_flat (flat_layer f) (map flat_layer fs) in omega arith
+flats_counted (f ∷ fs) = let rest = flats_counted fs in let one = sum_by-cons (λ l. cond (is_flat l) 1 0) (flat_layer f) (map flat_layer fs) in omega arith
 
 layers_counted : (n : Name) (d : Def) → length (layers_of (record { name = n; def = d })) ≤ cond (is_source (record { name = n; def = d })) 1 0 + count_by is_flat (layers_of (record { name = n; def = d }))
 layers_counted n (source grid) = omega arith
@@ -31,7 +28,7 @@ few_layers [] = omega arith
 few_layers (e ∷ es) =
     let rest = few_layers es in
     let one = layers_counted e.name e.def in
-    let sources = count_cons is_source e es in
+    let sources = sum_by-cons (λ x. cond (is_source x) 1 0) e es in
     let joined = length-append (layers_of e) (layers es) in
     let flats : count_by is_flat (layers_of e ++ layers es) ≡ count_by is_flat (layers_of e) + count_by is_flat (layers es) = sum_by-append (λ (l : LayerDef). cond (is_flat l) 1 0) (layers_of e) (layers es) in
     omega arith

@@ -1,8 +1,8 @@
--- What is prepared of all statements can be put in place of what was kept, and the steps at rest are a plan.
-use Rattle.std.proofs.Common.{◌≡◌, ℕ, zero, suc, false, not, List, [], ◌∷◌, map, filter, length, position, Some, is_some, slice_get, bytes_eq, refl, sym, ap, subst, ◌∙◌, arith, ◌<◌, get_or, Option, None, slice_index_or, option_map}
+-- What is prepared of all statements can be put in place of what was kept, one after another, and the steps at rest are a plan.
+use Rattle.std.proofs.Common.{◌≡◌, ℕ, zero, suc, false, not, List, [], ◌∷◌, map, filter, length, position, Some, is_some, slice_get, bytes_eq, refl, sym, ap, subst, ◌∙◌, arith, ◌<◌, get_or, Option, None, slice_index_or, option_map, ◌≢◌, ◌⊎◌, inl, inr, ◌+◌, ◌≤◌, set, length-set}
 use Rattle.std.specs.List.{AllByRecursion, IsDistinct}
-use Rattle.std.proofs.lemmas.Bool.{or_parts}
-use Rattle.std.proofs.lemmas.Option.{same_Some}
+use Rattle.std.proofs.lemmas.Bool.{or_parts, cases_eq}
+use Rattle.std.proofs.lemmas.Option.{same_Some, slice_get_within, slice_get-get_or, get_or_from_slice_get}
 use Rattle.std.proofs.lemmas.List.Quantifiers.{position-Some}
 use Rattle.map_defs.specs.Ops.{Name}
 use Rattle.map_defs.specs.Nodes.{Node, lacks}
@@ -41,6 +41,38 @@ use Rattle.kept_map.specs.Repairs.{step_in, plan_in, IsUnder, AreMadeOf}
 use Rattle.kept_map.specs.declared.maps.KeptMap.{KeptMap}
 use Rattle.kept_map.proofs.SettingUp.{place_is}
 use Rattle.kept_map.proofs.EditedFlats.{flat_by, flat_is}
+use Rattle.map_waves.proofs.SetPlaces.{slice_get-set_same, slice_get-set_other}
+
+-- the first k are changed, and the others are as they were
+pub record AreChangedTo {X : Type 0} (R : ℕ → X → X → Type 0) (k : ℕ) (old now : List X) : Type 0 where
+  pub count : length now ≡ length old
+  pub changed : (j : ℕ) (x : X) → j < k → slice_get old j ≡ Some x → (y : X) × (slice_get now j ≡ Some y) × R j x y
+  pub left : (j : ℕ) → k ≤ j → slice_get now j ≡ slice_get old j
+
+pub none_changed : {X : Type 0} (R : ℕ → X → X → Type 0) (xs : List X) → AreChangedTo R 0 xs xs
+none_changed R xs = record { count = refl; changed = λ j x below at. absurd (omega arith); left = λ j from. refl }
+
+pub one_changed : {X : Type 0} (R : ℕ → X → X → Type 0) (k : ℕ) (old now : List X) (d y : X) → AreChangedTo R k old now → k < length now → R k (get_or now k d) y → AreChangedTo R (k + 1) old (set now k y)
+one_changed {X} R k old now d y so_far within new = record {
+  count = length-set now k y ∙ so_far.count;
+  changed = λ j x below at. go j x at below (cases_eq j k);
+  left = λ j from. let other : j ≢ k = λ same. absurd (omega (arith, same)) in slice_get-set_other now k j y other ∙ so_far.left j (omega arith);
+}
+  where
+    go : (j : ℕ) (x : X) → slice_get old j ≡ Some x → j < k + 1 → (j ≡ k) ⊎ (j ≡ k → ⊥) → (z : X) × (slice_get (set now k y) j ≡ Some z) × R j x z
+    go j x at below (inl same) =
+        let is : get_or now k d ≡ x = get_or_from_slice_get now k x d (so_far.left k (omega arith) ∙ ap (slice_get old) (sym same) ∙ at) in
+        subst (λ i. (z : X) × (slice_get (set now k y) i ≡ Some z) × R i x z) (sym same)
+        (y, slice_get-set_same now k y (get_or now k d) (slice_get-get_or now k d within), subst (λ (q : X). R k q y) is new)
+    go j x at below (inr other) = let r = so_far.changed j x (omega (arith, other)) at in (r.0, slice_get-set_other now k j y other ∙ r.1, r.2)
+
+pub all_changed : {X : Type 0} (R : ℕ → X → X → Type 0) (k : ℕ) (old now : List X) → AreChangedTo R k old now → length old ≤ k
+    → (length now ≡ length old) × ((j : ℕ) (x : X) → slice_get old j ≡ Some x → (y : X) × (slice_get now j ≡ Some y) × R j x y)
+all_changed R k old now done past = (done.count, λ j x at. done.changed j x (let below = slice_get_within old j x at in omega arith) at)
+
+-- a step comes to rest, with the operands that it had
+abbrev pub ComesToRest : ℕ → Step Given → Step Given → Type 0
+ComesToRest k x y = IsAtRest k x y × (y.refs ≡ x.refs)
 
 -- ---- names that stand apart
 
@@ -65,9 +97,6 @@ whole_place nodes once names whole =
 module _ (nodes : List Node) (once : IsOnce nodes) (sources names : List Name) (old new : List (Step Given)) (whole : names ≡ whole_names nodes (by_depth nodes)) (old_count : length old ≡ length names) (new_count : length new ≡ length old)
     (depths : (k : ℕ) (n : Name) (x : Step Given) → slice_get names k ≡ Some n → slice_get old k ≡ Some x → x.depth ≡ depth_in nodes n)
     (rest : (k : ℕ) (x y : Step Given) → slice_get old k ≡ Some x → slice_get new k ≡ Some y → IsAtRest k x y × AreRefsFor sources names k (op_view x.op).terms y.refs.items) where
-  place : (k : ℕ) (n : Name) → slice_get names k ≡ Some n → position (bytes_eq n) names ≡ Some k
-  place = whole_place nodes once names whole
-
   -- steps at rest are planned from their own statements
   pub rest_planned : IsPlanned nodes sources (flats_of_steps names new) names names new
   rest_planned = record {
@@ -78,12 +107,12 @@ module _ (nodes : List Node) (once : IsOnce nodes) (sources names : List Name) (
         let rested = rest k x.0 y x.1 here in
         record {
           flat = flat_by y;
-          from = flat_is names new (new_count ∙ old_count) n ∙ ap (λ o. option_map flat_by (at_place new o)) (place k n at) ∙ ap (option_map flat_by) here;
+          from = flat_is names new (new_count ∙ old_count) n ∙ ap (λ o. option_map flat_by (at_place new o)) (whole_place nodes once names whole k n at) ∙ ap (option_map flat_by) here;
           op = refl;
           written = refl;
           refs = subst (λ (o : Given). AreRefsFor sources names k (op_view o).terms y.refs.items) (sym rested.0.op) rested.1;
           depth = rested.0.depth ∙ depths k n x.0 at x.1;
-          kept = rested.0.kept ∙ sym (place k n at);
+          kept = rested.0.kept ∙ sym (whole_place nodes once names whole k n at);
         };
   }
 

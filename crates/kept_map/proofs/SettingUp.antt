@@ -35,10 +35,9 @@ use Rattle.kept_map.specs.Maps.{grid_of, source_in, layer_in, entries_in, names_
 use Rattle.kept_map.specs.Keeps.{IsKept}
 use Rattle.kept_map.specs.Edits.{change_in}
 use Rattle.kept_map.specs.declared.maps.KeptMap.{KeptMap}
-use Rattle.kept_map.proofs.SourceLayers.{source_at, source_whole, layer_at}
+use Rattle.kept_map.proofs.SourceLayers.{source_at, source_whole, layer_at, source_def}
 use Rattle.kept_map.proofs.Given.{undotted, source_making, source_value}
 use Rattle.kept_map.proofs.LayersByName.{layer_source, stamps_found}
-use Rattle.kept_map.proofs.Naming.{source_def}
 
 -- ---- names that stand apart
 
@@ -75,22 +74,18 @@ pub constant_operand : (s : Size) (cell : Option ℤ) → IsOperand s (constant_
 constant_operand s cell = record { size = refl; exact = λ was e. none_changed s (constant s cell).cells was e; same = λ was e none. same_Some (constant s cell).cells was e }
 
 module _ (m : KeptMap) (keeps : IsKept m) where
-  layer_size : (i : ℕ) (l : LayerState) → slice_get m.sources.layers.items i ≡ Some l → l.size ≡ m.extent
-  layer_size i l e = (all_get (λ (k : LayerState). (k.size ≡ m.extent) × IsLayer k) m.sources.layers.items keeps.sources.whole i l e).0
+  all_operands : (shift : Shift) (i : ℕ) → IsOperand m.extent (source_by m.extent shift i None) → ((l : LayerState) → l.size ≡ m.extent → IsOperand m.extent (source_by m.extent shift i (Some l))) → IsOperand m.extent (change_in m shift i)
+  all_operands shift i none some = go (slice_get m.sources.layers.items i) refl
+    where
+      go : (o : Option LayerState) → slice_get m.sources.layers.items i ≡ o → IsOperand m.extent (source_by m.extent shift i o)
+      go None e = none
+      go (Some l) e = some l (all_get (λ (k : LayerState). (k.size ≡ m.extent) × IsLayer k) m.sources.layers.items keeps.sources.whole i l e).0
 
   pub nothing_operands : (i : ℕ) → IsOperand m.extent (change_in m Nothing i)
-  nothing_operands i = go (slice_get m.sources.layers.items i) refl
-    where
-      go : (o : Option LayerState) → slice_get m.sources.layers.items i ≡ o → IsOperand m.extent (source_by m.extent Nothing i o)
-      go None e = constant_operand m.extent None
-      go (Some l) e = same_operand m.extent l (layer_size i l e)
+  nothing_operands i = all_operands Nothing i (constant_operand m.extent None) (λ l size. same_operand m.extent l size)
 
   pub loaded_operands : (new : Bor LayerState) → new.now.size ≡ m.extent → (i : ℕ) → IsOperand m.extent (change_in m (Loaded new) i)
-  loaded_operands new size i = go (slice_get m.sources.layers.items i) refl
-    where
-      go : (o : Option LayerState) → slice_get m.sources.layers.items i ≡ o → IsOperand m.extent (source_by m.extent (Loaded new) i o)
-      go None e = same_operand m.extent new.now size
-      go (Some l) e = same_operand m.extent l (layer_size i l e)
+  loaded_operands new size i = all_operands (Loaded new) i (same_operand m.extent new.now size) (λ l size. same_operand m.extent l size)
 
 -- ---- what becomes of the sources
 

@@ -1,5 +1,5 @@
--- An edit whose statements are prepared: what is answered of it, what it reads and counts, and that it can be put in place.
-use Rattle.std.proofs.Common.{◌≡◌, ℕ, ◌+◌, ◌-◌, ◌*◌, ◌≤◌, List, length, Ok, sym, ap, ◌∙◌, arith, zero, suc, ◌<◌, ◌^◌, count_by, Option, Some, None, [], map, get_or, slice_get, refl, subst}
+-- An edit whose statements are prepared: what is answered of it, what it reads and counts, and that it can be put in place; and one that is refused, which leaves the state.
+use Rattle.std.proofs.Common.{◌≡◌, ℕ, ◌+◌, ◌-◌, ◌*◌, ◌≤◌, List, length, Ok, sym, ap, ◌∙◌, arith, zero, suc, ◌<◌, ◌^◌, count_by, Option, Some, None, [], map, get_or, slice_get, refl, subst, Err}
 use Rattle.map_defs.specs.Ops.{Name}
 use Rattle.layer_tiles.specs.Tallies.{TallyState, RisesBy}
 use Rattle.layer_tiles.proofs.Rising.{rises_none, rises_then, rises_within}
@@ -10,7 +10,7 @@ use Rattle.map_edits.specs.GroupLaws.{IsLawful, IsSaid}
 use Rattle.map_edits.specs.Touches.{touch_of}
 use Rattle.map_edits.specs.EditCounts.{Counts, counts_of}
 use Rattle.map_edits.specs.StampsAfter.{stamped}
-use Rattle.map_edits.specs.Counted.{unless_fault, of_attempt, accept_counted}
+use Rattle.map_edits.specs.Counted.{unless_fault, of_attempt, accept_counted, fault_after}
 use Rattle.map_edits.specs.Allowances.{edit_reads}
 use Rattle.statement_parser.specs.declared.op.Op.{Op as Given}
 use Rattle.map_waves.specs.declared.plans.Shift.{Shift}
@@ -28,7 +28,7 @@ use Rattle.kept_map.specs.Repairs.{plan_in, counts_view, IsPreparedFor, own_dama
 use Rattle.kept_map.specs.declared.maps.KeptMap.{KeptMap}
 use Rattle.kept_map.specs.declared.repairing.Prepared.{Prepared}
 use Rattle.kept_map.proofs.Allowed.{sources_allowed}
-use Rattle.live_engine.specs.Accepts.{ReadsWithin}
+use Rattle.live_engine.specs.Accepts.{ReadsWithin, Refuses}
 use Rattle.std.proofs.lemmas.List.Sums.{length-filter, count_by-le-length}
 use Rattle.std.proofs.lemmas.List.FromFn.{length-range_with_len}
 use Rattle.map_nums.specs.Grids.{Size, Cells}
@@ -49,6 +49,34 @@ use Rattle.map_waves.specs.Placing.{slot_of}
 use Rattle.kept_map.specs.Commits.{IsAtRest}
 use Rattle.kept_map.proofs.Ready.{slot_kept, one_place, are_ready}
 use Rattle.live_engine.specs.Settles.{CanSettle}
+use Rattle.map_edits.specs.Faults.{Fault, too_many_viewers, overflow}
+use Rattle.map_edits.specs.Refusals.{Refusal, fault}
+use Rattle.kept_map.specs.Halts.{IsHaltOf}
+use Rattle.kept_map.specs.declared.halts.Halt.{Halt}
+use Rattle.kept_map.specs.declared.halts.Halt.TheVariants as halts
+use Rattle.live_engine.specs.Halted.{refusal_of}
+use Rattle.live_engine.specs.declared.edits.Refusal as refused
+use Rattle.live_engine.specs.declared.edits.Refusal.TheVariants as a_refusal
+
+-- an edit that can't even be tried
+pub accept_refused : (s : WholeState) (e : WholeEdit) (r : Refusal) → attempted s e ≡ Err r → accept_counted s e ≡ Err r
+unfolding accept_counted
+accept_refused s e r is = ap (of_attempt s e) is
+
+module _ (s t : WholeState) (e : WholeEdit) (tried : attempted s e ≡ Ok t) where
+  pub accept_faulty : (f : Fault) → fault_after e t ≡ Some f → accept_counted s e ≡ Err (fault f)
+  unfolding accept_counted
+  accept_faulty f is = ap (of_attempt s e) tried ∙ ap (unless_fault (touch_of e) s t) is
+
+  pub halted : (halt : Halt) → IsHaltOf e t halt → Refuses s s e (refusal_of halt)
+  halted (halts.Viewers n count) is = (accept_faulty (too_many_viewers n count) is, refl)
+  halted (halts.Overflow n row column) is = (accept_faulty (overflow n row column) is, refl)
+  halted halts.NoMemory is = refl
+
+-- whatever the edit, what is put back among them
+pub refused_stays : (s t : WholeState) (e : WholeEdit) (r : refused.Refusal) → Refuses s t e r → t ≡ s
+refused_stays s t e a_refusal.NoMemory is = is
+refused_stays s t e r is = is.1
 
 -- no more than for the tiles of the edit's own source
 pub reads_tried : (s t : WholeState) (e : WholeEdit) → IsLawful s → IsSaid s e → attempted s e ≡ Ok t → (a : ℕ) (x y : TallyState) → a ≤ 64 * (counts_of_touched (touch_of e) s.names t.names).evaluated → RisesBy a 0 x y → ReadsWithin s e x y

@@ -1,6 +1,6 @@
--- What takes the edit of a name back: a draft of the edit that puts the earlier parts back, with what stood for the name.
+-- Parts of a state that the engine may have; and what takes the edit of a name back: a draft of the edit that puts the earlier parts back, with what stood for the name.
 use Rattle.std.proofs.Common.{◌≡◌, ℕ, false, List, Option, Some, None, bytes_eq, IsTrue, refl, sym, ap, ◌∙◌, ◌<◌, ◌≤◌, ◌⊎◌, inl, inr, ◌∷◌, ◌++◌, take, drop, length, position, option_map, unwrap_or, slice_get, Vec, subst, arith}
-use Rattle.map_nums.specs.Grids.{Size, Grid}
+use Rattle.map_nums.specs.Grids.{Size}
 use Rattle.map_words.specs.Names.{is_plain}
 use Rattle.map_defs.specs.Ops.{Name}
 use Rattle.map_defs.specs.MadeProcedures.{IsUndotted}
@@ -12,14 +12,14 @@ use Rattle.map_edits.specs.EntriesAt.{entry_at}
 use Rattle.map_edits.specs.LayerDefs.{layers, find_making}
 use Rattle.map_edits.specs.Edits.{with_entries}
 use Rattle.map_edits.specs.Laws.{IsApart}
-use Rattle.map_edits.specs.GroupLaws.{AreGroups}
-use Rattle.map_edits.specs.Pasts.{Past, parts_of, Parts}
+use Rattle.map_edits.specs.GroupLaws.{AreGroups, IsLawful, IsSaid}
+use Rattle.map_edits.specs.Pasts.{Past, parts_of, Parts, with_parts}
 use Rattle.map_edits.specs.Touches.{whole, touch_of}
 use Rattle.map_edits.specs.Touching.{ChangesOnly}
 use Rattle.map_edits.specs.WholeEdits.{put_back, WholeEdit}
 use Rattle.map_edits.proofs.Heads.{head_of}
 use Rattle.map_edits.proofs.Puts.{find_put, find_drop}
-use Rattle.map_edits.proofs.PutBack.{drop_at, drop_none, drop_put, put_put, put_same, at_dropped}
+use Rattle.map_edits.proofs.PutBack.{drop_at, drop_none, drop_put, put_put, put_same, at_dropped, fault_by_entries}
 use Rattle.map_edits.proofs.GroupsKept.{making_stays, put_makings}
 use Rattle.map_edits.proofs.LawfulEdits.{AreGood, IsGoodChange}
 use Rattle.edit_plans.proofs.TouchedAlone.{all_touched}
@@ -33,7 +33,6 @@ use Rattle.live_engine.specs.declared.drafts.Change.{Change}
 use Rattle.live_engine.specs.declared.drafts.Change.TheVariants.{Source, Statement, Out}
 use Rattle.live_engine.specs.declared.drafts.Draft.{Draft}
 use Rattle.live_engine.specs.declared.inverses.Inverse.TheVariants as inverses
-use Rattle.live_engine.proofs.Reached.{reached_lawful, reached_said, kept_reached}
 use Rattle.std.specs.Map.{lookup}
 use Rattle.std.specs.declared.alloc.Global.{Global}
 use Rattle.std.proofs.lemmas.List.{length-append, take-append-drop}
@@ -49,10 +48,34 @@ use Rattle.map_waves.proofs.Making.{all_get}
 use Rattle.kept_map.specs.Groups.{groups_of}
 use Rattle.kept_map.specs.declared.maps.Item.{Item}
 use Rattle.kept_map.specs.declared.maps.Item.TheVariants as items
-use Rattle.kept_map.proofs.SourceLayers.{source_whole}
-use Rattle.kept_map.proofs.Naming.{item_def, item_source}
+use Rattle.kept_map.proofs.SourceLayers.{source_whole, item_def, item_source}
 use Rattle.live_engine.specs.Puts.{StoodFor, replaced_by, IsStandBefore}
 use Rattle.live_engine.specs.declared.inverses.Inverse.{Inverse}
+use Rattle.map_nums.specs.Counts.{raised}
+
+pub kept_reached : (m : KeptMap) → IsKept m → AreReached m.extent (parts_of (seen m))
+kept_reached m keeps = record {
+  made = keeps.lawful.made;
+  groups = keeps.lawful.groups;
+  apart = keeps.lawful.apart;
+  none_looped = keeps.lawful.none_looped;
+  faultless = fault_by_entries m.extent (entries_in m) 0 m.number ∙ keeps.faultless;
+  sources_few = keeps.sources_few;
+  flats_few = keeps.flats_few;
+}
+
+pub reached_lawful : (s : WholeState) (p : Parts) → AreReached s.names.size p → IsLawful (with_parts s p)
+reached_lawful s p r = record { made = r.made; groups = r.groups; apart = r.apart; none_looped = r.none_looped }
+
+pub reached_said : (s : WholeState) (p : Past) → AreReached s.names.size p.parts → ChangesOnly p.touch s.names (with_entries s.names p.parts.entries) → IsSaid s (put_back p)
+reached_said s p r only = record {
+  made = r.made;
+  groups = r.groups;
+  apart = r.apart;
+  none_looped = r.none_looped;
+  faultless = fault_by_entries s.names.size p.parts.entries (raised s.names.number 1) 0 ∙ r.faultless;
+  only = only;
+}
 
 -- ---- layers of other names
 
@@ -112,10 +135,6 @@ place_within xs k e within =
     let same = ap length (take-append-drop k xs) in
     omega (arith, within, all, others, same)
 
--- a statement is no source
-other_def : (o : Option Def) (w : meant.Written) (fs : List meant.Flat) (grid : Grid) → o ≡ Some (statement w fs) → o ≡ Some (source grid) → ⊥
-other_def o w fs grid is e = cc
-
 -- lists that took the place of others
 marks_back : (o : Option (List Mark)) (own : List Mark) → unwrap_or (option_map (λ (x : List Mark). own) o) (unwrap_or o own) ≡ own
 marks_back None own = refl
@@ -146,7 +165,7 @@ module _ (m : KeptMap) (keeps : IsKept m) (n : Name) where
       let named = item_named m.names.entries n (items.Statement own stood) (recursion_from_All IsNamed m.names.entries keeps.named) at in
       record {
         entries = put_put (entries_in m) n d c ∙ put_same (entries_in m) n c (item_def m n (Some (items.Statement own stood)) at);
-        fits = record { formed = named.0; ranges = named.1; other = λ grid is. other_def (find_def (put_entry (entries_in m) n d) n) (written_view written) (flats_view flats.items) grid (find_put (entries_in m) n d) is; seat = tt };
+        fits = record { formed = named.0; ranges = named.1; other = λ grid is. let both : Some (statement (written_view written) (flats_view flats.items)) ≡ Some (source grid) = sym (find_put (entries_in m) n d) ∙ is in cc; seat = tt };
       }
 
   replaced_back : (place : Option ℕ) (written : Written) (flats : Vec Flat Global) (o : Option Item) (before : Change) → IsNextStatement (entries_in m) n written flats.items place → lookup (bytes_eq n) m.names.entries ≡ o → before ≡ replaced_by o

@@ -1,6 +1,6 @@
 -- A formed statement names no name with a dot; the body of a formed procedure has names without dots, all different, and result comes last.
-use Rattle.std.proofs.Common.{List, [], ◌∷◌, flat_map, ◌≡◌, inl, inr, Bool, true, false, ◌||◌, ◌++◌, codes, bytes_eq, IsTrue, refl, sym, ap, subst, ◌∙◌, arith}
-use Rattle.std.proofs.lemmas.Bool.{true≢false, or_left, or_right, false_from_ne_true}
+use Rattle.std.proofs.Common.{List, [], ◌∷◌, flat_map, ◌≡◌, inl, inr, true, false, ◌++◌, codes, bytes_eq, IsTrue, refl, sym, ap, subst, ◌∙◌, arith}
+use Rattle.std.proofs.lemmas.Bool.{true≢false, or_left, or_right, false_from_ne_true, cases_Bool}
 use Rattle.map_words.specs.Bytes.{Text}
 use Rattle.map_words.specs.Names.{is_plain}
 use Rattle.map_defs.specs.Ops.{Term, layer_term, number_term, term_names, Name}
@@ -36,11 +36,7 @@ last_of w = record { name = codes "result"; written = w }
 
 has_more : (ns : List Text) (n m : Text) → has_name ns m ≡ true → has_name (ns ++ n ∷ []) m ≡ true
 has_more [] n m h = absurd cc
-has_more (k ∷ ns) n m h = go (bytes_eq k m) h (has_more ns n m)
-  where
-    go : (b : Bool) → (b || has_name ns m) ≡ true → (has_name ns m ≡ true → has_name (ns ++ n ∷ []) m ≡ true) → (b || has_name (ns ++ n ∷ []) m) ≡ true
-    go true h rest = refl
-    go false h rest = rest h
+has_more (k ∷ ns) n m h = elim (cases_Bool (bytes_eq k m)) [ inl e ↦ rw e refl | inr e ↦ rw e (has_more ns n m (rw e at h)) ]
 
 has_last : (ns : List Text) (n : Text) → has_name (ns ++ n ∷ []) n ≡ true
 has_last [] n = or_left (bytes_eq n n) false (bytes_eq-self n)

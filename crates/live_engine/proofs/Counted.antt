@@ -12,7 +12,7 @@ use Rattle.procedure_expand.specs.Flats.{flat_view, flats_view}
 use Rattle.map_edits.specs.Entries.{Def, source, statement, Entry, find_def, put_entry}
 use Rattle.map_edits.specs.LayerDefs.{Making, given_grid, by_op, LayerDef, flat_layer, layers}
 use Rattle.map_edits.specs.Limits as limits
-use Rattle.map_edits.specs.Limits.{is_source, is_flat}
+use Rattle.map_edits.specs.Limits.{is_source, is_flat, most_flats}
 use Rattle.map_edits.proofs.Among.{same_name}
 use Rattle.map_edits.proofs.Groups.{def_layers}
 use Rattle.kept_map.specs.Maps.{def_by, entries_by, entry_by}
@@ -131,22 +131,15 @@ there_count kind size grids n (Some item) = layers_count kind size (grids n) n i
 
 module _ (kind : Kind) (items : List (List ℕ × Item)) (n : Name) (all there these : ℕ) (fs : List Flat)
     (all_is : all ≡ sum_by (item_count kind) (values_of items)) (there_is : there ≡ count_there kind (lookup (bytes_eq n) items)) (these_are : these ≡ count_by (is_of kind) fs) where
-  pub others_fit : (size : Size) → there ≤ all
-  others_fit size =
-      let grids : Name → Option LayerState = λ m. None in
-      let sum = items_count kind size grids items in
-      let old = ap (layers_there (limits.is_of (kind_of kind)) n) (find_item size grids items n) ∙ there_count kind size grids n (lookup (bytes_eq n) items) in
-      let least = there_least (limits.is_of (kind_of kind)) (entries_by size grids items) n in
-      omega (arith, sum, old, least, all_is, there_is)
-
-  pub counted_with : (size : Size) (grids : Name → Option LayerState) (w : Written) → all - there + these ≡ count_by (limits.is_of (kind_of kind)) (layers (put_entry (entries_by size grids items) n (statement w (flats_view fs))))
+  pub counted_with : (size : Size) (grids : Name → Option LayerState) (w : Written)
+      → (there ≤ all) × (all - there + these ≡ count_by (limits.is_of (kind_of kind)) (layers (put_entry (entries_by size grids items) n (statement w (flats_view fs)))))
   counted_with size grids w =
       let sum = items_count kind size grids items in
       let old = ap (layers_there (limits.is_of (kind_of kind)) n) (find_item size grids items n) ∙ there_count kind size grids n (lookup (bytes_eq n) items) in
       let least = there_least (limits.is_of (kind_of kind)) (entries_by size grids items) n in
       let put = count_put (limits.is_of (kind_of kind)) (entries_by size grids items) n (statement w (flats_view fs)) in
       let new = flats_count kind fs in
-      omega (arith, sum, old, least, put, new, all_is, there_is, these_are)
+      (omega (arith, sum, old, least, all_is, there_is), omega (arith, sum, old, least, put, new, all_is, there_is, these_are))
 
 -- ---- of each kind there are no more than there are of any
 
@@ -161,8 +154,8 @@ one_kind kind n (by_op op) = at_most_one (limits.is_of kind (record { name = n; 
 kind_flat : (kind : limits.Kind) (ls : List LayerDef) → count_by (limits.is_of kind) ls ≤ count_by is_flat ls
 kind_flat kind ls = sum_by-le-sum_by (λ l. cond (limits.is_of kind l) 1 0) (λ l. cond (is_flat l) 1 0) ls (λ l. one_kind kind l.name l.making)
 
-pub few_of : (kind : Kind) (size : Size) (grids : Name → Option LayerState) (items : List (List ℕ × Item)) → sum_by (item_count kind) (values_of items) ≤ count_by is_flat (layers (entries_by size grids items))
-few_of kind size grids items = let e = items_count kind size grids items in let less = kind_flat (kind_of kind) (layers (entries_by size grids items)) in omega (arith, e, less)
+pub few_of : (kind : Kind) (items : List (List ℕ × Item)) → (size : Size) × (grids : Name → Option LayerState) × (count_by is_flat (layers (entries_by size grids items)) ≤ most_flats) → sum_by (item_count kind) (values_of items) ≤ most_flats
+few_of kind items few = let e = items_count kind few.0 few.1 items in let less = kind_flat (kind_of kind) (layers (entries_by few.0 few.1 items)) in omega (arith, e, less, few.2)
 
 -- ---- all flat statements
 
@@ -188,17 +181,14 @@ module _ (size : Size) (ls : Name → Option LayerState) where
   pub has_at : (items : List (List ℕ × Item)) (n : Name) → is_some (lookup (bytes_eq n) items) ≡ is_some (find_def (entries_by size ls items) n)
   has_at items n = sym (some_map (def_by size (ls n)) (lookup (bytes_eq n) items)) ∙ ap is_some (sym (find_item size ls items n))
 
-  source_item : (e : List ℕ × Item) → is_source (entry_by size ls e) ≡ is_source_item e.1
-  source_item e = by_item e.0 e.1
-    where
-      by_item : (n : Name) (item : Item) → is_source (entry_by size ls (n, item)) ≡ is_source_item item
-      by_item n Source = refl
-      by_item n (Statement written flats) = refl
+  source_item : (n : Name) (item : Item) → is_source (entry_by size ls (n, item)) ≡ is_source_item item
+  source_item n Source = refl
+  source_item n (Statement written flats) = refl
 
   pub count_items : (items : List (List ℕ × Item)) → count_by is_source_item (map (λ (e : List ℕ × Item). e.1) items) ≡ count_by is_source (entries_by size ls items)
   count_items [] = refl
   count_items (e ∷ es) =
       sum_by-cons (λ (i : Item). cond (is_source_item i) 1 0) e.1 (map (λ (f : List ℕ × Item). f.1) es)
       ∙ ap (λ k. cond (is_source_item e.1) 1 0 + k) (count_items es)
-      ∙ ap (λ b. cond b 1 0 + count_by is_source (entries_by size ls es)) (sym (source_item e))
+      ∙ ap (λ b. cond b 1 0 + count_by is_source (entries_by size ls es)) (sym (source_item e.0 e.1))
       ∙ sym (sum_by-cons (λ (x : Entry). cond (is_source x) 1 0) (entry_by size ls e) (entries_by size ls es))

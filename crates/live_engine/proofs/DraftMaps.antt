@@ -25,7 +25,6 @@ use Rattle.map_waves.specs.Placing.{ArePlaced}
 use Rattle.map_waves.specs.declared.plans.Shift.{Shift}
 use Rattle.map_waves.specs.declared.plans.Step.{Step}
 use Rattle.edit_plans.specs.PlansFor.{AreRefsFor}
-use Rattle.edit_plans.specs.SourceCounts.{joined}
 use Rattle.edit_plans.specs.declared.planning.Planned.{Planned}
 use Rattle.kept_map.specs.Maps.{source_in, entries_by, entries_in, names_in, seen}
 use Rattle.kept_map.specs.Keeps.{IsNamed, IsKept, AreKeptSources}
@@ -39,7 +38,7 @@ use Rattle.kept_map.specs.declared.maps.KeptMap.{KeptMap}
 use Rattle.kept_map.specs.declared.repairing.Prepared.{Prepared}
 use Rattle.kept_map.proofs.Committed.{committed_prepared}
 use Rattle.kept_map.proofs.Ready.{rests_after}
-use Rattle.kept_map.proofs.SourcesDropped.{without, dropped_sources, dropped_entries, dropped_stamps, rest_dropped}
+use Rattle.kept_map.proofs.SourcesAfter.{without, dropped_sources, dropped_entries, dropped_stamps, rest_dropped}
 use Rattle.live_engine.specs.Accepts.{Accepts}
 use Rattle.live_engine.specs.Drafts.{entries_after, state_after, sources_after, counts_with, IsDraftOf, IsRepairedOf, HasRoomFor, CanEnter}
 use Rattle.live_engine.specs.Inverses.{TakesBack}
@@ -52,9 +51,8 @@ use Rattle.live_engine.specs.declared.inverses.Inverse.TheVariants as inverses
 use Rattle.live_engine.proofs.Accepting.{accepted_is}
 use Rattle.live_engine.proofs.Drafting.{no_place}
 use Rattle.live_engine.proofs.Backs.{name_back}
-use Rattle.live_engine.proofs.DraftStates.{there, others_stay, draft_change, own_counts, own_joined, out_value, kept_sources, kept_stamps}
-use Rattle.live_engine.proofs.Items.{named_remove}
-use Rattle.live_engine.proofs.Seated.{named_seated, entries_seated, can_seat, entries_added, sources_added, stamps_added}
+use Rattle.live_engine.proofs.DraftStates.{there, others_stay, draft_change, own_counts, out_value, kept_sources, kept_stamps}
+use Rattle.live_engine.proofs.Seated.{named_seated, entries_seated, can_seat, entries_added, sources_added, stamps_added, named_remove}
 
 fresh_whole : (l : LayerState) (k : ℕ) → IsLayer l → IsLayer (layer_of l.size l.cells k)
 fresh_whole l k whole = record { size = whole.size; cells = whole.cells; are_cells = whole.are_cells; stamps = length-replicate (tiles_in l.size) k }
@@ -235,7 +233,7 @@ module _ (m : KeptMap) (keeps : IsKept m) (e : WholeEdit) (draft : Draft) (plann
     pub draft_accepts : (accepted : told.Accepted) → accepted.number ≡ new.number → counts_view accepted.counts ≡ counts_with m.extent change (counts_view prepared.counts) → Accepts (seen m) (seen new) e (Ok accepted)
     draft_accepts accepted number counts =
         let is = accepted_is m e (after change) r.shift (sources_after m.sources.names.keys n change) keeps r.set_up planned.names.keys planned.steps.items prepared r.ready in
-        let own = ap (λ o. joined o (counts_view prepared.counts)) (own_counts m keeps e draft change d) ∙ own_joined m.extent change (counts_view prepared.counts) ∙ sym counts in (
+        let own = own_counts m keeps e draft change d (counts_view prepared.counts) ∙ sym counts in (
           is ∙ ap (λ o. Ok (record { state = stamped (seen m) (after change); counts = o })) own ∙ ap (λ s. Ok (record { state = s; counts = counts_view accepted.counts })) (sym committed.1),
           number,
         )

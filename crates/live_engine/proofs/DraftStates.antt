@@ -1,5 +1,6 @@
 -- The state that a draft would make: what becomes of the sources, which flat statements are planned, and what of it counts.
-use Rattle.std.proofs.Common.{◌≡◌, ℕ, ◌+◌, Bool, true, false, List, [], ◌∷◌, ◌++◌, length, position, slice_get, Option, Some, None, is_some, option_map, Result, Ok, Err, IfOk, bytes_eq, Bor, Vec, refl, sym, ap, subst, ◌∙◌, arith}
+use Rattle.std.proofs.Common.{◌≡◌, ℕ, ◌+◌, false, List, [], ◌∷◌, ◌++◌, length, position, slice_get, Option, Some, None, is_some, option_map, Result, Ok, Err, IfOk, bytes_eq, Bor, Vec, refl, sym, ap, subst, ◌∙◌, arith, inl, inr}
+use Rattle.std.proofs.lemmas.Bool.{cases_Bool}
 use Rattle.std.specs.List.{All}
 use Rattle.std.specs.declared.alloc.Global.{Global}
 use Rattle.std.proofs.lemmas.Option.{none-some}
@@ -44,12 +45,12 @@ use Rattle.kept_map.specs.Repairs.{IsPreparedFor}
 use Rattle.kept_map.specs.declared.maps.KeptMap.{KeptMap}
 use Rattle.kept_map.specs.declared.halts.Halt.{Halt}
 use Rattle.kept_map.specs.declared.preparing.Replanned.{Replanned}
-use Rattle.kept_map.proofs.Given.{making_source, source_making, source_value}
 use Rattle.kept_map.proofs.EditedFlats.{IsWrittenAs}
 use Rattle.kept_map.proofs.EditedPlans.{flats_make, flats_made, flats_touched, flats_ranged, stand_added, stand_defined, stand_dropped}
-use Rattle.kept_map.proofs.Naming.{source_def}
+use Rattle.kept_map.proofs.SourceLayers.{source_def}
 use Rattle.kept_map.proofs.SourcesAfter.{is_source_def, stand_by, stood_by, other_stamps}
 use Rattle.kept_map.proofs.SettingUp.{nothing_operands, loaded_operands, left_changes, loaded_changes, others_left, absent_before}
+use Rattle.kept_map.proofs.Given.{making_source, source_making, source_value}
 use Rattle.live_engine.specs.Drafts.{entries_after, state_after, draft_state, sources_after, flats_written, counts_with, IsDraftOf, IsDraft, IsRepairedFor}
 use Rattle.live_engine.specs.declared.drafts.Change.{Change}
 use Rattle.live_engine.specs.declared.drafts.Change.TheVariants.{Source, Statement, Out}
@@ -69,15 +70,6 @@ joined_none c =
     let b : 0 + c.evaluated ≡ c.evaluated = omega arith in
     let d : 0 + c.worked ≡ c.worked = omega arith in
     rw (a, b, d) refl
-
--- what an edit of a name counts of the name's own source
-abbrev pub own_of : Size → Change → Counts
-own_of size (Source key layer place) = record { changed = tiles_in size; evaluated = tiles_in size; worked = 0 }
-own_of size change = no_counts
-
-pub own_joined : (size : Size) (change : Change) (counts : Counts) → joined (own_of size change) counts ≡ counts_with size change counts
-own_joined size (Source key layer place) counts = refl
-own_joined size change counts = joined_none counts
 
 module _ (m : KeptMap) (keeps : IsKept m) (e : WholeEdit) (draft : Draft) where
   abbrev n : Name
@@ -116,12 +108,12 @@ module _ (m : KeptMap) (keeps : IsKept m) (e : WholeEdit) (draft : Draft) where
   others_stay Out is = find_drop_other (entries_in m) n
 
   pub draft_change : (change : Change) → Drafted change → IsGoodChange (entries_in m) n (new change)
-  draft_change change is = record { good = good change is; makings = stay }
-    where
-      stay : (q : Name) → bytes_eq n (head_of q) ≡ false → find_making (layers (new change)) q ≡ find_making (layers (entries_in m)) q
-      stay q differs =
-          making_by_head (new change) q is.lawful.groups is.lawful.apart
-          ∙ ap (group_making q) (others_stay change is (head_of q) (bytes_eq-turned n (head_of q) differs)) ∙ sym (making_by_head (entries_in m) q keeps.lawful.groups keeps.lawful.apart)
+  draft_change change is = record {
+    good = good change is;
+    makings = λ q differs.
+        making_by_head (new change) q is.lawful.groups is.lawful.apart
+        ∙ ap (group_making q) (others_stay change is (head_of q) (bytes_eq-turned n (head_of q) differs)) ∙ sym (making_by_head (entries_in m) q keeps.lawful.groups keeps.lawful.apart);
+  }
 
   wrote : (change : Change) → Drafted change → IsWrittenAs (find_def (new change) n) (flats_written change)
   wrote (Source key layer place) is = subst (λ o. IsWrittenAs o []) (sym (there (Source key layer place) is)) refl
@@ -136,7 +128,7 @@ module _ (m : KeptMap) (keeps : IsKept m) (e : WholeEdit) (draft : Draft) where
     attempt = is.attempt;
     shift_is = sized;
     operands = loaded_operands m keeps b sized;
-    changes = loaded_changes m keeps t change.good.none_looped b n (undotted_name (Source key layer place) is) is.fits.absent cells (others_left m keeps t n change (λ grid def. absurd (never grid def)));
+    changes = loaded_changes m keeps t change.good.none_looped b n (undotted_name (Source key layer place) is) is.fits.absent cells (others_left m keeps t n change (λ grid def. absurd (none-some (source grid) (sym is.fits.absent ∙ def))));
     count = let a = length-append m.sources.names.keys (n ∷ []) in let count = keeps.sources.count in omega (arith, a, count);
   }
     where
@@ -148,9 +140,6 @@ module _ (m : KeptMap) (keeps : IsKept m) (e : WholeEdit) (draft : Draft) where
 
       sized : b.now.size ≡ m.extent
       sized = ap (λ (l : LayerState). l.size) same ∙ is.fits.sized
-
-      never : (grid : Grid) → find_def (entries_in m) n ≡ Some (source grid) → ⊥
-      never grid def = let no : None ≡ Some (source grid) = sym is.fits.absent ∙ def in cc
 
       cells : cells_of t n ≡ Some b.now.cells
       cells =
@@ -208,8 +197,9 @@ module _ (m : KeptMap) (keeps : IsKept m) (e : WholeEdit) (draft : Draft) where
   no_making : Drafted Out → find_making (layers (new Out)) n ≡ None
   no_making is = making_by_head (new Out) n is.lawful.groups is.lawful.apart ∙ ap (group_making n) (ap (find_def (new Out)) (head_undotted n (undotted_name Out is)) ∙ there Out is)
 
-  own_source : (change : Change) → Drafted change → counts_of_touched (whole n) (names_in m) (after change).names ≡ own_of m.extent change
-  own_source (Source key layer place) is = rw (making, changed, bytes_eq-self n, tiles_long m.extent) refl
+  -- with what is counted of the name's own source
+  own_source : (change : Change) → Drafted change → (counts : Counts) → joined (counts_of_touched (whole n) (names_in m) (after change).names) counts ≡ counts_with m.extent change counts
+  own_source (Source key layer place) is counts = rw (making, changed, bytes_eq-self n, tiles_long m.extent) refl
     where
       t : EngineState
       t = (after (Source key layer place)).names
@@ -219,7 +209,7 @@ module _ (m : KeptMap) (keeps : IsKept m) (e : WholeEdit) (draft : Draft) where
 
       changed : length (changed_of (names_in m) t n) ≡ tiles_in m.extent
       changed = all_changed m.extent (cells_of (names_in m) n) (now_of t n) (absent_before m keeps n (undotted_name (Source key layer place) is) is.fits.absent)
-  own_source (Statement written flats place) is = go (find_making (layers (new (Statement written flats place))) n) refl
+  own_source (Statement written flats place) is counts = ap (λ o. joined o counts) (go (find_making (layers (new (Statement written flats place))) n) refl) ∙ joined_none counts
     where
       go : (o : Option Making) → find_making (layers (new (Statement written flats place))) n ≡ o → counts_of_source (whole n) (names_in m) (after (Statement written flats place)).names n o ≡ no_counts
       go None e = refl
@@ -227,13 +217,13 @@ module _ (m : KeptMap) (keeps : IsKept m) (e : WholeEdit) (draft : Draft) where
       go (Some (given_grid grid)) e =
           let both : Some (statement (written_view written) (flats_view flats.items)) ≡ Some (source grid) = sym (there (Statement written flats place) is) ∙ making_source (new (Statement written flats place)) n is.lawful.groups is.lawful.apart grid e in
           absurd cc
-  own_source Out is = ap (counts_of_source (whole n) (names_in m) (after Out).names n) (no_making is)
+  own_source Out is counts = ap (λ o. joined (counts_of_source (whole n) (names_in m) (after Out).names n o) counts) (no_making is) ∙ joined_none counts
 
   pub out_value : Drafted Out → value_of (after Out).names n ≡ None
   out_value is = value_unfolds (after Out).names is.lawful.none_looped n ∙ ap (made m.extent (value_of (after Out).names)) (no_making is)
 
-  pub own_counts : (change : Change) → Drafted change → counts_of_touched (touch_of e) (names_in m) (after change).names ≡ own_of m.extent change
-  own_counts change is = ap (λ touch. counts_of_touched touch (names_in m) (after change).names) is.touch ∙ own_source change is
+  pub own_counts : (change : Change) → Drafted change → (counts : Counts) → joined (counts_of_touched (touch_of e) (names_in m) (after change).names) counts ≡ counts_with m.extent change counts
+  own_counts change is counts = ap (λ touch. joined (counts_of_touched touch (names_in m) (after change).names) counts) is.touch ∙ own_source change is counts
 
   -- ---- the sources of a map, which a statement leaves as they are
 
@@ -242,28 +232,26 @@ module _ (m : KeptMap) (keeps : IsKept m) (e : WholeEdit) (draft : Draft) where
     put = Statement written flats place
 
     places_stay : (q : Name) → is_some (position (bytes_eq q) m.sources.names.keys) ≡ is_source_def (find_def (new put) q)
-    places_stay q = stood_by m keeps q ∙ go (bytes_eq q n) refl
+    places_stay q = stood_by m keeps q ∙ elim (cases_Bool (bytes_eq q n)) [
+      | inl same ↦
+          let at = same_name q n same in
+          ap (λ a. is_source_def (find_def (entries_in m) a)) at ∙ no_source (find_def (entries_in m) n) d.fits.other ∙ sym (ap (λ a. is_source_def (find_def (new put) a)) at ∙ ap is_source_def (there put d))
+      | inr other ↦ ap is_source_def (sym (others_stay put d q other))
+    ]
       where
         no_source : (o : Option Def) → ((grid : Grid) → o ≡ Some (source grid) → ⊥) → is_source_def o ≡ false
         no_source None other = refl
         no_source (Some (source grid)) other = absurd (other grid refl)
         no_source (Some (statement w fs)) other = refl
 
-        go : (b : Bool) → bytes_eq q n ≡ b → is_source_def (find_def (entries_in m) q) ≡ is_source_def (find_def (new put) q)
-        go true same =
-            let at = same_name q n same in
-            ap (λ a. is_source_def (find_def (entries_in m) a)) at ∙ no_source (find_def (entries_in m) n) d.fits.other ∙ sym (ap (λ a. is_source_def (find_def (new put) a)) at ∙ ap is_source_def (there put d))
-        go false other = ap is_source_def (sym (others_stay put d q other))
-
     pub kept_sources : AreKeptSources (after put).names m.sources
     kept_sources = record { stand = stand_by (new put) m.sources.names.keys d.lawful.groups d.lawful.apart places_stay; apart = keeps.sources.apart; count = keeps.sources.count; whole = keeps.sources.whole }
 
     pub kept_stamps : (q : Name) (l : LayerState) → source_in m.sources q ≡ Some l → l.stamps ≡ stamps_at (seen m) (after put) q
-    kept_stamps q l at = other_stamps m keeps (after put) refl (good put d) q l (go (bytes_eq q n) refl) at
-      where
-        go : (b : Bool) → bytes_eq q n ≡ b → find_def (new put) q ≡ find_def (entries_in m) q
-        go true same = absurd (d.fits.other (grid_of l) (ap (find_def (entries_in m)) (sym (same_name q n same)) ∙ source_def m q keeps l at))
-        go false other = others_stay put d q other
+    kept_stamps q l at = other_stamps m keeps (after put) refl (good put d) q l (elim (cases_Bool (bytes_eq q n)) [
+      | inl same ↦ absurd (d.fits.other (grid_of l) (ap (find_def (entries_in m)) (sym (same_name q n same)) ∙ source_def m q keeps l at))
+      | inr other ↦ others_stay put d q other
+    ]) at
 
 -- ---- what is asked of a repair, and what it then tells of the draft
 

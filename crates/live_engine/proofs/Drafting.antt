@@ -1,7 +1,7 @@
 -- The drafts of edits of names: of sources that are added, statements that are written and names that are dropped; and how such edits are refused.
-use Rattle.std.proofs.Common.{◌≡◌, ℕ, ◌+◌, ◌<◌, ◌≤◌, ◌^◌, Bool, true, false, cond, List, [], ◌∷◌, ◌++◌, filter, length, count_by, position, ◌==◌, ℤ, Option, Some, None, is_some, Ok, Err, bytes_eq, IsTrue, refl, sym, ap, subst, ◌∙◌, arith, not, unwrap_or, IfSome, IfNone, map, option_map, Result, Vec, IsFalse}
+use Rattle.std.proofs.Common.{◌≡◌, ℕ, ◌+◌, ◌<◌, ◌≤◌, ◌^◌, Bool, true, false, cond, List, [], ◌∷◌, ◌++◌, filter, length, count_by, position, ◌==◌, ℤ, Option, Some, None, is_some, Ok, Err, bytes_eq, IsTrue, refl, sym, ap, subst, ◌∙◌, arith, not, unwrap_or, IfSome, IfNone, map, option_map, Result, Vec, IsFalse, inl, inr}
 use Rattle.std.proofs.lemmas.List.Filters.{sum_by-filter_both}
-use Rattle.std.proofs.lemmas.Bool.{lt-ltb, and_parts, eqb-true}
+use Rattle.std.proofs.lemmas.Bool.{cond_both, lt-ltb, and_parts, eqb-true, cases_Bool}
 use Rattle.std.specs.List.{All}
 use Rattle.std.specs.declared.alloc.Global.{Global}
 use Rattle.std.proofs.lemmas.List.{map-append}
@@ -39,14 +39,14 @@ use Rattle.map_edits.specs.WholeStates.{WholeState}
 use Rattle.map_edits.proofs.LawfulEdits.{entries_good, good_of}
 use Rattle.map_edits.specs.Marks.{Mark, drop_marks}
 use Rattle.map_edits.specs.Limits as limits
-use Rattle.map_edits.specs.GroupLaws.{IsPlainEdit, IsSaid}
+use Rattle.map_edits.specs.GroupLaws.{IsPlainEdit}
 use Rattle.map_edits.proofs.Accepted.{none_beyond}
 use Rattle.kept_map.specs.Maps.{grid_of, entries_in, names_in, seen}
 use Rattle.kept_map.specs.Keeps.{IsKept}
 use Rattle.kept_map.specs.declared.maps.KeptMap.{KeptMap}
 use Rattle.kept_map.proofs.Few.{few_nodes}
-use Rattle.kept_map.proofs.Groupings.{nodes_in_groups, has_group_is, groups_add, groups_drop, groups_put}
 use Rattle.kept_map.proofs.SourcesAfter.{is_source_def, stood_by}
+use Rattle.kept_map.proofs.Groupings.{nodes_in_groups, has_group_is, groups_add, groups_drop, groups_put}
 use Rattle.kept_map.specs.Groups.{groups_of, statement_nodes, IsGraphWith}
 use Rattle.live_engine.specs.Accepts.{Refuses, which_of}
 use Rattle.live_engine.specs.declared.edits.Refusal.TheVariants as a_refusal
@@ -66,26 +66,24 @@ use Rattle.live_engine.specs.declared.edits.Which.{Which}
 use Rattle.live_engine.specs.declared.edits.Which.TheVariants as which
 use Rattle.live_engine.specs.declared.edits.Refusal as refused
 use Rattle.live_engine.proofs.Bodies.{written_undotted}
-use Rattle.live_engine.proofs.Refusing.{accept_refused}
+use Rattle.live_engine.proofs.Accepting.{accept_refused}
 
 -- ---- counts
 
 -- one source more at most
 source_more : (es : List Entry) (n : Name) (grid : Grid) → count_by is_source (put_entry es n (source grid)) ≤ count_by is_source es + 1
 source_more [] n grid = let a = count_first is_source (record { name = n; def = source grid }) [] in omega arith
-source_more (e ∷ es) n grid = go (bytes_eq e.name n) (source_more es n grid)
-  where
-    go : (b : Bool) → count_by is_source (put_entry es n (source grid)) ≤ count_by is_source es + 1
-        → count_by is_source (cond b (record e { def = source grid } ∷ es) (e ∷ put_entry es n (source grid))) ≤ count_by is_source (e ∷ es) + 1
-    go true rest = let a = count_first is_source (record e { def = source grid }) es in let b = count_first is_source e es in omega arith
-    go false rest = let a = count_first is_source e (put_entry es n (source grid)) in let b = count_first is_source e es in omega arith
+source_more (e ∷ es) n grid =
+    let rest = source_more es n grid in
+    let b = count_first is_source e es in
+    cond_both (bytes_eq e.name n) (record e { def = source grid } ∷ es) (e ∷ put_entry es n (source grid)) (λ left. count_by is_source left ≤ count_by is_source (e ∷ es) + 1)
+    (λ same. let a = count_first is_source (record e { def = source grid }) es in omega (arith, a, b)) (λ other. let a = count_first is_source e (put_entry es n (source grid)) in omega (arith, a, b, rest))
 
 -- and no flat statement
 flats_stay : (es : List Entry) (n : Name) (grid : Grid) → count_by is_flat (layers (put_entry es n (source grid))) ≤ count_by is_flat (layers es)
-flats_stay es n grid = let put = count_put is_flat es n (source grid) in let none = no_flat n in omega (arith, put, none)
-  where
-    no_flat : (a : Name) → count_by is_flat (layers_of (record { name = a; def = source grid })) ≡ 0
-    no_flat a = refl
+flats_stay es n grid =
+    let put = count_put is_flat es n (source grid) in let none : count_by is_flat (layers_of (record { name = n; def = source grid })) ≡ 0 = refl in
+    omega (arith, put, none)
 
 -- a drop leaves no more
 fewer_sources : (es : List Entry) (n : Name) → count_by is_source (drop_entry es n) ≤ count_by is_source es
@@ -96,11 +94,9 @@ fewer_sources es n =
 
 fewer_flats : (es : List Entry) (n : Name) → count_by is_flat (layers (drop_entry es n)) ≤ count_by is_flat (layers es)
 fewer_flats [] n = omega arith
-fewer_flats (e ∷ es) n = go (bytes_eq e.name n) (fewer_flats es n)
-  where
-    go : (b : Bool) → count_by is_flat (layers (drop_entry es n)) ≤ count_by is_flat (layers es) → count_by is_flat (layers (cond (not b) (e ∷ drop_entry es n) (drop_entry es n))) ≤ count_by is_flat (layers (e ∷ es))
-    go true rest = let b = count_join is_flat (layers_of e) (layers es) in omega arith
-    go false rest = let a = count_join is_flat (layers_of e) (layers (drop_entry es n)) in let b = count_join is_flat (layers_of e) (layers es) in omega arith
+fewer_flats (e ∷ es) n =
+    let rest = fewer_flats es n in let a = count_join is_flat (layers_of e) (layers (drop_entry es n)) in let b = count_join is_flat (layers_of e) (layers es) in
+    elim (cases_Bool (bytes_eq e.name n)) [ inl same ↦ rw same (omega arith) | inr other ↦ rw other (omega arith) ]
 
 -- ---- the graph
 
@@ -234,9 +230,6 @@ statement_own n fs named =
 -- ---- a statement of a map
 
 module _ (m : KeptMap) (keeps : IsKept m) (n : Name) (written : Written) where
-  defines_said : IsTrue (is_plain n) → IsWritten (written_view written) → IsSaid (seen m) (defines n written)
-  defines_said plain formed = (plain_undotted n plain, written_undotted (written_view written) formed)
-
   refused_names : (r : Refusal) → entries_with m.procedures (names_in m) (define n (written_view written)) ≡ Err r → accept_counted (seen m) (defines n written) ≡ Err r
   refused_names r e = accept_refused (seen m) (defines n written) r (ap (with_names (seen m) (define n (written_view written))) e)
 
@@ -252,23 +245,20 @@ module _ (m : KeptMap) (keeps : IsKept m) (n : Name) (written : Written) where
       go (Some (statement w flats)) is = absurd cc
 
   -- what the name stands for is no source
-  abbrev pub IsOther : Type 0
+  abbrev IsOther : Type 0
   IsOther = (grid : Grid) → find_def (entries_in m) n ≡ Some (source grid) → ⊥
 
-  pub other_kind : (kind : Kind) → kind ≡ standing_of (find_def (entries_in m) n) → (kind ≡ kinds.Source → ⊥) → IsOther
-  other_kind kind is differs grid e = differs (is ∙ ap standing_of e)
+  module _ (kind : Kind) (kind_is : kind ≡ standing_of (find_def (entries_in m) n)) (differs : kind ≡ kinds.Source → ⊥) where
+    no_source : IsOther
+    no_source grid e = differs (kind_is ∙ ap standing_of e)
 
-  module _ (no_source : IsOther) where
-    puts : entries_after_it ≡ put_statement (entries_in m) n (written_view written) (expansion_of m.procedures n (written_view written))
-    puts = go (find_def (entries_in m) n) refl
+    puts_by : (r : Result (List meant.Flat) WrongCall) → expansion_of m.procedures n (written_view written) ≡ r → entries_after_it ≡ put_statement (entries_in m) n (written_view written) r
+    puts_by r e = go (find_def (entries_in m) n) refl ∙ ap (put_statement (entries_in m) n (written_view written)) e
       where
         go : (o : Option Def) → find_def (entries_in m) n ≡ o → define_with m.procedures (entries_in m) n (written_view written) o ≡ put_statement (entries_in m) n (written_view written) (expansion_of m.procedures n (written_view written))
         go None e = refl
         go (Some (source grid)) e = absurd (no_source grid e)
         go (Some (statement w flats)) e = refl
-
-    puts_by : (r : Result (List meant.Flat) WrongCall) → expansion_of m.procedures n (written_view written) ≡ r → entries_after_it ≡ put_statement (entries_in m) n (written_view written) r
-    puts_by r e = puts ∙ ap (put_statement (entries_in m) n (written_view written)) e
 
     -- a statement of more flat ones than there may be
     alone_many : (fs : List meant.Flat) → 64 < length fs → 64 < count_by is_flat (layers (put_entry (entries_in m) n (statement (written_view written) fs)))
@@ -314,26 +304,22 @@ module _ (m : KeptMap) (keeps : IsKept m) (n : Name) (written : Written) where
               omega (arith, nodes, all, sources, flats);
         }
 
-        defined_cycle : IsTrue (is_looped (nodes_in (groups_with_it m n fs)) n) → Refuses (seen m) (seen m) (defines n written) (a_refusal.Cycle n)
-        defined_cycle looped = (refused_names (cycle n) (puts_it ∙ bounded_within n (entries_with_it m n written fs) true few (ap (λ nodes. is_looped nodes n) (sym graph_nodes) ∙ looped)), refl)
-
         -- the graph doesn't take it
         pub defined_not_put : (r : GraphRefusal) → IsGraphWith m.graph n (statement_nodes (flats_view fs)) (Err r) → Refuses (seen m) (seen m) (defines n written) (not_put n r)
-        defined_not_put Cycle looped = defined_cycle looped
+        defined_not_put Cycle looped = (refused_names (cycle n) (puts_it ∙ bounded_within n (entries_with_it m n written fs) true few (ap (λ nodes. is_looped nodes n) (sym graph_nodes) ∙ looped)), refl)
         defined_not_put NoMemory is = refl
 
-        module _ (alone : IsFalse (is_looped (nodes_in (groups_with_it m n fs)) n)) where
-          defined_entries : entries_after_it ≡ Ok (entries_with_it m n written fs)
-          defined_entries = puts_it ∙ bounded_within n (entries_with_it m n written fs) false few (ap (λ nodes. is_looped nodes n) (sym graph_nodes) ∙ alone)
+        defined_entries : IsFalse (is_looped (nodes_in (groups_with_it m n fs)) n) → entries_after_it ≡ Ok (entries_with_it m n written fs)
+        defined_entries alone = puts_it ∙ bounded_within n (entries_with_it m n written fs) false few (ap (λ nodes. is_looped nodes n) (sym graph_nodes) ∙ alone)
 
   -- ---- the draft
 
-  pub defined_draft : (no_source : IsOther) (flats : Vec Flat Global) (expands : expansion_of m.procedures n (written_view written) ≡ Ok (flats_view flats.items)) (few : IsBeyond (entries_with_it m n written flats.items) None)
+  pub defined_draft : (kind : Kind) (kind_is : kind ≡ standing_of (find_def (entries_in m) n)) (differs : kind ≡ kinds.Source → ⊥) (flats : Vec Flat Global) (expands : expansion_of m.procedures n (written_view written) ≡ Ok (flats_view flats.items)) (few : IsBeyond (entries_with_it m n written flats.items) None)
       → IsFalse (is_looped (nodes_in (groups_with_it m n flats.items)) n) → (graph : List Group) → graph ≡ groups_with_it m n flats.items → IsTrue (is_plain n) → IsWritten (written_view written) → All (λ (f : Flat). HasRanges (op_view f.op)) flats.items
       → IsDraftOf m (defines n written) n (Statement written flats None) graph None None
-  defined_draft no_source flats expands few alone graph graph_is plain formed ranges =
+  defined_draft kind kind_is differs flats expands few alone graph graph_is plain formed ranges =
       let fs = flats.items in
-      by_entries m keeps n (define n (written_view written)) (Statement written flats None) None None plain (defines_said plain formed) refl (defined_entries no_source fs expands few alone) refl refl
-      (record { formed = formed; ranges = ranges; other = no_source; seat = tt }) graph
+      by_entries m keeps n (define n (written_view written)) (Statement written flats None) None None plain (plain_undotted n plain, written_undotted (written_view written) formed) refl (defined_entries kind kind_is differs fs expands few alone) refl refl
+      (record { formed = formed; ranges = ranges; other = no_source kind kind_is differs; seat = tt }) graph
       (graph_is ∙ ap (λ (g : List Group). put_group g n (statement_nodes (flats_view fs))) keeps.graph_is ∙ groups_put (entries_in m) n (written_view written) (flats_view fs))
-      (sources_with_few no_source fs expands few) (flats_within n (entries_with_it m n written fs) few)
+      (sources_with_few kind kind_is differs fs expands few) (flats_within n (entries_with_it m n written fs) few)

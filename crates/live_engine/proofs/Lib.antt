@@ -1,13 +1,10 @@
-pub mod Items
-pub mod RangedFlats
 pub mod MetTiles
 pub mod PaintedTiles
 pub mod Counted
 pub mod Accepting
 pub mod Bodies
+pub mod RangedFlats
 pub mod Noted
-pub mod Refusing
-pub mod Reached
 pub mod Backs
 pub mod Seated
 pub mod Drafting

@@ -46,8 +46,7 @@ use Rattle.kept_map.specs.Maps.{at_place, layer_in, entries_in, names_in, seen}
 use Rattle.kept_map.specs.Keeps.{IsKept, AreKeptSteps}
 use Rattle.kept_map.specs.Repairs.{counts_view}
 use Rattle.kept_map.specs.declared.maps.KeptMap.{KeptMap}
-use Rattle.kept_map.proofs.Asked.{IsTold, source_told, statement_told, nothing_told}
-use Rattle.kept_map.proofs.LayersByName.{layer_kept, layer_source}
+use Rattle.kept_map.proofs.LayersByName.{layer_kept, layer_source, IsTold, source_told, statement_told, nothing_told}
 use Rattle.kept_map.proofs.SourceLayers.{layer_at, source_at, source_none, source_whole}
 use Rattle.live_engine.specs.Accepts.{Accepts}
 use Rattle.live_engine.specs.Inverses.{back, touched, past_of, is_note, Suits, AreReached, Fits, TakesBack}
@@ -58,7 +57,7 @@ use Rattle.live_engine.specs.declared.inverses.Inverse.TheVariants as inverses
 use Rattle.live_engine.specs.declared.noting.Note.{Note}
 use Rattle.live_engine.specs.declared.noting.Note.TheVariants as notes
 use Rattle.live_engine.proofs.Bodies.{body_made}
-use Rattle.live_engine.proofs.Reached.{kept_reached, reached_said}
+use Rattle.live_engine.proofs.Backs.{kept_reached, reached_said}
 
 map_agree : (f g : LayerDef → Stamps) (ls : List LayerDef) → All (λ l. f l ≡ g l) ls → map f ls ≡ map g ls
 map_agree f g [] each = refl
@@ -261,10 +260,7 @@ record LeadsBack (m : KeptMap) (note : Note) (i : Inverse) : Type 0 where
   touch_is : touched i ≡ touch_of (edit_of_note note)
 
 without_last : (ps : List Procedure) (p : Procedure) → take (length (ps ++ p ∷ []) - 1) (ps ++ p ∷ []) ≡ ps
-without_last ps p = ap (λ n. take n (ps ++ p ∷ [])) count ∙ take-append_seam ps (p ∷ [])
-  where
-    count : length (ps ++ p ∷ []) - 1 ≡ length ps
-    count = omega (arith, length-append ps (p ∷ []))
+without_last ps p = let count : length (ps ++ p ∷ []) - 1 ≡ length ps = omega (arith, length-append ps (p ∷ [])) in ap (λ n. take n (ps ++ p ∷ [])) count ∙ take-append_seam ps (p ∷ [])
 
 leads_back : (m : KeptMap) (note : Note) (i : Inverse) → IsNoteBack m note i → LeadsBack m note i
 leads_back m (notes.Procedure p) inverses.Procedure is = record {

@@ -1,13 +1,13 @@
 -- An edit that repaints a source: the state that it makes, what it does to the sources, and the map after it.
-use Rattle.std.proofs.Common.{◌≡◌, inr, ℕ, ◌≤◌, ◌==◌, Bool, true, false, cond, ◌<◌, ◌^◌, List, [], count_by, length, set, position, Option, Some, None, is_some, option_map, unwrap_or, slice_get, bytes_eq, Result, Ok, refl, sym, ap, subst, ◌∙◌, arith}
+use Rattle.std.proofs.Common.{◌≡◌, inl, inr, ℕ, ◌≤◌, ◌==◌, true, false, cond, ◌<◌, ◌^◌, List, [], count_by, length, set, position, Option, Some, None, is_some, option_map, unwrap_or, slice_get, bytes_eq, Result, Ok, refl, sym, ap, subst, ◌∙◌, arith}
 use Rattle.std.specs.List.{All}
-use Rattle.std.proofs.lemmas.Bool.{cond_both, eqb-true, eqb-false, false_from_ne_true}
+use Rattle.std.proofs.lemmas.Bool.{cases_Bool, cond_both, eqb-true, eqb-false, false_from_ne_true}
 use Rattle.std.proofs.lemmas.List.{length-map, length-set}
 use Rattle.std.proofs.lemmas.List.Elements.{All-set}
 use Rattle.std.proofs.lemmas.Option.{same_Some, slice_get_within}
 use Rattle.map_nums.specs.Counts.{raised}
 use Rattle.map_nums.specs.Grids.{Size, Grid, Cells}
-use Rattle.map_defs.specs.Ops.{Name, Op}
+use Rattle.map_defs.specs.Ops.{Name}
 use Rattle.map_defs.specs.Nodes.{Node, find_node}
 use Rattle.map_defs.specs.Differences.{changed_tiles}
 use Rattle.layer_tiles.specs.Changes.{same_change, patched_change}
@@ -55,14 +55,13 @@ use Rattle.kept_map.specs.declared.maps.KeptMap.{KeptMap}
 use Rattle.kept_map.specs.declared.maps.Sources.{Sources}
 use Rattle.kept_map.specs.declared.repairing.Prepared.{Prepared}
 use Rattle.kept_map.proofs.Committed.{committed_prepared}
-use Rattle.kept_map.proofs.Given.{undotted, source_making, source_value}
-use Rattle.kept_map.proofs.Groupings.{nodes_in_groups, groups_repaint}
 use Rattle.kept_map.proofs.LayersByName.{layer_source, stamps_found}
-use Rattle.kept_map.proofs.Naming.{placed_item, source_def}
 use Rattle.kept_map.proofs.Ready.{rests_after}
 use Rattle.map_waves.proofs.Making.{all_get}
 use Rattle.kept_map.proofs.SettingUp.{place_is, same_operand, constant_operand, placed_layer, placed_def, value_before, left_change, stamps_stay}
-use Rattle.kept_map.proofs.SourceLayers.{source_at, source_painted, source_unpainted, entries_painted}
+use Rattle.kept_map.proofs.SourceLayers.{source_at, source_painted, source_unpainted, entries_painted, placed_item, source_def}
+use Rattle.kept_map.proofs.Given.{undotted, source_making, source_value}
+use Rattle.kept_map.proofs.Groupings.{nodes_in_groups, groups_repaint}
 use Rattle.live_engine.specs.Painting.{rectangle_of, met_tiles}
 use Rattle.live_engine.specs.Inverses.{TakesBack}
 use Rattle.live_engine.specs.Repainting.{CanRepaint, HadTiles, IsRepainted, IsRepaintOf, repainted_state}
@@ -138,17 +137,16 @@ module _ (m : KeptMap) (kept : IsKept m) (e : WholeEdit) (grid : Grid) (d : Repa
   same_plan : IsSamePlan m e after
   same_plan = record {
     nodes = nodes;
-    makings = λ q op made. go q op made (bytes_eq n (head_of q)) refl;
-    untouched = λ q op made. ap (λ touch. is_whole entries touch q) is.touch;
-  }
-    where
-      go : (q : Name) (op : Op) → find_making (layers (entries_in m)) q ≡ Some (by_op op) → (b : Bool) → bytes_eq n (head_of q) ≡ b → find_making (layers entries) q ≡ Some (by_op op)
-      go q op was false differs = change.makings q differs ∙ was
-      go q op was true same =
+    makings = λ q op was. elim (cases_Bool (bytes_eq n (head_of q))) [
+      | inl same ↦
           let own : n ≡ head_of q = same_name n (head_of q) same in
           let made : find_making (def_layers (head_of q) (source (grid_of l))) q ≡ Some (by_op op) =
           ap (group_making q) (sym (ap (find_def (entries_in m)) (sym own) ∙ def)) ∙ sym (making_by_head (entries_in m) q kept.lawful.groups kept.lawful.apart) ∙ was in
           absurd (source_only (head_of q) q (grid_of l) op made)
+      | inr differs ↦ change.makings q differs ∙ was
+    ];
+    untouched = λ q op made. ap (λ touch. is_whole entries touch q) is.touch;
+  }
 
   -- ---- how many names there are, and tiles
 
@@ -242,7 +240,7 @@ module _ (m : KeptMap) (kept : IsKept m) (e : WholeEdit) (grid : Grid) (d : Repa
 
     module _ (prepared : Prepared) (made : (f : WholeEdit) (t : WholeState) → IsSetUp m f t shift m.sources.names.keys → IsSamePlan m f t → IsPreparedFor m f t shift m.sources.names.keys m.planned.names.keys m.planned.steps.items prepared) where
       ready : IsPreparedFor m e after shift m.sources.names.keys m.planned.names.keys m.planned.steps.items prepared
-      ready = made e after set_up same_plan
+      ready = paint_gives made
 
       pub paint_few : (prepared.counts.changed < 2 ^ 63) × (prepared.counts.evaluated < 2 ^ 63)
       paint_few = (
@@ -301,20 +299,19 @@ module _ (m : KeptMap) (kept : IsKept m) (e : WholeEdit) (grid : Grid) (d : Repa
               ∙ ap (λ cs. put_entry (entries_in m) n (source (record { size = grid.size; cells = cs }))) new_cells
 
           stamps_are : (q : Name) (k : LayerState) → source_in sources_after q ≡ Some k → k.stamps ≡ stamps_at (seen m) after q
-          stamps_are q k its = go (bytes_eq q n) refl
-            where
-              go : (b : Bool) → bytes_eq q n ≡ b → k.stamps ≡ stamps_at (seen m) after q
-              go false differs =
-                  let before = sym (other_source q differs) ∙ its in
-                  stamps_stay m kept after refl q k before (value_after q (grid_of k) (find_put_other (entries_in m) n (source grid) q differs ∙ source_def m q kept k before))
-              go true same =
-                  let own : q ≡ n = same_name q n same in
-                  let layer : new ≡ k = same_Some new k (sym own_source ∙ ap (source_in sources_after) (sym own) ∙ its) in
-                  ap (λ (x : LayerState). x.stamps) (sym layer)
-                  ∙ old_is_stamped (seen m) after n l.cells grid.cells l.stamps new.stamps kept.size (value_before m kept n l def) own_value
-                  (stamps_found (layer_in m) (names_in m) n l (layer_source m n l found) (ap is_some (source_value (names_in m) n (grid_of l) kept.lawful.groups kept.lawful.apart kept.lawful.none_looped def)))
-                  (subst (λ (cs : Cells). IsStamped m.extent l.cells cs (raised m.number 1) l.stamps new.stamps) new_cells (subst (λ (z : Size). IsStamped z l.cells new.cells (raised m.number 1) l.stamps new.stamps) size_is committed.stamps))
-                  ∙ ap (stamps_at (seen m) after) (sym own)
+          stamps_are q k its = elim (cases_Bool (bytes_eq q n)) [
+            | inl same ↦
+                let own : q ≡ n = same_name q n same in
+                let layer : new ≡ k = same_Some new k (sym own_source ∙ ap (source_in sources_after) (sym own) ∙ its) in
+                ap (λ (x : LayerState). x.stamps) (sym layer)
+                ∙ old_is_stamped (seen m) after n l.cells grid.cells l.stamps new.stamps kept.size (value_before m kept n l def) own_value
+                (stamps_found (layer_in m) (names_in m) n l (layer_source m n l found) (ap is_some (source_value (names_in m) n (grid_of l) kept.lawful.groups kept.lawful.apart kept.lawful.none_looped def)))
+                (subst (λ (cs : Cells). IsStamped m.extent l.cells cs (raised m.number 1) l.stamps new.stamps) new_cells (subst (λ (z : Size). IsStamped z l.cells new.cells (raised m.number 1) l.stamps new.stamps) size_is committed.stamps))
+                ∙ ap (stamps_at (seen m) after) (sym own)
+            | inr differs ↦
+                let before = sym (other_source q differs) ∙ its in
+                stamps_stay m kept after refl q k before (value_after q (grid_of k) (find_put_other (entries_in m) n (source grid) q differs ∙ source_def m q kept k before))
+          ]
 
           pub painted_done : IsKept m' × (seen m' ≡ stamped (seen m) after)
           painted_done =

@@ -1,9 +1,11 @@
 -- The flat statements of a formed statement have their numbers in range, where the bodies of all procedures are formed.
-use Rattle.std.proofs.Common.{◌≡◌, ℕ, zero, suc, ◌==◌, Bool, true, false, cond, List, [], ◌∷◌, ◌++◌, map, length, codes, Option, Some, None, Result, Ok, Err, bytes_eq, refl, sym, subst}
+use Rattle.std.proofs.Common.{◌≡◌, ℕ, zero, suc, ◌==◌, List, [], ◌∷◌, ◌++◌, map, length, codes, Option, Some, None, Result, Ok, Err, bytes_eq, refl, sym, subst}
 use Rattle.std.specs.List.{All}
 use Rattle.std.specs.List.{AllByRecursion as ByRecursion}
+use Rattle.std.proofs.lemmas.Bool.{cond_both}
 use Rattle.std.proofs.lemmas.List.{length-map}
 use Rattle.std.proofs.lemmas.List.Elements.{All-from_recursion, recursion_from_All}
+use Rattle.std.proofs.lemmas.Option.{same_Some}
 use Rattle.map_words.specs.Bytes.{Text}
 use Rattle.map_defs.specs.Ops.{Name, Term, layer_term, number_term, Op}
 use Rattle.map_defs.specs.Facts.{facts}
@@ -17,6 +19,10 @@ use Rattle.procedure_expand.specs.declared.flat.Flat as held
 use Rattle.procedure_expand.specs.Flats.{flats_view}
 use Rattle.op_jobs.specs.Ranges.{IsInRange, HasRanges}
 use Rattle.op_jobs.proofs.Ranges.{each_of_line, ranges_of}
+
+each_join : {A : Type 0} (P : A → Type 0) (xs ys : List A) → Each P xs → Each P ys → Each P (xs ++ ys)
+each_join P [] ys first rest = rest
+each_join P (x ∷ xs) ys first rest = (first.0, each_join P xs ys first.1 rest)
 
 -- ---- what is formed is in range
 
@@ -35,15 +41,7 @@ BoundInRange bs = Each (λ (b : Binding). IsInRange b.term) bs
 
 named_ranges : (bs : List Binding) (n : Name) → BoundInRange bs → IsInRange (named_term bs n)
 named_ranges [] n bound = tt
-named_ranges (b ∷ bs) n bound = go (bytes_eq b.name n) (named_ranges bs n bound.1)
-  where
-    go : (o : Bool) → IsInRange (named_term bs n) → IsInRange (cond o b.term (named_term bs n))
-    go true rest = bound.0
-    go false rest = rest
-
-bound_more : (bs : List Binding) (b : Binding) → BoundInRange bs → IsInRange b.term → BoundInRange (bs ++ b ∷ [])
-bound_more [] b bound more = (more, tt)
-bound_more (c ∷ bs) b bound more = (bound.0, bound_more bs b bound.1 more)
+named_ranges (b ∷ bs) n bound = cond_both (bytes_eq b.name n) b.term (named_term bs n) IsInRange (λ same. bound.0) (λ other. named_ranges bs n bound.1)
 
 given_ranges : (takes : List Name) (ts : List Term) → Each IsInRange ts → BoundInRange (given_for takes ts)
 given_ranges [] ts h = tt
@@ -69,10 +67,6 @@ module _ (bs : List Binding) (bound : BoundInRange bs) where
 abbrev FlatsInRange : List Flat → Type 0
 FlatsInRange fs = Each (λ (f : Flat). HasRanges f.op) fs
 
-flats_join : (fs gs : List Flat) → FlatsInRange fs → FlatsInRange gs → FlatsInRange (fs ++ gs)
-flats_join [] gs first rest = rest
-flats_join (f ∷ fs) gs first rest = (first.0, flats_join fs gs first.1 rest)
-
 -- what a call gives is in range, where its terms are
 abbrev IsRanged : Expands → Type 0
 IsRanged expand = (name prefix p : Name) (ts : List Term) (fs : List Flat) → Each IsInRange ts → expand name prefix p ts ≡ Ok fs → FlatsInRange fs
@@ -96,28 +90,22 @@ module _ (expand : Expands) (ranged : IsRanged expand) where
       let more : Binding = record { name = i.name; term = layer_term (inner_name name prefix i.name) } in
       let both = both_are (inner_flats expand bs (inner_name name prefix i.name) (dotted prefix i.name) i.written) (body_flats expand name prefix (bs ++ more ∷ []) is) fs e in
       subst FlatsInRange both.joined
-      (flats_join both.front both.rest
+      (each_join (λ (f : Flat). HasRanges f.op) both.front both.rest
       (inner_ranges bs (inner_name name prefix i.name) (dotted prefix i.name) i.written both.front bound h.0 both.first)
-      (body_ranges name prefix (bs ++ more ∷ []) is both.rest (bound_more bs more bound tt) h.1 both.second))
+      (body_ranges name prefix (bs ++ more ∷ []) is both.rest (each_join (λ (b : Binding). IsInRange b.term) bs (more ∷ []) bound (tt, tt)) h.1 both.second))
 
 abbrev BodiesInRange : List Procedure → Type 0
 BodiesInRange ps = Each (λ (p : Procedure). BodyInRange p.body) ps
 
 found_ranges : (ps : List Procedure) (p : Name) (q : Procedure) → BodiesInRange ps → find_procedure ps p ≡ Some q → BodyInRange q.body
 found_ranges [] p q h e = absurd cc
-found_ranges (x ∷ ps) p q h e = go (bytes_eq x.name p) e (found_ranges ps p q h.1)
-  where
-    go : (o : Bool) → cond o (Some x) (find_procedure ps p) ≡ Some q → (find_procedure ps p ≡ Some q → BodyInRange q.body) → BodyInRange q.body
-    go true e rest = let same : x ≡ q = cc in subst (λ (r : Procedure). BodyInRange r.body) same h.0
-    go false e rest = rest e
+found_ranges (x ∷ ps) p q h e =
+    cond_both (bytes_eq x.name p) (Some x) (find_procedure ps p) (λ o. o ≡ Some q → BodyInRange q.body)
+    (λ same is. subst (λ (r : Procedure). BodyInRange r.body) (same_Some x q is) h.0) (λ other. found_ranges ps p q h.1) e
 
 called_is : (o : Option Procedure) (p : Name) (ts : List Term) (q : Procedure) → called o p ts ≡ Ok q → o ≡ Some q
 called_is None p ts q e = absurd cc
-called_is (Some r) p ts q e = go (length ts == length r.takes) e
-  where
-    go : (b : Bool) → cond b (Ok r) (Err (wrong_count (length ts) (length r.takes))) ≡ Ok q → Some r ≡ Some q
-    go true e = cc
-    go false e = absurd cc
+called_is (Some r) p ts q e = cond_both (length ts == length r.takes) (Ok r) (Err (wrong_count (length ts) (length r.takes))) (λ x. x ≡ Ok q → Some r ≡ Some q) (λ same is. cc) (λ other is. absurd cc) e
 
 call_ranges : (k : ℕ) (ps : List Procedure) → BodiesInRange ps → IsRanged (call_flats k ps)
 call_ranges zero ps bodies name prefix p ts fs h e = absurd cc
@@ -138,13 +126,9 @@ inner_formed : (ns : List Text) (is : List Inner) → AreInner ns is → BodyInR
 inner_formed ns [] h = tt
 inner_formed ns (i ∷ is) h = (written_ranges i.written h.1.0, inner_formed (ns ++ i.name ∷ []) is h.2)
 
-body_join : (is js : List Inner) → BodyInRange is → BodyInRange js → BodyInRange (is ++ js)
-body_join [] js first rest = rest
-body_join (i ∷ is) js first rest = (first.0, body_join is js first.1 rest)
-
 body_formed : (ps : List Text) (body : List Inner) → IsBody ps body → BodyInRange body
 body_formed ps body h =
-    subst BodyInRange (sym h.whole) (body_join h.before (record { name = codes "result"; written = h.last } ∷ []) (inner_formed ps h.before h.inner) (written_ranges h.last h.result.0, tt))
+    subst BodyInRange (sym h.whole) (each_join (λ (i : Inner). WrittenInRange i.written) h.before (record { name = codes "result"; written = h.last } ∷ []) (inner_formed ps h.before h.inner) (written_ranges h.last h.result.0, tt))
 
 bodies_formed : (ps : List Procedure) → ByRecursion IsProcedure ps → BodiesInRange ps
 bodies_formed [] h = tt

@@ -1,10 +1,10 @@
--- A name that is seated among the others, in its own place or at one of them: its item, the entries, and what is found then.
-use Rattle.std.proofs.Common.{◌≡◌, ℕ, ◌-◌, cond, false, List, [], ◌∷◌, ◌++◌, length, take, drop, Option, Some, None, bytes_eq, IsTrue, sym, ap, ◌∙◌, arith, ◌+◌, Bool, true, position, is_some, refl, subst, if◌then◌else◌}
-use Rattle.std.specs.List.{All, position_or_len, IsDistinct}
-use Rattle.std.specs.Map.{keys_of}
-use Rattle.std.proofs.lemmas.Bool.{le-ltb}
+-- A name that is seated among the others, in its own place or at one of them: its item, the entries, and what is found then; names stay plain, and statements formed.
+use Rattle.std.proofs.Common.{◌≡◌, ℕ, ◌-◌, cond, false, List, [], ◌∷◌, ◌++◌, length, take, drop, Option, Some, None, bytes_eq, IsTrue, sym, ap, ◌∙◌, arith, ◌+◌, Bool, true, position, is_some, refl, subst, if◌then◌else◌, inl, inr}
+use Rattle.std.specs.List.{All, position_or_len, IsDistinct, AllByRecursion as ByRecursion}
+use Rattle.std.specs.Map.{keys_of, remove_entry}
+use Rattle.std.proofs.lemmas.Bool.{le-ltb, cond_both, cases_Bool}
 use Rattle.std.proofs.lemmas.List.{map-append, length-map, take-map, drop-map, length-append}
-use Rattle.std.proofs.lemmas.List.Elements.{All-cons, All-append, All-take, All-drop, All-push}
+use Rattle.std.proofs.lemmas.List.Elements.{All-cons, All-append, All-take, All-drop, All-push, All-from_recursion, recursion_from_All}
 use Rattle.indexmap.specs.IndexMap.{insert_entry, move_index, index_before}
 use Rattle.indexmap.proofs.MapLemmas.{absent_from_lookup, or_len-absent, insert_entry-absent}
 use Rattle.indexmap.proofs.MoveLemmas.{push_moved}
@@ -23,7 +23,6 @@ use Rattle.kept_map.proofs.EditedFlats.{no_item}
 use Rattle.kept_map.proofs.SourceLayers.{entries_insert, source_added, source_beside, entries_elsewhere}
 use Rattle.live_engine.specs.Drafts.{seated, IsSeat}
 use Rattle.live_engine.specs.Puts.{seated_item, CanSeat}
-use Rattle.live_engine.proofs.Items.{named_insert}
 use Rattle.std.specs.Option.{option_or}
 use Rattle.std.proofs.lemmas.Option.{same_Some}
 use Rattle.map_defs.specs.MadeProcedures.{IsUndotted}
@@ -38,6 +37,23 @@ use Rattle.kept_map.specs.declared.maps.KeptMap.{KeptMap}
 use Rattle.kept_map.proofs.SettingUp.{stamps_begin, absent_before}
 use Rattle.kept_map.proofs.SourcesAfter.{is_source_def, stand_by, stood_by, other_stamps}
 use Rattle.live_engine.proofs.Drafting.{no_place}
+
+module _ (n : Name) where
+  inserted : (items : List (List ℕ × Item)) (item : Item) → IsTrue (is_plain n) → IsItem item → ByRecursion IsNamed items → ByRecursion IsNamed (insert_entry bytes_eq items n item)
+  inserted [] item plain good named = ((plain, good), tt)
+  inserted (e ∷ es) item plain good named = cond_both (bytes_eq n e.0) ((e.0, item) ∷ es) (e ∷ insert_entry bytes_eq es n item) (ByRecursion IsNamed)
+      (λ same. ((named.0.0, good), named.1)) (λ other. (named.0, inserted es item plain good named.1))
+
+  removed : (items : List (List ℕ × Item)) → ByRecursion IsNamed items → ByRecursion IsNamed (remove_entry (bytes_eq n) items)
+  removed [] named = named
+  removed (e ∷ es) named = cond_both (bytes_eq n e.0) es (e ∷ remove_entry (bytes_eq n) es) (ByRecursion IsNamed) (λ same. named.1) (λ other. (named.0, removed es named.1))
+
+module _ (items : List (List ℕ × Item)) (n : Name) (named : All IsNamed items) where
+  pub named_insert : (item : Item) → IsTrue (is_plain n) → IsItem item → All IsNamed (insert_entry bytes_eq items n item)
+  named_insert item plain good = All-from_recursion IsNamed (insert_entry bytes_eq items n item) (inserted n items item plain good (recursion_from_All IsNamed items named))
+
+  pub named_remove : All IsNamed (remove_entry (bytes_eq n) items)
+  named_remove = All-from_recursion IsNamed (remove_entry (bytes_eq n) items) (removed n items (recursion_from_All IsNamed items named))
 
 -- ---- entries
 
@@ -128,11 +144,10 @@ module _ (m : KeptMap) (keeps : IsKept m) (n : Name) (absent : find_def (entries
     }
 
     pub stamps_added : IsUndotted n → layer.stamps ≡ (layer_of t.names.size layer.cells t.names.number).stamps → (q : Name) (l : LayerState) → source_in new q ≡ Some l → l.stamps ≡ stamps_at (seen m) t q
-    stamps_added plain fresh q l here = go (bytes_eq q n) refl
-      where
-        go : (b : Bool) → bytes_eq q n ≡ b → l.stamps ≡ stamps_at (seen m) t q
-        go true same =
-            let at : q ≡ n = same_name q n same in
-            let is : layer ≡ l = same_Some layer l (sym added ∙ ap (source_in new) (sym at) ∙ here) in
-            ap (λ (k : LayerState). k.stamps) (sym is) ∙ fresh ∙ stamps_begin m keeps t size n layer.cells (absent_before m keeps n plain absent) ∙ ap (stamps_at (seen m) t) (sym at)
-        go false differs = other_stamps m keeps t size good q l (others q differs) (sym (beside q differs) ∙ here)
+    stamps_added plain fresh q l here = elim (cases_Bool (bytes_eq q n)) [
+      | inl same ↦
+          let at : q ≡ n = same_name q n same in
+          let is : layer ≡ l = same_Some layer l (sym added ∙ ap (source_in new) (sym at) ∙ here) in
+          ap (λ (k : LayerState). k.stamps) (sym is) ∙ fresh ∙ stamps_begin m keeps t size n layer.cells (absent_before m keeps n plain absent) ∙ ap (stamps_at (seen m) t) (sym at)
+      | inr differs ↦ other_stamps m keeps t size good q l (others q differs) (sym (beside q differs) ∙ here)
+    ]

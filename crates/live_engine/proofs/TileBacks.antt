@@ -1,7 +1,7 @@
 -- What takes a repaint back: the tiles that the source had, and when they can be put in place.
-use Rattle.std.proofs.Common.{◌≡◌, ℕ, ◌==◌, Bool, true, false, not, cond, List, [], ◌∷◌, length, position, Option, Some, None, option_map, slice_get, bytes_eq, Result, Ok, refl, sym, ap, subst, ◌∙◌, ℤ}
+use Rattle.std.proofs.Common.{◌≡◌, inl, inr, ℕ, ◌==◌, not, List, [], ◌∷◌, length, position, Option, Some, None, option_map, slice_get, bytes_eq, Result, Ok, refl, sym, ap, subst, ◌∙◌, ℤ}
 use Rattle.std.specs.List.{list_any}
-use Rattle.std.proofs.lemmas.Bool.{eqb-true}
+use Rattle.std.proofs.lemmas.Bool.{cases_Bool, eqb-true}
 use Rattle.std.proofs.lemmas.Bool.Decides.{same_from_decides, Decides-int_eq}
 use Rattle.std.proofs.lemmas.List.Elements.{filter_agree}
 use Rattle.std.proofs.lemmas.Option.{none-some, same_Some}
@@ -35,15 +35,14 @@ use Rattle.edit_plans.proofs.TouchedAlone.{part_touched}
 use Rattle.kept_map.specs.Maps.{grid_of, source_in, entries_in, names_in, seen}
 use Rattle.kept_map.specs.Keeps.{IsKept}
 use Rattle.kept_map.specs.declared.maps.KeptMap.{KeptMap}
+use Rattle.kept_map.proofs.SourceLayers.{source_at, source_whole, placed_item, item_source, source_def}
 use Rattle.kept_map.proofs.Given.{source_node}
-use Rattle.kept_map.proofs.Naming.{placed_item, item_source, source_def}
-use Rattle.kept_map.proofs.SourceLayers.{source_at, source_whole}
 use Rattle.live_engine.specs.Inverses.{with_tiles, repainted, back, past_of, AreReached, SuitsTiles, Fits, TakesBack}
 use Rattle.live_engine.specs.Painting.{rectangle_of}
 use Rattle.live_engine.specs.Repainting.{repainted_state, IsRepaintOf}
 use Rattle.live_engine.specs.declared.inverses.Inverse.TheVariants as inverses
 use Rattle.live_engine.specs.declared.repainting.Repaint.{Repaint}
-use Rattle.live_engine.proofs.Reached.{kept_reached, reached_lawful, reached_said}
+use Rattle.live_engine.proofs.Backs.{kept_reached, reached_lawful, reached_said}
 
 -- ---- tiles that differ do so both ways
 
@@ -64,12 +63,10 @@ changed_turned s before after =
 
 had_tile : (s : Size) (cells : Cells) (held : List (ℕ × Block)) (t : ℕ) → patch_get (tiles_at s cells held) t ≡ option_map (λ (b : Block). tile_block s cells t) (patch_get held t)
 had_tile s cells [] t = refl
-had_tile s cells (x ∷ held) t = go (x.0 == t) refl (had_tile s cells held t)
-  where
-    go : (v : Bool) → (x.0 == t) ≡ v → patch_get (tiles_at s cells held) t ≡ option_map (λ (b : Block). tile_block s cells t) (patch_get held t)
-        → cond v (Some (tile_block s cells x.0)) (patch_get (tiles_at s cells held) t) ≡ option_map (λ (b : Block). tile_block s cells t) (cond v (Some x.1) (patch_get held t))
-    go true same rest = ap (λ u. Some (tile_block s cells u)) (eqb-true x.0 t same)
-    go false same rest = rest
+had_tile s cells (x ∷ held) t = elim (cases_Bool (x.0 == t)) [
+  | inl same ↦ rw same (ap (λ u. Some (tile_block s cells u)) (eqb-true x.0 t same))
+  | inr other ↦ rw other (had_tile s cells held t)
+]
 
 numbers_stay : (s : Size) (cells : Cells) (held : List (ℕ × Block)) → numbers_of (tiles_at s cells held) ≡ numbers_of held
 numbers_stay s cells [] = refl
@@ -217,11 +214,8 @@ module _ (m : KeptMap) (keeps : IsKept m) (d : Repaint) (fits : Fits m.extent (p
   abbrev layer : LayerState
   layer = there.1
 
-  found_there : source_in m.sources d.name ≡ Some layer
-  found_there = source_at m.sources d.name there.0 there.2 ∙ there.3
-
   own_grid : suits.grid ≡ grid_of layer
-  own_grid = let both : Some (source suits.grid) ≡ Some (source (grid_of layer)) = sym suits.there ∙ source_def m d.name keeps layer found_there in cc
+  own_grid = let both : Some (source suits.grid) ≡ Some (source (grid_of layer)) = sym suits.there ∙ source_def m d.name keeps layer (source_at m.sources d.name there.0 there.2 ∙ there.3) in cc
 
   own_change : IsOperand layer.size (change_by layer.size layer.cells d.patch.tiles)
   own_change =

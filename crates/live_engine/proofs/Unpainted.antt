@@ -28,9 +28,8 @@ use Rattle.kept_map.specs.Maps.{grid_of, source_in, entries_in, names_in, seen}
 use Rattle.kept_map.specs.Keeps.{IsKept}
 use Rattle.kept_map.specs.Repairs.{RisesByRest}
 use Rattle.kept_map.specs.declared.maps.KeptMap.{KeptMap}
+use Rattle.kept_map.proofs.SourceLayers.{layer_at, source_at, source_def}
 use Rattle.kept_map.proofs.Given.{source_node}
-use Rattle.kept_map.proofs.Naming.{source_def}
-use Rattle.kept_map.proofs.SourceLayers.{layer_at, source_at}
 use Rattle.live_engine.specs.Accepts.{ReadsWithin}
 use Rattle.live_engine.specs.Painting.{rectangle_of, met_tiles}
 use Rattle.live_engine.specs.Repainting.{IsRepaintOf, repainted_state}
@@ -124,12 +123,11 @@ module _ (m : KeptMap) (kept : IsKept m) (n : Name) (rectangle : declared.Rectan
 
 -- ---- what a paint that is drafted reads
 
-same_rectangle : (n q : Name) (r p : Rectangle) → within n r ≡ within q p → r ≡ p
-same_rectangle n q r p is = cc
-
 pub paint_reads_all : (m : KeptMap) → IsKept m → (n : Name) (r : Rectangle) (cell : Option ℤ) (grid : Grid) (d : Repaint) → IsRepaintOf m (of_names (paint n r cell)) grid d → (x y z : TallyState) → RisesBy (3 * length (met_tiles m.extent r)) 0 x y
     → RisesByRest m (of_names (paint n r cell)) (repainted_state (seen m) d.name grid) y z → ReadsWithin (seen m) (of_names (paint n r cell)) x z
 paint_reads_all m kept n r cell grid d is x y z looks rest =
     let damage = paint_damage m kept (of_names (paint n r cell)) grid d is is.place is.placed in
-    let met = is.met ∙ ap (λ q. length (met_tiles m.extent q)) (sym (same_rectangle n d.name r (rectangle_of d.rectangle) is.touch)) in
+    let touch : within n r ≡ within d.name (rectangle_of d.rectangle) = is.touch in
+    let same : r ≡ rectangle_of d.rectangle = cc in
+    let met = is.met ∙ ap (λ q. length (met_tiles m.extent q)) (sym same) in
     reads_more m (of_names (paint n r cell)) (repainted_state (seen m) d.name grid) (3 * length (met_tiles m.extent r)) x y z (omega (arith, damage, met)) looks rest

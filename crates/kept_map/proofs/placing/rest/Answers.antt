@@ -1,5 +1,5 @@
 use Rattle.std.proofs.Common.{arith}
-use Rattle.kept_map.proofs.OneByOne.{ComesToRest, none_changed, one_changed, all_changed}
+use Rattle.kept_map.proofs.Ready.{ComesToRest, none_changed, one_changed, all_changed}
 use Rattle.kept_map.proofs.placing.rest.Goals as goal
 
 pub loop-place-init : goal.loop-place-init

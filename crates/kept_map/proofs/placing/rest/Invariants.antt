@@ -1,4 +1,4 @@
-use Rattle.kept_map.proofs.OneByOne.{AreChangedTo, ComesToRest}
+use Rattle.kept_map.proofs.Ready.{AreChangedTo, ComesToRest}
 use Rattle.kept_map.proofs.placing.rest.Given as goal
 
 abbrev pub invariant-loop-place : goal.invariant-loop-place

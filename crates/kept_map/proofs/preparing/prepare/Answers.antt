@@ -2,8 +2,7 @@ use Rattle.std.proofs.Common.{◌≡◌, length, subst, rules}
 use Rattle.std.proofs.lemmas.Result.{err_from_is_err_and}
 use Rattle.kept_map.specs.Maps.{names_with}
 use Rattle.kept_map.specs.Rooms.{HasRoom}
-use Rattle.kept_map.proofs.Planning.{rests}
-use Rattle.kept_map.proofs.Replanning.{acyclic, apart_in, few_in, sources_in, flats_in, replanned}
+use Rattle.kept_map.proofs.Planning.{rests, acyclic, apart_in, few_in, sources_in, flats_in, replanned}
 use Rattle.kept_map.proofs.preparing.prepare.Goals as goal
 
 pub make_plan-requires : goal.make_plan-requires

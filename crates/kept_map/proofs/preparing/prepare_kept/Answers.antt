@@ -1,4 +1,4 @@
-use Rattle.kept_map.proofs.Replanning.{same_planned}
+use Rattle.kept_map.proofs.Planning.{same_planned}
 use Rattle.kept_map.proofs.preparing.prepare_kept.Goals as goal
 
 pub repaired-requires-clause-planned : goal.repaired-requires-clause-planned

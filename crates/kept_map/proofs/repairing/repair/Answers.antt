@@ -12,7 +12,7 @@ use Rattle.map_waves.proofs.Phasing.{prepared_faultless}
 use Rattle.op_jobs.specs.Beside.{suits}
 use Rattle.op_jobs.specs.declared.beside.Beside.{Beside}
 use Rattle.op_jobs.specs.Ranges.{HasRanges}
-use Rattle.kept_map.proofs.Faults.{told_is, reached_by}
+use Rattle.kept_map.proofs.Allowed.{told_is, reached_by}
 use Rattle.kept_map.proofs.repairing.repair.Goals as goal
 
 pub repair_all-requires-clause-planned : goal.repair_all-requires-clause-planned

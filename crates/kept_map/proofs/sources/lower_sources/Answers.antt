@@ -1,6 +1,6 @@
 use Rattle.std.proofs.Common.{arith}
 use Rattle.kept_map.specs.Lowering.{IsLowered}
-use Rattle.kept_map.proofs.OneByOne.{none_changed, one_changed, all_changed}
+use Rattle.kept_map.proofs.Ready.{none_changed, one_changed, all_changed}
 use Rattle.kept_map.proofs.sources.lower_sources.Goals as goal
 
 pub loop-at-init : goal.loop-at-init

@@ -1,5 +1,5 @@
 use Rattle.kept_map.specs.Lowering.{IsLowered}
-use Rattle.kept_map.proofs.OneByOne.{AreChangedTo}
+use Rattle.kept_map.proofs.Ready.{AreChangedTo}
 use Rattle.kept_map.proofs.sources.lower_sources.Given as goal
 
 abbrev pub invariant-loop-at : goal.invariant-loop-at

@@ -5,7 +5,7 @@ use Rattle.map_edits.specs.Refusals.{beyond, sources}
 use Rattle.map_edits.specs.WholeEdits.{of_names}
 use Rattle.kept_map.specs.Maps.{entries_in, seen}
 use Rattle.live_engine.proofs.Drafting.{group_is_new, graph_is_small, added_draft}
-use Rattle.live_engine.proofs.Refusing.{accept_refused}
+use Rattle.live_engine.proofs.Accepting.{accept_refused}
 use Rattle.live_engine.proofs.adding.drafted.Goals as goal
 
 pub returns-then-sources-ge-MOST_SOURCES-clause-drafted : goal.returns-then-sources-ge-MOST_SOURCES-clause-drafted

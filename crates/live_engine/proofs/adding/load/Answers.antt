@@ -7,7 +7,7 @@ use Rattle.kept_map.specs.Maps.{grid_of, seen}
 use Rattle.live_engine.specs.Accepts.{ReadsWithin}
 use Rattle.live_engine.specs.Inverses.{AcceptsBack}
 use Rattle.live_engine.proofs.Drafting.{load_adding, size_is, same_sized, size_refused}
-use Rattle.live_engine.proofs.Refusing.{accept_refused}
+use Rattle.live_engine.proofs.Accepting.{accept_refused}
 use Rattle.live_engine.proofs.adding.load.Goals as goal
 
 pub returns-then-has-clause-accepts : goal.returns-then-has-clause-accepts

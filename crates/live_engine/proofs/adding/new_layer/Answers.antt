@@ -7,7 +7,7 @@ use Rattle.kept_map.specs.Maps.{grid_of, seen}
 use Rattle.live_engine.specs.Accepts.{ReadsWithin}
 use Rattle.live_engine.specs.Inverses.{AcceptsBack}
 use Rattle.live_engine.proofs.Drafting.{new_adding}
-use Rattle.live_engine.proofs.Refusing.{accept_refused}
+use Rattle.live_engine.proofs.Accepting.{accept_refused}
 use Rattle.live_engine.proofs.adding.new_layer.Goals as goal
 
 pub returns-then-has-clause-accepts : goal.returns-then-has-clause-accepts

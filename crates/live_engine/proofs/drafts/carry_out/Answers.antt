@@ -1,17 +1,9 @@
-use Rattle.std.proofs.Common.{sym, subst}
-use Rattle.kept_map.specs.Maps.{seen}
-use Rattle.map_edits.specs.WholeEdits.{WholeEdit}
-use Rattle.live_engine.specs.Drafts.{IsDraft, IsDrafted}
-use Rattle.live_engine.specs.Inverses.{IsCarried}
+use Rattle.std.proofs.Common.{subst}
+use Rattle.live_engine.specs.Drafts.{IsDrafted}
 use Rattle.live_engine.proofs.drafts.carry_out.Goals as goal
 
 pub carry-requires-clause-draft : goal.carry-requires-clause-draft
-carry-requires-clause-draft g c =
-    let m = c.args.map.now in
-    let e = c.requires.drafted.0 in
-    let is : IsDraft m e c.in-Ok.draft = subst (IsDrafted m e) c.in-Ok.is c.requires.drafted.1 in
-    let both : (f : WholeEdit) × IsDraft m f c.in-Ok.draft = (e, is) in
-    λ κs within. both
+carry-requires-clause-draft g c = λ κs within. (c.requires.drafted.0, subst (IsDrafted c.args.map.now c.requires.drafted.0) c.in-Ok.is c.requires.drafted.1)
 
 pub returns-in-Ok-carry-clause-accepts : goal.returns-in-Ok-carry-clause-accepts
 returns-in-Ok-carry-clause-accepts g c = λ e drafted.

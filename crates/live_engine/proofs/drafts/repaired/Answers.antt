@@ -5,39 +5,30 @@ use Rattle.live_engine.proofs.DraftStates.{source_asked, statement_asked, out_as
 use Rattle.live_engine.proofs.drafts.repaired.Goals as goal
 
 pub prepare-requires-clause-set_up : goal.prepare-requires-clause-set_up
-prepare-requires-clause-set_up g c κs within =
-    let m = c.args.map.now in
-    let d = c.args.draft.now in
-    asked_for m d (source_asked m c.requires.kept d c.in-Source.key c.in-Source.layer c.in-Source.place c.in-Source.is _ refl) c.requires.draft
+prepare-requires-clause-set_up g c κs within = asked_for c.args.map.now c.args.draft.now (source_asked c.args.map.now c.requires.kept c.args.draft.now _ _ _ c.in-Source.is _ refl) c.requires.draft
 
 pub returns-in-Source : goal.returns-in-Source
 returns-in-Source g c =
-    let m = c.args.map.now in
-    let d = c.args.draft.now in
+    let asked = source_asked c.args.map.now c.requires.kept c.args.draft.now _ _ _ c.in-Source.is _ refl in
     record {
-      repaired = told_repaired m d (source_asked m c.requires.kept d c.in-Source.key c.in-Source.layer c.in-Source.place c.in-Source.is _ refl) c.prepare.result c.prepare.ensures.prepared;
+      repaired = told_repaired _ _ asked c.prepare.result c.prepare.ensures.prepared;
       room = c.prepare.ensures.room;
-      halted = told m d (source_asked m c.requires.kept d c.in-Source.key c.in-Source.layer c.in-Source.place c.in-Source.is _ refl) (λ e t. IfErr c.prepare.result (IsHaltOf e t)) c.prepare.ensures.halted;
-      tally = told m d (source_asked m c.requires.kept d c.in-Source.key c.in-Source.layer c.in-Source.place c.in-Source.is _ refl)
-          (λ e t. RisesByRest m e t (g.M.Tally.counts c.args.tally.now) (g.M.Tally.counts c.prepare.new.tally)) c.prepare.ensures.tally;
+      halted = told _ _ asked (λ e t. IfErr c.prepare.result (IsHaltOf e t)) c.prepare.ensures.halted;
+      tally = told _ _ asked (λ e t. RisesByRest c.args.map.now e t (g.M.Tally.counts c.args.tally.now) (g.M.Tally.counts c.prepare.new.tally)) c.prepare.ensures.tally;
     }
 
 pub prepare-requires-in-Statement-clause-set_up : goal.prepare-requires-in-Statement-clause-set_up
 prepare-requires-in-Statement-clause-set_up g c κs within =
-    let m = c.args.map.now in
-    let d = c.args.draft.now in
-    asked_for m d (statement_asked m c.requires.kept d c.in-Statement.written c.in-Statement.flats c.in-Statement.place c.in-Statement.is c.as_slice-flats.result.now c.as_slice-flats.ensures.value) c.requires.draft
+    asked_for c.args.map.now c.args.draft.now (statement_asked c.args.map.now c.requires.kept c.args.draft.now _ _ _ c.in-Statement.is _ c.as_slice-flats.ensures.value) c.requires.draft
 
 pub returns-in-Statement : goal.returns-in-Statement
 returns-in-Statement g c =
-    let m = c.args.map.now in
-    let d = c.args.draft.now in
-    let asked = statement_asked m c.requires.kept d c.in-Statement.written c.in-Statement.flats c.in-Statement.place c.in-Statement.is c.as_slice-flats.result.now c.as_slice-flats.ensures.value in
+    let asked = statement_asked c.args.map.now c.requires.kept c.args.draft.now _ _ _ c.in-Statement.is _ c.as_slice-flats.ensures.value in
     record {
-      repaired = told_repaired m d asked c.prepare-in-Statement.result c.prepare-in-Statement.ensures.prepared;
+      repaired = told_repaired _ _ asked c.prepare-in-Statement.result c.prepare-in-Statement.ensures.prepared;
       room = c.prepare-in-Statement.ensures.room;
-      halted = told m d asked (λ e t. IfErr c.prepare-in-Statement.result (IsHaltOf e t)) c.prepare-in-Statement.ensures.halted;
-      tally = told m d asked (λ e t. RisesByRest m e t (g.M.Tally.counts c.args.tally.now) (g.M.Tally.counts c.prepare-in-Statement.new.tally)) c.prepare-in-Statement.ensures.tally;
+      halted = told _ _ asked (λ e t. IfErr c.prepare-in-Statement.result (IsHaltOf e t)) c.prepare-in-Statement.ensures.halted;
+      tally = told _ _ asked (λ e t. RisesByRest c.args.map.now e t (g.M.Tally.counts c.args.tally.now) (g.M.Tally.counts c.prepare-in-Statement.new.tally)) c.prepare-in-Statement.ensures.tally;
     }
 
 pub prepare-requires-in-Out-clause-set_up : goal.prepare-requires-in-Out-clause-set_up
@@ -45,12 +36,10 @@ prepare-requires-in-Out-clause-set_up g c κs within = asked_for c.args.map.now 
 
 pub returns-in-Out : goal.returns-in-Out
 returns-in-Out g c =
-    let m = c.args.map.now in
-    let d = c.args.draft.now in
-    let asked = out_asked m c.requires.kept d c.in-Out.is in
+    let asked = out_asked c.args.map.now c.requires.kept c.args.draft.now c.in-Out.is in
     record {
-      repaired = told_repaired m d asked c.prepare-in-Out.result c.prepare-in-Out.ensures.prepared;
+      repaired = told_repaired _ _ asked c.prepare-in-Out.result c.prepare-in-Out.ensures.prepared;
       room = c.prepare-in-Out.ensures.room;
-      halted = told m d asked (λ e t. IfErr c.prepare-in-Out.result (IsHaltOf e t)) c.prepare-in-Out.ensures.halted;
-      tally = told m d asked (λ e t. RisesByRest m e t (g.M.Tally.counts c.args.tally.now) (g.M.Tally.counts c.prepare-in-Out.new.tally)) c.prepare-in-Out.ensures.tally;
+      halted = told _ _ asked (λ e t. IfErr c.prepare-in-Out.result (IsHaltOf e t)) c.prepare-in-Out.ensures.halted;
+      tally = told _ _ asked (λ e t. RisesByRest c.args.map.now e t (g.M.Tally.counts c.args.tally.now) (g.M.Tally.counts c.prepare-in-Out.new.tally)) c.prepare-in-Out.ensures.tally;
     }

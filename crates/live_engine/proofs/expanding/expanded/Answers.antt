@@ -7,8 +7,8 @@ use Rattle.procedure_expand.specs.declared.refusal.ExpandRefusal.TheVariants.{Un
 use Rattle.statement_parser.specs.Views.{written_view}
 use Rattle.live_engine.specs.Expanding.{StandsFor, not_expanded}
 use Rattle.live_engine.specs.declared.edits.Refusal.{Refusal}
-use Rattle.live_engine.proofs.RangedFlats.{ranged_flats}
 use Rattle.live_engine.proofs.Bodies.{written_undotted}
+use Rattle.live_engine.proofs.RangedFlats.{ranged_flats}
 use Rattle.live_engine.proofs.expanding.expanded.Goals as goal
 
 pub expand-requires-clause-undotted : goal.expand-requires-clause-undotted

@@ -4,7 +4,7 @@ use Rattle.std.proofs.lemmas.Int.{to_z-of_z}
 use Rattle.map_nums.specs.Widths.{value_width}
 use Rattle.map_edits.specs.Marks.{put_mark}
 use Rattle.kept_map.specs.Maps.{seen}
-use Rattle.live_engine.proofs.Refusing.{accept_refused}
+use Rattle.live_engine.proofs.Accepting.{accept_refused}
 use Rattle.live_engine.proofs.marks.label.Goals as goal
 
 pub returns-then-not-has-clause-accepts : goal.returns-then-not-has-clause-accepts

@@ -3,10 +3,8 @@ use Rattle.live_engine.proofs.noting.take_back.Goals as goal
 
 pub returns-in-Ok : goal.returns-in-Ok
 returns-in-Ok c =
-    let m = c.args.map.now in
-    let kept = c.requires.kept in
-    let is = back_beside m c.args.inverse kept c.requires.note c.requires.fits in
+    let is = back_beside c.args.map.now c.args.inverse c.requires.kept c.requires.note c.requires.fits in
     record {
-      reverted = count_accepted m _ _ kept is c.put_out.new.map c.count.new.map c.in-Ok.ensures c.count.ensures.map c.count.result c.count.ensures.number c.count.ensures.counts;
-      kept = count_kept m _ _ kept is c.put_out.new.map c.count.new.map c.in-Ok.ensures c.count.ensures.map;
+      reverted = count_accepted c.args.map.now _ _ c.requires.kept is _ _ c.in-Ok.ensures c.count.ensures.map c.count.result c.count.ensures.number c.count.ensures.counts;
+      kept = count_kept c.args.map.now _ _ c.requires.kept is _ _ c.in-Ok.ensures c.count.ensures.map;
     }

@@ -9,33 +9,23 @@ use Rattle.live_engine.proofs.MetTiles.{met_numbers}
 use Rattle.live_engine.proofs.PaintedTiles.{left_cells, left_operand}
 use Rattle.live_engine.proofs.painting.changed_by_paint.Goals as goal
 
-pub returns-clause-cells : goal.returns-clause-cells
-returns-clause-cells g c =
+pub returns : goal.returns
+returns g c =
     let layer = c.args.layer.now in
-    let p = c.in_ok-patch.patch in
+    let s = layer.size in
+    let patch = c.in_ok-patch.patch in
     let e = c.in_ok-patch.ensures in
-    let P : Size → Type 0 = λ z. IsPatch (record { size = z; tiles = p.tiles }) in
-    ap (λ (x : PatchState). patched layer.size layer.cells x.tiles) c.narrow.ensures.patch ∙ left_cells layer.size layer.cells p.tiles (subst P e.size c.extent-patch.ensures.patch) ∙ e.cells
-
-pub returns-clause-operand : goal.returns-clause-operand
-returns-clause-operand g c =
-    let layer = c.args.layer.now in
-    let P : PatchState → Type 0 = λ x. IsOperand layer.size (patched_change layer x) in
-    subst P (sym c.narrow.ensures.patch) (left_operand layer c.in_ok-patch.patch c.extent-extent.ensures.layer c.extent-patch.ensures.patch c.in_ok-patch.ensures.size)
-
-pub returns-clause-met : goal.returns-clause-met
-returns-clause-met g c =
-    let s = c.args.layer.now.size in
-    let e = c.in_ok-patch.ensures in
-    c.len-met.ensures.len ∙ met_numbers s (rectangle_of c.args.rectangle) c.in_ok-patch.patch c.extent-patch.ensures.patch e.size e.met
-
-pub returns-clause-tally : goal.returns-clause-tally
-returns-clause-tally g c =
-    let s = c.args.layer.now.size in
-    let e = c.in_ok-patch.ensures in
+    let P : Size → Type 0 = λ z. IsPatch (record { size = z; tiles = patch.tiles }) in
+    let Q : PatchState → Type 0 = λ x. IsOperand s (patched_change layer x) in
     let count = length (met_tiles s (rectangle_of c.args.rectangle)) in
-    let tiles = met_numbers s (rectangle_of c.args.rectangle) c.in_ok-patch.patch c.extent-patch.ensures.patch e.size e.met in
-    rises_within (count + 2 * length c.in_ok-patch.patch.tiles) 0 (3 * count) 0 _ _ (omega (arith, tiles)) (omega arith) (rises_looked count 0 (2 * length c.in_ok-patch.patch.tiles) _ _ _ c.painted_tiles.ensures.tally c.narrow.ensures.looks)
+    let tiles = met_numbers s (rectangle_of c.args.rectangle) patch c.extent-patch.ensures.patch e.size e.met in
+    record {
+      size = ap (λ (x : PatchState). x.size) c.narrow.ensures.patch ∙ e.size;
+      cells = ap (λ (x : PatchState). patched s layer.cells x.tiles) c.narrow.ensures.patch ∙ left_cells s layer.cells patch.tiles (subst P e.size c.extent-patch.ensures.patch) ∙ e.cells;
+      operand = subst Q (sym c.narrow.ensures.patch) (left_operand layer patch c.extent-extent.ensures.layer c.extent-patch.ensures.patch e.size);
+      met = c.len-met.ensures.len ∙ tiles;
+      tally = rises_within (count + 2 * length patch.tiles) 0 (3 * count) 0 _ _ (omega (arith, tiles)) (omega arith) (rises_looked count 0 (2 * length patch.tiles) _ _ _ c.painted_tiles.ensures.tally c.narrow.ensures.looks);
+    }
 
 pub returns-in_err-patch-clause-tally : goal.returns-in_err-patch-clause-tally
 returns-in_err-patch-clause-tally g c = let count = length (met_tiles c.args.layer.now.size (rectangle_of c.args.rectangle)) in rises_within count 0 (3 * count) 0 _ _ (omega arith) (omega arith) c.painted_tiles.ensures.tally

@@ -98,19 +98,8 @@ loop-column-preserved g c =
       tally = (met_looked s r size c.requires.counted c.requires.within c.args.row c.requires.row _ across c.loop-column.column met _ _ _ c.loop-column.invariant.tally c.view-old.ensures.look).0;
     }
 
-pub returns-clause-painted : goal.returns-clause-painted
-returns-clause-painted g c =
-    let s = c.args.layer.now.size in
-    let r = rectangle_of c.args.rectangle in
-    let size = c.extent-extent.ensures.layer.size in
-    let column = c.loop-column.column in
-    let last = column_within s r size c.requires.counted c.requires.within (last_column r) (omega arith) in
-    let end : column ≡ last_column r + 1 = omega (arith, c.loop-column-test.false, c.loop-column.auto.column-end (omega (arith, columns_rise s r size c.requires.counted c.requires.within))) in
-    are_painted_skip (grid_of c.args.layer.now) r c.args.cell (c.args.row * tiles_across s + column) ((c.args.row + 1) * tiles_across s) c.loop-column.patch (omega (arith, end, last)) c.loop-column.invariant.painted
-    (λ t from. unmet_behind s r size c.requires.counted c.requires.within c.args.row t (omega (arith, end, from)))
-
-pub returns-clause-tally : goal.returns-clause-tally
-returns-clause-tally g c =
+pub returns : goal.returns
+returns g c =
     let s = c.args.layer.now.size in
     let r = rectangle_of c.args.rectangle in
     let size = c.extent-extent.ensures.layer.size in
@@ -118,4 +107,8 @@ returns-clause-tally g c =
     let column = c.loop-column.column in
     let last = column_within s r size c.requires.counted c.requires.within (last_column r) (omega arith) in
     let end : column ≡ last_column r + 1 = omega (arith, c.loop-column-test.false, c.loop-column.auto.column-end (omega (arith, columns_rise s r size c.requires.counted c.requires.within))) in
-    rises_within (met_count s r base column) 0 (met_count s r base (tiles_across s)) 0 _ _ (met_less s r base column (tiles_across s) (omega (arith, end, last))) (omega arith) c.loop-column.invariant.tally
+    record {
+      painted = are_painted_skip (grid_of c.args.layer.now) r c.args.cell (base + column) ((c.args.row + 1) * tiles_across s) c.loop-column.patch (omega (arith, end, last)) c.loop-column.invariant.painted
+          (λ t from. unmet_behind s r size c.requires.counted c.requires.within c.args.row t (omega (arith, end, from)));
+      tally = rises_within (met_count s r base column) 0 (met_count s r base (tiles_across s)) 0 _ _ (met_less s r base column (tiles_across s) (omega (arith, end, last))) (omega arith) c.loop-column.invariant.tally;
+    }

@@ -35,26 +35,18 @@ loop-row-preserved g c = record {
   tally = met_row c.args.layer.now.size (rectangle_of c.args.rectangle) c.loop-row.row _ _ _ c.loop-row.invariant.tally c.paint_tiles_in_row.ensures.tally;
 }
 
-pub returns-clause-cells : goal.returns-clause-cells
-returns-clause-cells g c =
-    let r = rectangle_of c.args.rectangle in
-    let size = c.extent.ensures.layer.size in
-    let end : c.loop-row.row ≡ last_row r + 1 = omega (arith, c.loop-row-test.false, c.loop-row.auto.row-end (omega (arith, rows_rise _ r size c.requires.counted c.requires.within))) in
-    are_painted_all (grid_of c.args.layer.now) r c.args.cell c.loop-row.patch size (are_painted_rows (grid_of c.args.layer.now) r c.args.cell size c.requires.counted c.requires.within c.loop-row.row end c.loop-row.patch c.loop-row.invariant.painted)
-
-pub returns-clause-met : goal.returns-clause-met
-returns-clause-met g c =
-    let r = rectangle_of c.args.rectangle in
-    let size = c.extent.ensures.layer.size in
-    let end : c.loop-row.row ≡ last_row r + 1 = omega (arith, c.loop-row-test.false, c.loop-row.auto.row-end (omega (arith, rows_rise _ r size c.requires.counted c.requires.within))) in
-    let painted = are_painted_rows (grid_of c.args.layer.now) r c.args.cell size c.requires.counted c.requires.within c.loop-row.row end c.loop-row.patch c.loop-row.invariant.painted in
-    λ t. (λ i. (painted.only t i).0, λ m. painted.there t m (met_within _ r t size m))
-
-pub returns-clause-tally : goal.returns-clause-tally
-returns-clause-tally g c =
+pub returns : goal.returns
+returns g c =
     let s = c.args.layer.now.size in
     let r = rectangle_of c.args.rectangle in
+    let layer = grid_of c.args.layer.now in
     let size = c.extent.ensures.layer.size in
     let end : c.loop-row.row ≡ last_row r + 1 = omega (arith, c.loop-row-test.false, c.loop-row.auto.row-end (omega (arith, rows_rise s r size c.requires.counted c.requires.within))) in
     let all = rows_within s r size c.requires.counted c.requires.within c.loop-row.row (omega (arith, end)) in
-    rises_within (met_count s r 0 (c.loop-row.row * tiles_across s)) 0 (length (met_tiles s r)) 0 _ _ (met_less s r 0 (c.loop-row.row * tiles_across s) (tiles_in s) all) (omega arith) c.loop-row.invariant.tally
+    let painted = are_painted_rows layer r c.args.cell size c.requires.counted c.requires.within c.loop-row.row end c.loop-row.patch c.loop-row.invariant.painted in
+    record {
+      size = painted.size;
+      cells = are_painted_all layer r c.args.cell c.loop-row.patch size painted;
+      met = λ t. (λ i. (painted.only t i).0, λ m. painted.there t m (met_within s r t size m));
+      tally = rises_within (met_count s r 0 (c.loop-row.row * tiles_across s)) 0 (length (met_tiles s r)) 0 _ _ (met_less s r 0 (c.loop-row.row * tiles_across s) (tiles_in s) all) (omega arith) c.loop-row.invariant.tally;
+    }

@@ -13,21 +13,17 @@ use Rattle.kept_map.proofs.Ready.{slots_within, own_slots, are_ready}
 use Rattle.live_engine.proofs.placing.commit.Goals as goal
 
 pub put_in_place-requires-clause-own : goal.put_in_place-requires-clause-own
-put_in_place-requires-clause-own c =
-    let p = c.requires.prepared in
-    subst HaveOwnSlots (sym c.as_mut_slice.ensures.value) (own_slots c.args.map.now p.0 p.1 p.2 p.3 c.args.replanned.planned.names.keys c.args.replanned.planned.steps.items c.requires.kept p.5.under p.4)
+put_in_place-requires-clause-own c = subst HaveOwnSlots (sym c.as_mut_slice.ensures.value) (own_slots c.args.map.now _ _ _ _ _ _ c.requires.kept c.requires.prepared.5.under c.requires.prepared.4)
 
 pub put_in_place-requires-clause-slots : goal.put_in_place-requires-clause-slots
 put_in_place-requires-clause-slots c =
-    let p = c.requires.prepared in
     subst (λ (xs : List (Step Given)). (k i : ℕ) (x : Step Given) → slice_get xs k ≡ Some x → x.kept ≡ Some i → i < length c.args.map.now.kept.items) (sym c.as_mut_slice.ensures.value)
-    (slots_within c.args.map.now p.0 p.1 p.2 p.3 c.args.replanned.planned.names.keys c.args.replanned.planned.steps.items c.requires.kept p.5.under)
+    (slots_within c.args.map.now _ _ _ _ _ _ c.requires.kept c.requires.prepared.5.under)
 
 pub put_in_place-requires-clause-ready : goal.put_in_place-requires-clause-ready
 put_in_place-requires-clause-ready c =
-    let p = c.requires.prepared in
     subst (λ (xs : List (Step Given)). AreReady c.args.map.now.extent (map (λ k. Some k) c.args.map.now.kept.items) xs c.args.replanned.prepared.made.items) (sym c.as_mut_slice.ensures.value)
-    (are_ready c.args.map.now p.0 p.1 p.2 p.3 c.args.replanned.planned.names.keys c.args.replanned.planned.steps.items c.requires.kept p.5.under c.args.replanned.prepared.made.items p.5.made)
+    (are_ready c.args.map.now _ _ _ _ _ _ c.requires.kept c.requires.prepared.5.under c.args.replanned.prepared.made.items c.requires.prepared.5.made)
 
 pub returns-clause-put : goal.returns-clause-put
 returns-clause-put c =

@@ -12,7 +12,7 @@ use Rattle.procedure_expand.specs.declared.refusal.ExpandRefusal.TheVariants.{Un
 use Rattle.live_engine.specs.Accepts.{Refuses}
 use Rattle.live_engine.specs.Expanding.{not_expanded}
 use Rattle.live_engine.specs.declared.edits.Refusal.{Refusal}
-use Rattle.live_engine.proofs.Refusing.{accept_refused}
+use Rattle.live_engine.proofs.Accepting.{accept_refused}
 use Rattle.live_engine.proofs.procedures.check.Goals as goal
 
 module _ (s : WholeState) (p : meant.Procedure) (new : find_procedure s.procedures p.name ≡ None) where

@@ -2,7 +2,7 @@ use Rattle.std.proofs.Common.{◌≡◌, Option, Some, None, is_some, option_map
 use Rattle.statement_parser.specs.declared.procedure.Procedure.{Procedure}
 use Rattle.statement_parser.specs.Procedures.{procedure_view}
 use Rattle.kept_map.specs.Maps.{seen}
-use Rattle.live_engine.proofs.Refusing.{accept_refused}
+use Rattle.live_engine.proofs.Accepting.{accept_refused}
 use Rattle.live_engine.proofs.procedures.define_procedure.Goals as goal
 
 some_seen : (o : Option (Bor Procedure)) → is_some (option_map procedure_view (option_copied o)) ≡ is_some o

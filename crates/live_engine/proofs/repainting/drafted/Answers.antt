@@ -5,7 +5,7 @@ use Rattle.kept_map.specs.Maps.{grid_of, seen}
 use Rattle.kept_map.proofs.SourceLayers.{layer_at, source_at}
 use Rattle.live_engine.specs.Painting.{rectangle_of}
 use Rattle.live_engine.proofs.Drafting.{size_refused}
-use Rattle.live_engine.proofs.Refusing.{accept_refused}
+use Rattle.live_engine.proofs.Accepting.{accept_refused}
 use Rattle.live_engine.proofs.Unpainted.{paint_outside, paint_looks, paint_reads, paint_draft}
 use Rattle.live_engine.proofs.repainting.drafted.Goals as goal
 
@@ -32,24 +32,18 @@ returns-in_err-patch-clause-reads g c =
     let on = sym c.is_within.ensures ∙ c.if-not-is_within.false in
     paint_reads c.args.map.now c.requires.kept c.args.name c.args.rectangle c.args.cell c.requires.formed.0 c.in-Some.place at c.index-layer.result.now c.index-layer.ensures on _ _ c.changed_by_paint.ensures.tally
 
-pub returns-clause-reads : goal.returns-clause-reads
-returns-clause-reads g c =
-    let at = sym c.get_index_of.ensures.index ∙ c.in-Some.is in
-    let on = sym c.is_within.ensures ∙ c.if-not-is_within.false in
-    paint_reads c.args.map.now c.requires.kept c.args.name c.args.rectangle c.args.cell c.requires.formed.0 c.in-Some.place at c.index-layer.result.now c.index-layer.ensures on _ _ c.changed_by_paint.ensures.tally
-
-pub returns-clause-drafted : goal.returns-clause-drafted
-returns-clause-drafted g c =
+pub returns : goal.returns
+returns g c =
+    let m = c.args.map.now in
     let at = sym c.get_index_of.ensures.index ∙ c.in-Some.is in
     let on = sym c.is_within.ensures ∙ c.if-not-is_within.false in
     let l = c.index-layer.result.now in
-    let p = c.in_ok-patch.ensures in (
-      painted c.args.map.now.extent (rectangle_of c.args.rectangle) c.args.cell (grid_of l),
-      paint_draft c.args.map.now c.requires.kept c.args.name c.args.rectangle c.args.cell c.requires.formed.0 c.in-Some.place at l c.index-layer.ensures on _ _ p.size p.cells p.operand p.met,
-    )
-
-pub returns-clause-looks : goal.returns-clause-looks
-returns-clause-looks g c =
-    let at = sym c.get_index_of.ensures.index ∙ c.in-Some.is in
-    let on = sym c.is_within.ensures ∙ c.if-not-is_within.false in
-    paint_looks c.args.map.now c.requires.kept c.args.name c.args.rectangle c.args.cell c.requires.formed.0 c.in-Some.place at c.index-layer.result.now c.index-layer.ensures on _ _ c.changed_by_paint.ensures.tally
+    let p = c.in_ok-patch.ensures in
+    record {
+      drafted = (
+        painted m.extent (rectangle_of c.args.rectangle) c.args.cell (grid_of l),
+        paint_draft m c.requires.kept c.args.name c.args.rectangle c.args.cell c.requires.formed.0 c.in-Some.place at l c.index-layer.ensures on _ _ p.size p.cells p.operand p.met,
+      );
+      reads = paint_reads m c.requires.kept c.args.name c.args.rectangle c.args.cell c.requires.formed.0 c.in-Some.place at l c.index-layer.ensures on _ _ c.changed_by_paint.ensures.tally;
+      looks = paint_looks m c.requires.kept c.args.name c.args.rectangle c.args.cell c.requires.formed.0 c.in-Some.place at l c.index-layer.ensures on _ _ c.changed_by_paint.ensures.tally;
+    }

@@ -1,6 +1,6 @@
 use Rattle.std.proofs.Common.{refl, sym, ◌∙◌}
 use Rattle.kept_map.specs.Maps.{seen}
-use Rattle.live_engine.proofs.Refusing.{accept_refused}
+use Rattle.live_engine.proofs.Accepting.{accept_refused}
 use Rattle.live_engine.proofs.Unpainted.{paint_unknown, paint_derived}
 use Rattle.live_engine.proofs.repainting.no_source.Goals as goal
 

@@ -11,7 +11,7 @@ use Rattle.live_engine.specs.Inverses.{Fits, past_of}
 use Rattle.live_engine.specs.declared.drafts.Draft.{Draft}
 use Rattle.live_engine.specs.declared.inverses.Inverse.TheVariants as inverses
 use Rattle.live_engine.proofs.Backs.{back_draft}
-use Rattle.live_engine.proofs.Refusing.{refused_stays}
+use Rattle.live_engine.proofs.Accepting.{refused_stays}
 use Rattle.live_engine.proofs.reverting.name_back.Goals as goal
 
 abbrev back_of : KeptMap → Draft → WholeEdit
@@ -27,23 +27,22 @@ pub carry-requires-clause-draft : goal.carry-requires-clause-draft
 carry-requires-clause-draft g c κs within =
     (back_of c.args.map.now c.args.draft, same_draft c.args.map.now c.reserve.new.self c.args.draft c.reserve.ensures.seen (c.reserve.ensures.kept c.requires.kept) c.requires.fits)
 
-pub returns-in-Ok-clause-reverted : goal.returns-in-Ok-clause-reverted
-returns-in-Ok-clause-reverted g c =
+pub returns-in-Ok : goal.returns-in-Ok
+returns-in-Ok g c =
     let is = same_draft c.args.map.now c.reserve.new.self c.args.draft c.reserve.ensures.seen (c.reserve.ensures.kept c.requires.kept) c.requires.fits in
-    subst (λ s. Accepts s (seen c.carry.new.map) (back_of c.args.map.now c.args.draft) (Ok c.in-Ok.accepted)) c.reserve.ensures.seen (c.in-Ok.ensures.carried _ is)
+    let e = back_of c.args.map.now c.args.draft in
+    record {
+      reverted = subst (λ s. Accepts s (seen c.carry.new.map) e (Ok c.in-Ok.accepted)) c.reserve.ensures.seen (c.in-Ok.ensures.carried _ is);
+      kept = c.carry.ensures.kept;
+      reads = subst (λ s. ReadsWithin s e (g.M.Tally.counts c.args.tally.now) (g.M.Tally.counts c.carry.new.tally)) c.reserve.ensures.seen (c.carry.ensures.reads _ is);
+    }
 
-pub returns-in-Ok-clause-reads : goal.returns-in-Ok-clause-reads
-returns-in-Ok-clause-reads g c =
-    let is = same_draft c.args.map.now c.reserve.new.self c.args.draft c.reserve.ensures.seen (c.reserve.ensures.kept c.requires.kept) c.requires.fits in
-    subst (λ s. ReadsWithin s (back_of c.args.map.now c.args.draft) (g.M.Tally.counts c.args.tally.now) (g.M.Tally.counts c.carry.new.tally)) c.reserve.ensures.seen (c.carry.ensures.reads _ is)
-
-pub returns-clause-reverted : goal.returns-clause-reverted
-returns-clause-reverted g c =
+pub returns : goal.returns
+returns g c =
     let is = same_draft c.args.map.now c.reserve.new.self c.args.draft c.reserve.ensures.seen (c.reserve.ensures.kept c.requires.kept) c.requires.fits in
     let left = c.in-Err.ensures.carried _ is in
-    (ap (λ q. inverses.Name q) left.0, refused_stays (seen c.reserve.new.self) (seen c.carry.new.map) _ c.in-Err.left.refusal left.1 ∙ c.reserve.ensures.seen)
-
-pub returns-clause-reads : goal.returns-clause-reads
-returns-clause-reads g c =
-    let is = same_draft c.args.map.now c.reserve.new.self c.args.draft c.reserve.ensures.seen (c.reserve.ensures.kept c.requires.kept) c.requires.fits in
-    subst (λ s. ReadsWithin s (back_of c.args.map.now c.args.draft) (g.M.Tally.counts c.args.tally.now) (g.M.Tally.counts c.carry.new.tally)) c.reserve.ensures.seen (c.carry.ensures.reads _ is)
+    record {
+      reverted = (ap (λ q. inverses.Name q) left.0, refused_stays (seen c.reserve.new.self) (seen c.carry.new.map) _ c.in-Err.left.refusal left.1 ∙ c.reserve.ensures.seen);
+      kept = c.carry.ensures.kept;
+      reads = subst (λ s. ReadsWithin s (back_of c.args.map.now c.args.draft) (g.M.Tally.counts c.args.tally.now) (g.M.Tally.counts c.carry.new.tally)) c.reserve.ensures.seen (c.carry.ensures.reads _ is);
+    }

@@ -2,7 +2,7 @@ use Rattle.std.proofs.Common.{◌≡◌, ◌<◌, length, None, Some, position, 
 use Rattle.std.proofs.lemmas.Option.{slice_get_read}
 use Rattle.map_defs.specs.Nodes.{missing}
 use Rattle.edit_plans.proofs.There.{none_where}
-use Rattle.kept_map.proofs.Asked.{source_told, statement_told, nothing_told, graph_nodes, copied_now}
+use Rattle.kept_map.proofs.LayersByName.{source_told, statement_told, nothing_told, graph_nodes, copied_now}
 use Rattle.kept_map.proofs.maps.KeptMap.layer.Goals as goal
 
 pub returns-in-Some-clause-tells : goal.returns-in-Some-clause-tells

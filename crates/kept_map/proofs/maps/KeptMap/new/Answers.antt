@@ -1,5 +1,5 @@
 use Rattle.std.proofs.Common.{refl}
-use Rattle.kept_map.proofs.Empty.{kept_empty}
+use Rattle.kept_map.proofs.Copied.{kept_empty}
 use Rattle.kept_map.proofs.maps.KeptMap.new.Goals as goal
 
 pub returns-clause-kept : goal.returns-clause-kept

@@ -3,7 +3,7 @@ use Rattle.std.proofs.lemmas.Result.{err_from_is_err_and}
 use Rattle.map_edits.specs.Touches.{touch_of}
 use Rattle.live_engine.specs.Accepts.{edit_of}
 use Rattle.live_engine.specs.declared.inverses.Inverse.{Inverse}
-use Rattle.live_engine.proofs.Refusing.{refused_stays}
+use Rattle.live_engine.proofs.Accepting.{refused_stays}
 use Rattle.undo_shelf.proofs.Chains.{IsKeptIn, kept_front, chained_same}
 use Rattle.undo_shelf.proofs.history.History.apply.Given.{Over}
 use Rattle.undo_shelf.proofs.history.History.apply.Goals as goal
