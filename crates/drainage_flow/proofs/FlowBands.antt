@@ -24,7 +24,8 @@ use Rattle.drainage_flow.proofs.Places.{place_lines}
 use Rattle.drainage_flow.proofs.Steepest.{winner_few, downstream_none, downstream_some}
 use Rattle.drainage_flow.proofs.Mending.{same_or_not}
 use Rattle.drainage_flow.proofs.Entries.{other_false, same_true}
-use Rattle.drainage_flow.proofs.Pours.{not_none, part_off, laid_below, laid_past, laid_in, laid_after, place_some, place_here, pour_first, pour_same, pools_agree}
+use Rattle.drainage_flow.proofs.Pours.{not_none, part_off, pour_first, pour_same}
+use Rattle.drainage_flow.proofs.Pooling.{laid_below, laid_past, laid_in, laid_after, place_some, place_here, pools_agree}
 use Rattle.drainage_flow.proofs.Masses.{net_falls, agreeing_is_flow}
 
 -- ---- how many drain to a place

@@ -11,6 +11,7 @@ pub mod Marks
 pub mod Around
 pub mod Looks
 pub mod Pours
+pub mod Pooling
 pub mod Seats
 pub mod Shown
 pub mod Wholes

@@ -8,7 +8,7 @@ use Rattle.drainage_flow.specs.Nets.{Net}
 use Rattle.drainage_flow.specs.Pouring.{down_in, flow_in, wait_in, place_in, Places, ArePools, TakesIn, Starts, Passes}
 use Rattle.drainage_flow.specs.FlowBands.{all_downs, all_waits, all_flows, counts_of, AreEven, IsSeat}
 use Rattle.drainage_flow.specs.declared.flow_band.FlowBand.{FlowBand}
-use Rattle.drainage_flow.proofs.Pours.{pools_begin, pools_pass}
+use Rattle.drainage_flow.proofs.Pooling.{pools_begin, pools_pass}
 
 -- ---- one list of each band
 

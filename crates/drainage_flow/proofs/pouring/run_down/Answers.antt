@@ -1,7 +1,7 @@
 use Rattle.std.proofs.Common.{◌≡◌, ◌<◌, length, Some, None, sym, ◌∙◌, subst, arith}
 use Rattle.drainage_flow.specs.Pouring.{place_in}
 use Rattle.drainage_flow.specs.FlowBands.{all_downs, all_waits, all_flows}
-use Rattle.drainage_flow.proofs.Pours.{if_some, fits_on, passes_on, passes_within, fewer_passed}
+use Rattle.drainage_flow.proofs.Pooling.{if_some, fits_on, passes_on, passes_within, fewer_passed}
 use Rattle.drainage_flow.proofs.Seats.{same_count}
 use Rattle.drainage_flow.proofs.pouring.run_down.Goals as goal
 

@@ -2,7 +2,7 @@ use Rattle.std.proofs.Common.{◌≡◌, ◌+◌, ◌<◌, ℕ, Some}
 use Rattle.drainage_flow.specs.Nets.{Net}
 use Rattle.drainage_flow.specs.Pouring.{Places, ArePools}
 use Rattle.drainage_flow.specs.FlowBands.{all_downs, all_waits, all_flows, counts_of, AreEven}
-use Rattle.drainage_flow.proofs.Pours.{left_in}
+use Rattle.drainage_flow.proofs.Pooling.{left_in}
 use Rattle.drainage_flow.proofs.pouring.run_down.Given as goal
 
 abbrev pub invariant-loop-next : goal.invariant-loop-next
