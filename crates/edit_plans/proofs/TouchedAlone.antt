@@ -1,24 +1,20 @@
 -- An edit changes what it touches, and nothing else.
-use Rattle.std.proofs.Common.{◌≡◌, true, false, ◌&&◌, List, [], ◌∷◌, map, Option, Some, None, bytes_eq, Ok, refl, sym, ap, subst, ◌∙◌, inl, inr}
+use Rattle.std.proofs.Common.{◌≡◌, true, false, ◌&&◌, List, [], ◌∷◌, map, Option, Some, None, bytes_eq, refl, sym, ap, subst, ◌∙◌, inl, inr}
 use Rattle.std.specs.List.{list_any}
 use Rattle.std.proofs.lemmas.Bool.{both_ways, or_left, or_right, and_from, false_from_ne_true, cases_Bool}
 use Rattle.std.proofs.lemmas.Option.{none-some, same_Some}
 use Rattle.map_nums.specs.Grids.{Grid}
 use Rattle.map_defs.specs.Ops.{Name, Op}
 use Rattle.map_defs.specs.Statements.{Flat}
-use Rattle.map_edits.specs.Entries.{Def, source, statement, Entry, find_def, put_entry}
+use Rattle.map_edits.specs.Entries.{Def, source, statement, Entry, find_def}
 use Rattle.map_edits.specs.LayerDefs.{Making, given_grid, by_op, LayerDef, flat_layer, layers_of, layers, find_making}
 use Rattle.map_edits.specs.EngineStates.{EngineState}
-use Rattle.map_edits.specs.EditForms.{Edit, load, new_layer, paint, define, drop_name, Rectangle}
-use Rattle.map_edits.specs.Painting.{painted}
-use Rattle.map_edits.proofs.Puts.{find_put}
-use Rattle.map_edits.proofs.Accepted.{edited_is}
+use Rattle.map_edits.specs.EditForms.{edited, Rectangle}
+use Rattle.map_edits.proofs.Accepted.{IsTouchOf, edited_is}
 use Rattle.map_edits.specs.Edits.{with_entries}
-use Rattle.map_edits.specs.Laws.{edited}
 use Rattle.map_edits.specs.WholeStates.{WholeState}
-use Rattle.map_edits.specs.WholeEdits.{WholeEdit, of_names, define_procedure, label, symbol, put_back}
-use Rattle.map_edits.specs.Attempts.{attempted}
-use Rattle.map_edits.specs.Touches.{nothing, whole, within, touch_of_names, touch_of, stands_for}
+use Rattle.map_edits.specs.WholeEdits.{WholeEdit, put_back}
+use Rattle.map_edits.specs.Touches.{Touch, nothing, whole, within, touch_of_names, touch_of, stands_for}
 use Rattle.map_edits.specs.GroupLaws.{IsLawful, IsSaid}
 use Rattle.map_edits.proofs.Among.{same_name}
 use Rattle.map_edits.proofs.Heads.{head_of}
@@ -117,16 +113,10 @@ part_touched s t m r g size change there = record {
 }
 
 module _ (s t : WholeState) (l : IsLawful s) where
-  names_touched : (edit : Edit) → (s.names.size ≡ t.names.size) × IsGoodChange s.names.entries (edited edit) t.names.entries → IsTried s t (of_names edit) → ChangesOnly (touch_of_names edit) s.names t.names
-  names_touched (load n grid) change r = all_touched s.names t.names n change.0 change.1
-  names_touched (new_layer n cell) change r = all_touched s.names t.names n change.0 change.1
-  names_touched (define n written) change r = all_touched s.names t.names n change.0 change.1
-  names_touched (drop_name n) change r = all_touched s.names t.names n change.0 change.1
-  names_touched (paint n area cell) change r =
-      let put = edited_is s.procedures s.names (paint n area cell) r.0 r.1 in
-      let g = painted s.names.size area cell put.grid in
-      let entries : t.names.entries ≡ put_entry s.names.entries n (source g) = ap (λ (u : WholeState). u.names.entries) r.2 ∙ put.is in
-      part_touched s.names t.names n area g change.0 change.1 (ap (λ es. find_def es n) entries ∙ find_put s.names.entries n (source g))
+  names_touched : (n : Name) (touch : Touch) → (s.names.size ≡ t.names.size) × IsGoodChange s.names.entries n t.names.entries → IsTouchOf n t.names.entries touch → ChangesOnly touch s.names t.names
+  names_touched n nothing change never = absurd never
+  names_touched n (whole m) change same = all_touched s.names t.names m change.0 (subst (λ k. IsGoodChange s.names.entries k t.names.entries) same change.1)
+  names_touched n (within m r) change (same, g, there) = part_touched s.names t.names m r g change.0 (subst (λ k. IsGoodChange s.names.entries k t.names.entries) same change.1) there
 
   -- the names stay
   left_alone : t.names ≡ with_entries s.names s.names.entries → ChangesOnly nothing s.names t.names
@@ -136,15 +126,19 @@ module _ (s t : WholeState) (l : IsLawful s) where
     sources = λ n grid differs e. ap (λ (u : EngineState). find_making (layers u.entries) n) (sym is) ∙ e;
   }
 
-  others_kept : (e : WholeEdit) → IsSaid s e → attempted s e ≡ Ok t → IsTried s t e → ChangesOnly (touch_of e) s.names t.names
-  others_kept (of_names edit) said e r = names_touched edit (names_changed s t l edit said e) r
-  others_kept (define_procedure p) said e r = left_alone (ap (λ (u : WholeState). u.names) r.3)
-  others_kept (label n z text) said e r = left_alone (ap (λ (u : WholeState). u.names) r.1)
-  others_kept (symbol n z sign) said e r = left_alone (ap (λ (u : WholeState). u.names) r.1)
-  others_kept (put_back p) said e is = subst (λ (u : WholeState). ChangesOnly p.touch s.names u.names) (sym is) said.only
+  others_kept : (e : WholeEdit) → IsSaid s e → IsTried s t e → ChangesOnly (touch_of e) s.names t.names
+  others_kept e said (inl (edit, same, r)) =
+      let made = edited_is s.procedures s.names edit r.entries r.made in
+      let entries : r.entries ≡ t.names.entries = ap (λ (u : WholeState). u.names.entries) (sym r.is) in
+      let touch = subst (λ es. IsTouchOf (edited edit) es (touch_of_names edit)) entries made.touch in
+      subst (λ x. ChangesOnly (touch_of x) s.names t.names) (sym same) (names_touched (edited edit) (touch_of_names edit) (names_changed s t l edit (subst (IsSaid s) same said) r) touch)
+  others_kept e said (inr (inl (p, same, is))) =
+      let back : IsSaid s (put_back p) = subst (IsSaid s) same said in
+      subst (λ x. ChangesOnly (touch_of x) s.names t.names) (sym same) (subst (λ (u : WholeState). ChangesOnly p.touch s.names u.names) (sym is) back.only)
+  others_kept e said (inr (inr r)) = subst (λ touch. ChangesOnly touch s.names t.names) (sym r.touch) (left_alone r.names)
 
 pub others_are_kept : OthersAreKept
-others_are_kept s t e l said is = others_kept s t l e said is (tried s t e is)
+others_are_kept s t e l said is = others_kept s t l e said (tried s t e is)
 
 pub order_is_kept : OrderIsKept
 order_is_kept s t e l said is = let r = attempt_lawful s t l e said is in record { groups = r.groups; apart = r.apart; none_looped = r.none_looped }

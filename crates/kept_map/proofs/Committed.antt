@@ -2,7 +2,7 @@
 use Rattle.std.proofs.Common.{◌≡◌, ℕ, true, List, length, Option, Some, None, is_some, option_map, slice_get, refl, sym, ap, subst, ◌∙◌, ◌≤◌, Bool, inl, inr, [], ◌∷◌, map, filter, count_by, position, unwrap_or, bytes_eq, Ok}
 use Rattle.std.proofs.lemmas.List.{length-replicate}
 use Rattle.std.specs.List.{list_any}
-use Rattle.std.proofs.lemmas.Bool.{false≢true, cases_Bool}
+use Rattle.std.proofs.lemmas.Bool.{cases_Bool}
 use Rattle.map_nums.specs.Counts.{raised}
 use Rattle.map_nums.specs.Grids.{Size, IsSize, Cells, Grid, cells_in}
 use Rattle.map_defs.specs.Ops.{Name, Op}
@@ -39,7 +39,6 @@ use Rattle.map_waves.proofs.Righted.{right_after}
 use Rattle.op_jobs.specs.Beside.{suits}
 use Rattle.op_jobs.specs.Ranges.{HasRanges}
 use Rattle.op_jobs.specs.declared.beside.Beside.{Beside}
-use Rattle.edit_plans.specs.PlansFor.{IsStepFor}
 use Rattle.edit_plans.specs.Orderly.{IsOrderly}
 use Rattle.edit_plans.specs.Planned.{IsPlanned}
 use Rattle.edit_plans.proofs.There.{some_map}
@@ -59,18 +58,10 @@ use Rattle.kept_map.specs.Edits.{IsSetUp}
 use Rattle.kept_map.specs.Commits.{IsAtRest, IsCommitted}
 use Rattle.kept_map.specs.declared.repairing.Prepared.{Prepared}
 use Rattle.kept_map.proofs.LayersByName.{no_source, kept_step, layer_kept, stamps_found, source_there, layer_source, statement_listed}
-use Rattle.kept_map.proofs.Attempted.{attempt_counts}
+use Rattle.map_edits.proofs.LawfulEdits.{attempt_counts}
+use Rattle.kept_map.proofs.SourceLayers.{some_there}
 use Rattle.kept_map.proofs.Ready.{slot_kept, rest_planned}
 use Rattle.kept_map.proofs.Allowed.{accepted, faultless_cells}
-
--- what is in place of a statement: its grid after the edit, with the stamps after it
-pub record IsPlacedFor (m : KeptMap) (t : WholeState) (n : Name) (op : Op) (new : Kept Beside) : Type 0 where
-  pub making : find_making (layers t.names.entries) n ≡ Some (by_op op)
-  pub size : new.layer.size ≡ t.names.size
-  pub value : cells_of t.names n ≡ Some new.layer.cells
-  pub whole : IsLayer new.layer
-  pub beside : suits t.names.size op (operands_in t.names op) new.beside
-  pub stamps : new.layer.stamps ≡ stamps_at (seen m) t n
 
 -- what is the same of each layer that is left by a test
 same_layers : (f g : LayerDef → Stamps) (q : LayerDef → Bool) (P : LayerDef → Type 0) → ((l : LayerDef) → P l → q l ≡ true → f l ≡ g l) → (ls : List LayerDef) → EachLayer P ls → map f (filter q ls) ≡ map g (filter q ls)
@@ -109,9 +100,6 @@ module _ (m m' : KeptMap) (e : WholeEdit) (t : WholeState) (shift : Shift) (sour
     step_is : p.step k ≡ step_in m (Some x)
     step_is = ap (step_in m) here
 
-    step_for : IsStepFor (touch_of e) (names_in m) t.names (p.step k) sources names k n
-    step_for = under.plan.steps k n at
-
     -- ---- what was kept
 
     -- it is what is kept under the name
@@ -119,13 +107,13 @@ module _ (m m' : KeptMap) (e : WholeEdit) (t : WholeState) (shift : Shift) (sour
     own_named = ap (at_place m.kept.items) (under.kept k n x at here)
 
     module _ (old : Kept Beside) (is : own ≡ Some old) where
-      was_kept : IsKeptStep (names_in m) n (kept_step m kept n old (sym own_named ∙ is)).0 old
-      was_kept = (kept_step m kept n old (sym own_named ∙ is)).1
+      was_kept : (y : Step Given) × IsKeptStep (names_in m) n y old
+      was_kept = kept_step m kept n old (sym own_named ∙ is)
 
       old_stamps : stamps_of (seen m).stamps n ≡ Some old.layer.stamps
       old_stamps = stamps_found (layer_in m) (names_in m) n old.layer
-          (layer_kept m n old (no_source (names_in m) m.sources kept.sources n (op_view (kept_step m kept n old (sym own_named ∙ is)).0.op) was_kept.making) (sym own_named ∙ is))
-          (sym (some_map (λ (g : Grid). g.cells) (value_of (names_in m) n)) ∙ ap is_some was_kept.value)
+          (layer_kept m n old (no_source (names_in m) m.sources kept.sources n (op_view was_kept.0.op) was_kept.1.making) (sym own_named ∙ is))
+          (sym (some_map (λ (g : Grid). g.cells) (value_of (names_in m) n)) ∙ ap is_some was_kept.1.value)
 
     -- ---- what is put in place
 
@@ -142,75 +130,62 @@ module _ (m m' : KeptMap) (e : WholeEdit) (t : WholeState) (shift : Shift) (sour
           (operands_made (touch_of e) (names_in m) t.names p sources names under.plan orderly.none_looped k n at)))
           (subst (λ (s : Size). suits s (p.step k).op (cells_after (operands_at p k)) now.beside) under.plan.size right.beside))
 
-      stamp_count : length now.layer.stamps ≡ tiles_in now.layer.size
-      stamp_count = go own (shown m.extent own r) placed.layer
+      -- as many stamps as tiles, which are those after the edit
+      stamps_are : (length now.layer.stamps ≡ tiles_in now.layer.size) × (now.layer.stamps ≡ stamps_at (seen m) t n)
+      stamps_are = go own refl placed.layer
         where
-          go : (o : Option (Kept Beside)) (change : ChangeState) → IsPlacedLayer o change (raised m.number 1) now.layer → length now.layer.stamps ≡ tiles_in now.layer.size
-          go None change is = ap (λ (l : LayerState). length l.stamps) is ∙ length-replicate (tiles_in change.size) (raised m.number 1) ∙ ap (λ (l : LayerState). tiles_in l.size) (sym is)
-          go (Some old) change is = is.2.count ∙ ap tiles_in (sym is.0)
+          go : (o : Option (Kept Beside)) → own ≡ o → IsPlacedLayer o (shown m.extent own r) (raised m.number 1) now.layer
+              → (length now.layer.stamps ≡ tiles_in now.layer.size) × (now.layer.stamps ≡ stamps_at (seen m) t n)
+          -- a statement that was undefined
+          go None is layer = (
+            ap (λ (l : LayerState). length l.stamps) layer ∙ length-replicate (tiles_in (shown m.extent own r).size) (raised m.number 1) ∙ ap (λ (l : LayerState). tiles_in l.size) (sym layer),
+            ap (λ (l : LayerState). l.stamps) layer
+                ∙ ap (λ s. (layer_of s now.layer.cells (raised m.number 1)).stamps) (ap (λ (c : ChangeState). c.size) prepared.change ∙ under.plan.size)
+                ∙ ap (λ j. (layer_of t.names.size now.layer.cells j).stamps) (sym number)
+                ∙ new_is_stamped (seen m) t n now.layer.cells (sym (ap (λ (d : StepDef). d.was) (sym step_is) ∙ (under.plan.steps k n at).was) ∙ ap (λ (o : Option (Kept Beside)). was_of o) is),
+          )
+          -- one that was kept
+          go (Some old) is layer =
+              let was = (was_kept old is).1 in
+              let size : old.layer.size ≡ t.names.size = was.size ∙ under.plan.size in (
+                layer.2.count ∙ ap tiles_in (sym layer.0),
+                old_is_stamped (seen m) t n old.layer.cells now.layer.cells old.layer.stamps now.layer.stamps (subst (λ s. IsSize s) size was.whole.size) was.value value_is (old_stamps old is)
+                    (subst (λ s. IsStamped s old.layer.cells now.layer.cells t.names.number old.layer.stamps now.layer.stamps) size
+                    (subst (λ j. IsStamped old.layer.size old.layer.cells now.layer.cells j old.layer.stamps now.layer.stamps) (sym number) layer.2)),
+              )
 
       layer_is : IsLayer now.layer
       layer_is = record {
         size = subst (λ s. IsSize s) (sym right.size) kept.size;
         cells = ap length right.right ∙ prepared.count ∙ ap cells_in (sym right.size);
         are_cells = subst (λ cells. AreCells cells) (sym right.right) (faultless_cells m.extent (p.step k).op (cells_after (operands_at p k)) right.faultless);
-        stamps = stamp_count;
+        stamps = stamps_are.0;
       }
 
-      stamps_are : now.layer.stamps ≡ stamps_at (seen m) t n
-      stamps_are = go own refl placed.layer
-        where
-          go : (o : Option (Kept Beside)) → own ≡ o → IsPlacedLayer o (shown m.extent own r) (raised m.number 1) now.layer → now.layer.stamps ≡ stamps_at (seen m) t n
-          -- a statement that was undefined
-          go None is layer =
-              ap (λ (l : LayerState). l.stamps) layer
-              ∙ ap (λ s. (layer_of s now.layer.cells (raised m.number 1)).stamps) (ap (λ (c : ChangeState). c.size) prepared.change ∙ under.plan.size)
-              ∙ ap (λ j. (layer_of t.names.size now.layer.cells j).stamps) (sym number)
-              ∙ new_is_stamped (seen m) t n now.layer.cells (sym (ap (λ (d : StepDef). d.was) (sym step_is) ∙ step_for.was) ∙ ap (λ (o : Option (Kept Beside)). was_of o) is)
-          -- one that was kept
-          go (Some old) is layer =
-              let was = was_kept old is in
-              let size : old.layer.size ≡ t.names.size = was.size ∙ under.plan.size in
-              old_is_stamped (seen m) t n old.layer.cells now.layer.cells old.layer.stamps now.layer.stamps (subst (λ s. IsSize s) size was.whole.size) was.value value_is (old_stamps old is)
-              (subst (λ s. IsStamped s old.layer.cells now.layer.cells t.names.number old.layer.stamps now.layer.stamps) size
-              (subst (λ j. IsStamped old.layer.size old.layer.cells now.layer.cells j old.layer.stamps now.layer.stamps) (sym number) layer.2))
-
-      pub placed_for : IsPlacedFor m t n (op_view x.op) now
-      placed_for = record { making = step_for.making ∙ ap (λ (d : StepDef). Some (by_op d.op)) step_is; size = right.size ∙ under.plan.size; value = value_is; whole = layer_is; beside = beside_is; stamps = stamps_are }
+      -- what is in place of the statement when it rests
+      placed_for : (y : Step Given) → IsAtRest k x y → IsKeptStep s n y now × (now.layer.stamps ≡ stamps_at (seen m) t n)
+      placed_for y rest = (
+        record {
+          making = (under.plan.steps k n at).making ∙ ap (λ (d : StepDef). Some (by_op d.op)) step_is ∙ ap (λ o. Some (by_op (op_view o))) (sym rest.op);
+          ranges = subst (λ o. HasRanges (op_view o)) (sym rest.op) (under.ranges k x here);
+          written = rest.written;
+          value = value_is;
+          size = right.size ∙ under.plan.size;
+          whole = layer_is;
+          beside = subst (λ o. suits s.size (op_view o) (operands_in s (op_view o)) now.beside) (sym rest.op) beside_is;
+        },
+        stamps_are.1,
+      )
 
   -- ---- a statement at its place
 
-  -- its step, and what is in place of it
-  pub record IsPut (k : ℕ) (n : Name) (own : Kept Beside) : Type 0 where
-    pub step : Step Given
-    pub here : slice_get steps k ≡ Some step
-    pub placed : IsPlacedFor m t n (op_view step.op) own
-
-  is_put : (k : ℕ) (n : Name) (own : Kept Beside) → slice_get names k ≡ Some n → slice_get m'.kept.items k ≡ Some own → IsPut k n own
-  is_put k n own at now =
+  is_put : (k : ℕ) (n : Name) (y : Step Given) (own : Kept Beside) → slice_get names k ≡ Some n → slice_get m'.planned.steps.items k ≡ Some y → slice_get m'.kept.items k ≡ Some own
+      → IsKeptStep s n y own × (own.layer.stamps ≡ stamps_at (seen m) t n)
+  is_put k n y own at rested now =
       let x = step_at names steps under.count k n at in
       let r = step_at names made (count ∙ under.count) k n at in
       let placed : IsPlaced m.extent (at_place m.kept.items x.0.kept) r.0 (raised m.number 1) own = subst (λ o. IsPlaced m.extent o r.0 (raised m.number 1) own) (slot_kept m.kept.items x.0.kept) (new.placed k own x.0 r.0 now x.1 r.1) in
-      record {
-        step = x.0;
-        here = x.1;
-        placed = placed_for k n x.0 at x.1 r.0 (are_made k x.0 r.0 x.1 r.1) own placed;
-      }
-
-  is_kept_step : (k : ℕ) (n : Name) (y : Step Given) (own : Kept Beside) → slice_get names k ≡ Some n → slice_get m'.planned.steps.items k ≡ Some y → slice_get m'.kept.items k ≡ Some own → IsKeptStep s n y own
-  is_kept_step k n y own at rested now =
-      let put = is_put k n own at now in
-      let x = put.step in
-      let rest : IsAtRest k x y = (new.rest k x y put.here rested).0 in
-      record {
-        making = put.placed.making ∙ ap (λ o. Some (by_op (op_view o))) (sym rest.op);
-        ranges = subst (λ o. HasRanges (op_view o)) (sym rest.op) (under.ranges k x put.here);
-        written = rest.written;
-        value = put.placed.value;
-        size = put.placed.size;
-        whole = put.placed.whole;
-        beside = subst (λ o. suits s.size (op_view o) (operands_in s (op_view o)) own.beside) (sym rest.op) put.placed.beside;
-      }
+      placed_for k n x.0 at x.1 r.0 (are_made k x.0 r.0 x.1 r.1) own placed y (new.rest k x.0 y x.1 rested).0
 
   -- ---- all statements
 
@@ -219,30 +194,23 @@ module _ (m m' : KeptMap) (e : WholeEdit) (t : WholeState) (shift : Shift) (sour
     planned_are = subst (λ ns. IsPlanned (nodes_of s.entries) m'.sources.names.keys (flats_of_steps ns m'.planned.steps.items) ns ns m'.planned.steps.items) (sym new.plan_names)
         (rest_planned (nodes_of s.entries) (groups_once s.entries orderly.groups orderly.apart) m'.sources.names.keys names steps m'.planned.steps.items under.whole under.count new.plan_count under.depths new.rest);
     count = new.kept_count ∙ sym new.plan_count;
-    each = λ k n y own at rested now. is_kept_step k n y own (ap (λ ns. slice_get ns k) (sym new.plan_names) ∙ at) rested now;
+    each = λ k n y own at rested now. (is_put k n y own (ap (λ ns. slice_get ns k) (sym new.plan_names) ∙ at) rested now).0;
   }
 
   -- ---- stamps
-
-  statement_stamps : (n : Name) (op : Op) → find_making (layers s.entries) n ≡ Some (by_op op) → is_some (value_of s n) ≡ true → unwrap_or (option_map (λ (l : LayerState). l.stamps) (layer_in m' n)) [] ≡ stamps_at (seen m) t n
-  statement_stamps n op found defined = go (position (bytes_eq n) m'.planned.names.keys) refl
-      (some_position (bytes_eq n) m'.planned.names.keys ∙ ap (list_any (bytes_eq n)) (new.plan_names ∙ under.whole) ∙ statement_listed s orderly.none_looped n op found defined)
-    where
-      go : (o : Option ℕ) → position (bytes_eq n) m'.planned.names.keys ≡ o → is_some o ≡ true → unwrap_or (option_map (λ (l : LayerState). l.stamps) (layer_in m' n)) [] ≡ stamps_at (seen m) t n
-      go None at some = absurd (false≢true some)
-      go (Some k) at some =
-          let named : slice_get names k ≡ Some n = ap (λ ns. slice_get ns k) (sym new.plan_names) ∙ position_at n m'.planned.names.keys k at in
-          let own = step_at names m'.kept.items (new.kept_count ∙ under.count) k n named in
-          let put = is_put k n own.0 named own.1 in
-          let layer : layer_in m' n ≡ Some own.0.layer = layer_kept m' n own.0 (no_source s m'.sources new.sources n op found) (ap (at_place m'.kept.items) at ∙ own.1) in
-          ap (λ (o : Option LayerState). unwrap_or (option_map (λ (l : LayerState). l.stamps) o) []) layer
-          ∙ put.placed.stamps
 
   layer_stamps : (n : Name) (making : Making) → find_making (layers s.entries) n ≡ Some making → is_some (value_of s n) ≡ true → unwrap_or (option_map (λ (l : LayerState). l.stamps) (layer_in m' n)) [] ≡ stamps_at (seen m) t n
   layer_stamps n (given_grid grid) found defined =
       let r = source_there s m'.sources new.sources n grid found in
       ap (λ (o : Option LayerState). unwrap_or (option_map (λ (l : LayerState). l.stamps) o) []) (layer_source m' n r.0 r.1) ∙ new.stamped n r.0 r.1
-  layer_stamps n (by_op op) found defined = statement_stamps n op found defined
+  layer_stamps n (by_op op) found defined =
+      let at = some_there (position (bytes_eq n) m'.planned.names.keys)
+      (some_position (bytes_eq n) m'.planned.names.keys ∙ ap (list_any (bytes_eq n)) (new.plan_names ∙ under.whole) ∙ statement_listed s orderly.none_looped n op found defined) in
+      let named : slice_get names at.0 ≡ Some n = ap (λ ns. slice_get ns at.0) (sym new.plan_names) ∙ position_at n m'.planned.names.keys at.0 at.1 in
+      let y = step_at names m'.planned.steps.items (new.plan_count ∙ under.count) at.0 n named in
+      let own = step_at names m'.kept.items (new.kept_count ∙ under.count) at.0 n named in
+      let layer : layer_in m' n ≡ Some own.0.layer = layer_kept m' n own.0 (no_source s m'.sources new.sources n op found) (ap (at_place m'.kept.items) at.1 ∙ own.1) in
+      ap (λ (o : Option LayerState). unwrap_or (option_map (λ (l : LayerState). l.stamps) o) []) layer ∙ (is_put at.0 n y.0 own.0 named y.1 own.1).1
 
   stamps_are_seen : stamps_seen (layer_in m') (names_in m') ≡ (stamped (seen m) t).stamps
   stamps_are_seen =
@@ -258,7 +226,7 @@ module _ (m m' : KeptMap) (e : WholeEdit) (t : WholeState) (shift : Shift) (sour
 
   kept_after : IsKept m'
   kept_after = record {
-    size = subst (λ q. IsSize q) (sym size) kept.size;
+    size = subst (λ q. IsSize q) (sym (ap (λ (q : EngineState). q.size) (new.names_are ∙ attempt_counts (seen m) t e set_up.attempt))) kept.size;
     named = new.named;
     formed = new.formed;
     lawful = subst IsLawful (sym seen_after) lawful;
@@ -269,9 +237,6 @@ module _ (m m' : KeptMap) (e : WholeEdit) (t : WholeState) (shift : Shift) (sour
     sources = subst (λ (q : EngineState). AreKeptSources q m'.sources) (sym new.names_are) new.sources;
     statements = subst (λ (q : EngineState). AreKeptSteps q m'.sources.names.keys m'.planned m'.kept.items) (sym new.names_are) kept_steps;
   }
-    where
-      size : m'.extent ≡ m.extent
-      size = ap (λ (q : EngineState). q.size) new.names_are ∙ ap (λ (q : EngineState). q.size) (attempt_counts (seen m) t e set_up.attempt)
 
 pub committed_prepared : (m m' : KeptMap) (e : WholeEdit) (t : WholeState) (shift : Shift) (sources names : List Name) (steps : List (Step Given)) (prepared : Prepared)
     → IsKept m → IsSetUp m e t shift sources → IsPreparedFor m e t shift sources names steps prepared → IsCommitted m m' t names steps prepared.made.items → IsKept m' × (seen m' ≡ stamped (seen m) t)

@@ -2,9 +2,9 @@
 use Rattle.std.proofs.Common.{◌≡◌, ℕ, zero, suc, ◌+◌, false, cond, ◌||◌, List, [], ◌∷◌, ◌++◌, map, take, Option, Some, slice_get, bytes_eq, refl, sym, ap, ◌∙◌, length, None, option_map, subst, ◌≤◌, count_by, position, is_some, IsTrue, get_or, arith}
 use Rattle.std.specs.List.{IsDistinct, list_any, All}
 use Rattle.std.specs.Map.{keys_of, lookup}
-use Rattle.std.proofs.lemmas.Bool.{true≢false}
 use Rattle.std.proofs.lemmas.List.{map-append, take-map, length-map}
 use Rattle.std.proofs.lemmas.Map.Keys.{IsDistinct-head, IsDistinct-tail}
+use Rattle.std.proofs.lemmas.Simd.{map-map}
 use Rattle.std.proofs.lemmas.Option.{none-some, same_Some, slice_get-map, slice_get-get_or}
 use Rattle.std.specs.Option.{option_or}
 use Rattle.std.proofs.lemmas.List.Elements.{All-from_recursion}
@@ -15,7 +15,7 @@ use Rattle.indexmap.proofs.MapLemmas.{absent_from_lookup, insert_entry-absent}
 use Rattle.map_nums.specs.Grids.{Size, IsSize}
 use Rattle.map_words.specs.Names.{is_plain}
 use Rattle.map_defs.specs.Ops.{Name}
-use Rattle.map_defs.specs.Nodes.{Node, find_node}
+use Rattle.map_defs.specs.Nodes.{find_node}
 use Rattle.map_defs.specs.Statements.{Flat as Meant}
 use Rattle.layer_tiles.specs.Layers.{LayerState, IsLayer}
 use Rattle.statement_parser.specs.Views.{op_view, written_view}
@@ -32,6 +32,7 @@ use Rattle.map_edits.specs.Limits.{is_source, is_flat, most_sources, most_flats}
 use Rattle.map_edits.specs.GroupLaws.{IsLawful}
 use Rattle.map_edits.specs.WholeStates.{WholeState, no_names}
 use Rattle.map_edits.proofs.Among.{bytes_eq-turned}
+use Rattle.map_edits.proofs.Looks.{none_there}
 use Rattle.map_waves.specs.declared.keeping.Kept.{Kept}
 use Rattle.map_waves.specs.declared.plans.Step.{Step}
 use Rattle.map_waves.proofs.Making.{all_get}
@@ -42,15 +43,15 @@ use Rattle.edit_plans.specs.PlansFor.{AreRefsFor}
 use Rattle.edit_plans.specs.Planned.{FlatDef, IsPlannedStep, is_source_node}
 use Rattle.edit_plans.specs.declared.planning.Planned.{Planned}
 use Rattle.edit_plans.proofs.Taken.{taken_to}
-use Rattle.edit_plans.proofs.There.{none_where}
 use Rattle.kept_map.specs.Copies.{StatementView, item_view, named_view, items_view, StepView, step_view, steps_view, MapView, map_view}
 use Rattle.kept_map.specs.declared.maps.Item.{Item}
 use Rattle.kept_map.specs.Flats.{flats_of_steps}
-use Rattle.kept_map.specs.Keeps.{IsKeptStep, AreKeptSteps, IsItem, IsNamed, IsKept}
+use Rattle.kept_map.specs.Keeps.{AreKeptSteps, IsItem, IsNamed, IsKept}
 use Rattle.kept_map.specs.Groups.{groups_of}
 use Rattle.kept_map.specs.Maps.{at_place, source_grid, def_by, entries_by, entries_in, names_in, source_in, stamps_seen, seen}
 use Rattle.kept_map.specs.declared.maps.Item.TheVariants.{Source, Statement}
 use Rattle.kept_map.specs.declared.maps.KeptMap.{KeptMap}
+use Rattle.kept_map.proofs.SourceLayers.{map_some}
 use Rattle.kept_map.proofs.EditedFlats.{flat_by, flat_is, flat_at}
 use Rattle.map_defs.specs.Depths.{by_depth}
 use Rattle.map_edits.proofs.LawfulValues.{none_is_lawful}
@@ -74,19 +75,16 @@ name_next ks copies i n apart so_far at =
 
 -- ---- names with what they stand for
 
-keys_seen : (es : List (List ℕ × Item)) → map (λ (v : List ℕ × Option StatementView). v.0) (items_view es) ≡ keys_of es
-keys_seen [] = refl
-keys_seen (e ∷ es) = ap (λ ks. e.0 ∷ ks) (keys_seen es)
-
 module _ (all : List (List ℕ × Item)) (apart : IsDistinct bytes_eq (keys_of all)) (es : List (List ℕ × Item)) (k : ℕ) (so_far : items_view es ≡ items_view (take k all)) where
   same_keys : keys_of es ≡ take k (keys_of all)
-  same_keys = sym (keys_seen es) ∙ ap (map (λ (v : List ℕ × Option StatementView). v.0)) so_far ∙ keys_seen (take k all) ∙ sym (take-map (λ (e : List ℕ × Item). e.0) k all)
+  same_keys =
+      sym (map-map (λ (v : List ℕ × Option StatementView). v.0) named_view es) ∙ ap (map (λ (v : List ℕ × Option StatementView). v.0)) so_far
+      ∙ map-map (λ (v : List ℕ × Option StatementView). v.0) named_view (take k all) ∙ sym (take-map (λ (e : List ℕ × Item). e.0) k all)
 
   pub item_next : (n : Name) (item copy : Item) → slice_get all k ≡ Some (n, item) → item_view copy ≡ item_view item → items_view (insert_entry bytes_eq es n copy) ≡ items_view (take (k + 1) all)
   item_next n item copy at same =
       let key_at = slice_get-map (λ (e : List ℕ × Item). e.0) all k ∙ ap (option_map (λ (e : List ℕ × Item). e.0)) at in
-      let none : is_some (lookup (bytes_eq n) es) ≡ false = is_some-lookup (bytes_eq n) es ∙ ap (list_any (bytes_eq n)) same_keys ∙ none_before (keys_of all) apart k n key_at in
-      let new : lookup (bytes_eq n) es ≡ None = none_where (lookup (bytes_eq n) es) (λ x is. true≢false (sym (ap is_some is) ∙ none)) in
+      let new : lookup (bytes_eq n) es ≡ None = none_there (lookup (bytes_eq n) es) (is_some-lookup (bytes_eq n) es ∙ ap (list_any (bytes_eq n)) same_keys ∙ none_before (keys_of all) apart k n key_at) in
       ap items_view (insert_entry-absent bytes_eq n copy es (absent_from_lookup (bytes_eq n) es new))
       ∙ map-append named_view es ((n, copy) ∷ [])
       ∙ (λ j. so_far j ++ (n, same j) ∷ [])
@@ -97,63 +95,35 @@ module _ (all : List (List ℕ × Item)) (apart : IsDistinct bytes_eq (keys_of a
 
 -- one of the same view stands at the place
 alike_at : {X V : Type 0} (view : X → V) (xs ys : List X) → map view ys ≡ map view xs → (k : ℕ) (y : X) → slice_get ys k ≡ Some y → (x : X) × (slice_get xs k ≡ Some x) × (view x ≡ view y)
-alike_at {X} {V} view xs ys same k y at = go (slice_get xs k) refl (sym (slice_get-map view xs k) ∙ ap (λ vs. slice_get vs k) (sym same) ∙ slice_get-map view ys k ∙ ap (option_map view) at)
-  where
-    go : (o : Option X) → slice_get xs k ≡ o → option_map view o ≡ Some (view y) → (x : X) × (slice_get xs k ≡ Some x) × (view x ≡ view y)
-    go None here is = absurd (none-some (view y) is)
-    go (Some x) here is = (x, here, same_Some (view x) (view y) is)
+alike_at view xs ys same k y at =
+    map_some view (slice_get xs k) (view y) (sym (slice_get-map view xs k) ∙ ap (λ vs. slice_get vs k) (sym same) ∙ slice_get-map view ys k ∙ ap (option_map view) at)
 
 all_alike : {X V : Type 0} (P : X → Type 0) (view : X → V) → ((x y : X) → view y ≡ view x → P x → P y) → (xs ys : List X) → map view ys ≡ map view xs → All P xs → All P ys
 all_alike P view alike xs ys same all k d below =
     let x = alike_at view xs ys same k (get_or ys k d) (slice_get-get_or ys k d below) in
     alike x.0 (get_or ys k d) (sym x.2) (all_get P xs all k x.0 x.1)
 
-same_length : (old new : List (Step Given)) → steps_view new ≡ steps_view old → length new ≡ length old
-same_length old new same = sym (length-map new step_view) ∙ ap length same ∙ length-map old step_view
-
--- ---- steps
-
-planned_alike : (nodes : List Node) (sources names : List Name) (old new : List (Step Given)) → length old ≡ length names → steps_view new ≡ steps_view old → (k : ℕ) (n : Name) (x y : Step Given) → step_view x ≡ step_view y
-    → IsPlannedStep nodes sources (flats_of_steps names old) names names k n x → IsPlannedStep nodes sources (flats_of_steps names new) names names k n y
-planned_alike nodes sources names old new count same k n x y view is =
-    let f = flat_at names old count n is.flat is.from in
-    let g = alike_at step_view new old (sym same) f.0 f.1 f.3 in
-    let count_new : length new ≡ length names = same_length old new same ∙ count in
-    record {
-      flat = flat_by g.0;
-      from = flat_is names new count_new n ∙ ap (λ o. option_map flat_by (at_place new o)) f.2 ∙ ap (option_map flat_by) g.1;
-      op = ap (λ (v : StepView). v.op) (sym view) ∙ is.op ∙ ap (λ (q : FlatDef). op_view q.op) (sym f.4) ∙ ap (λ (v : StepView). v.op) (sym g.2);
-      written = ap (λ (v : StepView). v.written) (sym view) ∙ is.written ∙ ap (λ (q : FlatDef). q.written) (sym f.4) ∙ ap (λ (v : StepView). v.written) (sym g.2);
-      refs = subst (λ (v : StepView). AreRefsFor sources names k v.op.terms v.refs) view is.refs;
-      depth = ap (λ (v : StepView). v.depth) (sym view) ∙ is.depth;
-      kept = ap (λ (v : StepView). v.kept) (sym view) ∙ is.kept;
-    }
-
-kept_step_alike : (s : EngineState) (n : Name) (x y : Step Given) (own : Kept Beside) → step_view x ≡ step_view y → IsKeptStep s n x own → IsKeptStep s n y own
-kept_step_alike s n x y own view is = record {
-  making = subst (λ (v : StepView). find_making (layers s.entries) n ≡ Some (by_op v.op)) view is.making;
-  ranges = subst (λ (v : StepView). HasRanges v.op) view is.ranges;
-  written = ap (λ (v : StepView). v.written) (sym view) ∙ is.written;
-  value = is.value;
-  size = is.size;
-  whole = is.whole;
-  beside = subst (λ (v : StepView). suits s.size v.op (operands_in s v.op) own.beside) view is.beside;
-}
-
 -- ---- the plan
 
 module _ (s : EngineState) (sources : List Name) (old new : Planned) (names : new.names.keys ≡ old.names.keys) (same : steps_view new.steps.items ≡ steps_view old.steps.items) (kept : List (Kept Beside)) (are : AreKeptSteps s sources old kept) where
   count : length new.steps.items ≡ length old.steps.items
-  count = same_length old.steps.items new.steps.items same
-
-  named_at : (k : ℕ) (n : Name) → slice_get new.names.keys k ≡ Some n → slice_get old.names.keys k ≡ Some n
-  named_at k n at = ap (λ ks. slice_get ks k) (sym names) ∙ at
+  count = sym (length-map new.steps.items step_view) ∙ ap length same ∙ length-map old.steps.items step_view
 
   step_planned : (k : ℕ) (n : Name) (y : Step Given) → slice_get new.names.keys k ≡ Some n → slice_get new.steps.items k ≡ Some y → IsPlannedStep (nodes_of s.entries) sources (flats_of_steps new.names.keys new.steps.items) new.names.keys new.names.keys k n y
   step_planned k n y at here =
       let x = alike_at step_view old.steps.items new.steps.items same k y here in
-      subst (λ ks. IsPlannedStep (nodes_of s.entries) sources (flats_of_steps ks new.steps.items) ks ks k n y) (sym names)
-      (planned_alike (nodes_of s.entries) sources old.names.keys old.steps.items new.steps.items are.planned_are.count same k n x.0 y x.2 (are.planned_are.each k n x.0 (named_at k n at) x.1))
+      let is = are.planned_are.each k n x.0 (ap (λ ks. slice_get ks k) (sym names) ∙ at) x.1 in
+      let f = flat_at old.names.keys old.steps.items are.planned_are.count n is.flat is.from in
+      let g = alike_at step_view new.steps.items old.steps.items (sym same) f.0 f.1 f.3 in
+      subst (λ ks. IsPlannedStep (nodes_of s.entries) sources (flats_of_steps ks new.steps.items) ks ks k n y) (sym names) (record {
+        flat = flat_by g.0;
+        from = flat_is old.names.keys new.steps.items (count ∙ are.planned_are.count) n ∙ ap (λ o. option_map flat_by (at_place new.steps.items o)) f.2 ∙ ap (option_map flat_by) g.1;
+        op = ap (λ (v : StepView). v.op) (sym x.2) ∙ is.op ∙ ap (λ (q : FlatDef). op_view q.op) (sym f.4) ∙ ap (λ (v : StepView). v.op) (sym g.2);
+        written = ap (λ (v : StepView). v.written) (sym x.2) ∙ is.written ∙ ap (λ (q : FlatDef). q.written) (sym f.4) ∙ ap (λ (v : StepView). v.written) (sym g.2);
+        refs = subst (λ (v : StepView). AreRefsFor sources old.names.keys k v.op.terms v.refs) x.2 is.refs;
+        depth = ap (λ (v : StepView). v.depth) (sym x.2) ∙ is.depth;
+        kept = ap (λ (v : StepView). v.kept) (sym x.2) ∙ is.kept;
+      })
 
   copied_steps : AreKeptSteps s sources new kept
   copied_steps = record {
@@ -161,7 +131,16 @@ module _ (s : EngineState) (sources : List Name) (old new : Planned) (names : ne
     count = are.count ∙ sym count;
     each = λ k n y own at here kept_at.
         let x = alike_at step_view old.steps.items new.steps.items same k y here in
-        kept_step_alike s n x.0 y own x.2 (are.each k n x.0 own (named_at k n at) x.1 kept_at);
+        let is = are.each k n x.0 own (ap (λ ks. slice_get ks k) (sym names) ∙ at) x.1 kept_at in
+        record {
+          making = subst (λ (v : StepView). find_making (layers s.entries) n ≡ Some (by_op v.op)) x.2 is.making;
+          ranges = subst (λ (v : StepView). HasRanges v.op) x.2 is.ranges;
+          written = ap (λ (v : StepView). v.written) (sym x.2) ∙ is.written;
+          value = is.value;
+          size = is.size;
+          whole = is.whole;
+          beside = subst (λ (v : StepView). suits s.size v.op (operands_in s v.op) own.beside) x.2 is.beside;
+        };
   }
 
 -- ---- the state
@@ -178,8 +157,7 @@ def_view size l Source = refl
 def_view size l (Statement written flats) = refl
 
 entries_view : (size : Size) (ls : Name → Option LayerState) (es : List (List ℕ × Item)) → entries_by size ls es ≡ map (entry_of size ls) (items_view es)
-entries_view size ls [] = refl
-entries_view size ls (e ∷ es) = λ j. record { name = e.0; def = def_view size (ls e.0) e.1 j } ∷ entries_view size ls es j
+entries_view size ls es = (λ j. map (λ (e : List ℕ × Item). record { name = e.0; def = def_view size (ls e.0) e.1 j }) es) ∙ sym (map-map (entry_of size ls) named_view es)
 
 abbrev source_by : MapView → Name → Option LayerState
 source_by v n = at_place v.layers (position (bytes_eq n) v.sources)
@@ -187,11 +165,10 @@ source_by v n = at_place v.layers (position (bytes_eq n) v.sources)
 abbrev layer_by : MapView → Name → Option LayerState
 layer_by v n = option_or (source_by v n) (option_map (λ (k : Kept Beside). k.layer) (at_place v.kept (position (bytes_eq n) v.planned)))
 
-abbrev names_by : MapView → List Entry → EngineState
-names_by v entries = record { size = v.size; entries = entries; number = v.number }
-
 abbrev seen_with : MapView → List Entry → WholeState
-seen_with v entries = record { names = names_by v entries; procedures = v.procedures; labels = v.labels; symbols = v.symbols; stamps = stamps_seen (layer_by v) (names_by v entries) }
+seen_with v entries =
+    let names : EngineState = record { size = v.size; entries = entries; number = v.number } in
+    record { names = names; procedures = v.procedures; labels = v.labels; symbols = v.symbols; stamps = stamps_seen (layer_by v) names }
 
 abbrev seen_by : MapView → WholeState
 seen_by v = seen_with v (map (entry_of v.size (source_by v)) v.items)

@@ -1,33 +1,29 @@
--- What an edit of a name makes of the flat statements and of the sources of a map.
-use Rattle.std.proofs.Common.{◌≡◌, ℕ, Bool, true, false, cond, ◌||◌, List, [], ◌∷◌, ◌++◌, length, map, flat_map, position, Option, Some, None, is_some, option_map, bytes_eq, refl, sym, ap, ◌∙◌, if◌then◌else◌, inl, inr}
+-- What an edit of a name makes of the flat statements of a map.
+use Rattle.std.proofs.Common.{◌≡◌, ℕ, Bool, true, false, ◌||◌, List, [], ◌∷◌, map, flat_map, Option, Some, None, is_some, option_map, bytes_eq, refl, sym, ap, ◌∙◌, inl, inr}
 use Rattle.std.specs.List.{All, AllByRecursion, list_any}
 use Rattle.std.specs.Map.{lookup}
 use Rattle.std.specs.Option.{option_or}
-use Rattle.std.proofs.lemmas.Bool.{true≢false, false_from_ne_true, cases_Bool}
+use Rattle.std.proofs.lemmas.Bool.{cases_Bool}
+use Rattle.std.proofs.Math.Bool.{or-false}
 use Rattle.std.proofs.lemmas.Option.{none-some}
 use Rattle.std.proofs.lemmas.List.Elements.{recursion_from_All, All-from_recursion, All-map}
 use Rattle.std.proofs.lemmas.Map.Entries.{place_from_lookup}
-use Rattle.map_nums.specs.Grids.{Grid}
 use Rattle.map_defs.specs.Ops.{Name, Op}
-use Rattle.map_defs.specs.Nodes.{Node, find_node}
-use Rattle.map_defs.specs.Statements as statements
 use Rattle.map_defs.specs.MadeProcedures.{IsUndotted}
 use Rattle.statement_parser.specs.Views.{op_view}
 use Rattle.procedure_expand.specs.declared.flat.Flat.{Flat}
-use Rattle.map_edits.specs.Entries.{Def, source, statement, Entry, find_def}
-use Rattle.map_edits.specs.LayerDefs.{given_grid, by_op, LayerDef, layers_of, layers, find_making, nodes_of}
+use Rattle.map_edits.specs.Entries.{Def, Entry, find_def}
+use Rattle.map_edits.specs.LayerDefs.{by_op, LayerDef, layers_of, layers, find_making}
 use Rattle.map_edits.specs.Laws.{IsApart}
 use Rattle.map_edits.specs.GroupLaws.{IsGroup, AreGroups}
 use Rattle.map_edits.specs.Touches.{whole, stands_for, is_whole}
-use Rattle.map_edits.proofs.Among.{same_name, bytes_eq-self}
-use Rattle.map_edits.proofs.Heads.{head_of, head_undotted}
-use Rattle.map_edits.proofs.Looks.{made_node, find_node-making}
+use Rattle.map_edits.proofs.Among.{same_name}
+use Rattle.map_edits.proofs.Heads.{head_of}
 use Rattle.map_edits.proofs.Groups.{def_layers, outsider, group_making, making_by_head}
 use Rattle.map_edits.proofs.LawfulEdits.{IsGoodChange}
 use Rattle.map_waves.proofs.Making.{all_get}
 use Rattle.op_jobs.specs.Ranges.{HasRanges}
-use Rattle.edit_plans.specs.Planned.{FlatDef, is_source_node, AreSources}
-use Rattle.edit_plans.proofs.Positions.{position_push}
+use Rattle.edit_plans.specs.Planned.{FlatDef}
 use Rattle.kept_map.specs.Maps.{source_in, def_by, entries_in}
 use Rattle.kept_map.specs.Keeps.{IsItem, IsNamed, IsKept}
 use Rattle.kept_map.specs.Flats.{flat_def, flats_after}
@@ -35,7 +31,7 @@ use Rattle.kept_map.specs.declared.maps.Item.{Item}
 use Rattle.kept_map.specs.declared.maps.Item.TheVariants.{Source, Statement}
 use Rattle.kept_map.specs.declared.maps.KeptMap.{KeptMap}
 use Rattle.kept_map.proofs.SourceLayers.{find_item, bytes_eq_swaps}
-use Rattle.kept_map.proofs.Given.{group_there, undotted, node_source}
+use Rattle.kept_map.proofs.Given.{group_there}
 use Rattle.kept_map.proofs.EditedFlats.{op_of, flag_found, in_item, item_flag, item_makes, item_made, IsWrittenAs, written_makes, written_made, lookup-append, brought, found_in, unless_edited, others_by_head, none_outside, or_none}
 
 -- ---- what stands for a name
@@ -49,16 +45,12 @@ abbrev has_layer : Name → Name → Option Def → Bool
 has_layer m n None = false
 has_layer m n (Some d) = is_some (find_making (def_layers m d) n)
 
-or_false : (b : Bool) → (b || false) ≡ b
-or_false true = refl
-or_false false = refl
-
 stands_is : (es : List Entry) (m n : Name) → IsApart es → stands_for es m n ≡ has_layer m n (find_def es m)
 stands_is [] m n apart = refl
 stands_is (e ∷ es) m n apart = elim (cases_Bool (bytes_eq e.name m)) [
   | inl h ↦ (let at : e.name ≡ m = same_name e.name m h in
       rw h (ap (λ b. own || b) (stands_is es m n apart.1 ∙ ap (has_layer m n) (ap (find_def es) (sym at) ∙ apart.0))
-      ∙ or_false own ∙ layer_there (layers_of e) n ∙ ap (λ q. is_some (find_making (def_layers q e.def) n)) at))
+      ∙ or-false own ∙ layer_there (layers_of e) n ∙ ap (λ q. is_some (find_making (def_layers q e.def) n)) at))
   | inr h ↦ rw h (stands_is es m n apart.1)
 ]
   where
@@ -135,7 +127,12 @@ module _ (m : KeptMap) (keeps : IsKept m) (new : List Entry) (edited : Name) (wr
       by_item (Some item) e = item_made m.extent (source_in m.sources (head_of n)) (head_of n) n item op e
 
   pub flats_touched : (n : Name) (f : FlatDef) → found_after n ≡ Some f → f.written ≡ is_whole new (whole edited) n
-  flats_touched n f e = go (bytes_eq edited (head_of n)) refl ∙ sym (stands_is new edited n change.good.apart)
+  flats_touched n f e = elim (cases_Bool (bytes_eq edited (head_of n))) [
+    | inl same ↦
+        flag_found true written n f (sym (found_own n same) ∙ e)
+        ∙ there (find_def new edited) (same_name edited (head_of n) same) (sym (making_own n same) ∙ flats_make n f e) ∙ sym (stands_is new edited n change.good.apart)
+    | inr differs ↦ item_flag n (item_at n) f (sym (found_other n differs) ∙ e) ∙ away (find_def new edited) group differs ∙ sym (stands_is new edited n change.good.apart)
+  ]
     where
       there : (o : Option Def) → edited ≡ head_of n → group_making n o ≡ Some (op_of f) → true ≡ has_layer edited n o
       there None at made = absurd (none-some (op_of f) made)
@@ -144,12 +141,6 @@ module _ (m : KeptMap) (keeps : IsKept m) (new : List Entry) (edited : Name) (wr
       away : (o : Option Def) → ((d : Def) → o ≡ Some d → IsGroup edited d) → bytes_eq edited (head_of n) ≡ false → false ≡ has_layer edited n o
       away None group differs = refl
       away (Some d) group differs = sym (ap is_some (outsider edited d n plain (group d refl) differs))
-
-      go : (b : Bool) → bytes_eq edited (head_of n) ≡ b → f.written ≡ has_layer edited n (find_def new edited)
-      go true same =
-          flag_found true written n f (sym (found_own n same) ∙ e)
-          ∙ there (find_def new edited) (same_name edited (head_of n) same) (sym (making_own n same) ∙ flats_make n f e)
-      go false differs = item_flag n (item_at n) f (sym (found_other n differs) ∙ e) ∙ away (find_def new edited) group differs
 
   pub flats_ranged : All (λ (f : Flat). HasRanges (op_view f.op)) written → (n : Name) (f : FlatDef) → lookup (bytes_eq n) (flats_after m.names.entries edited written) ≡ Some f → HasRanges (op_view f.op)
   flats_ranged all n f e = elim (cases_Bool (bytes_eq edited (head_of n))) [
@@ -161,67 +152,3 @@ module _ (m : KeptMap) (keeps : IsKept m) (new : List Entry) (edited : Name) (wr
       by_item None at e = absurd (none-some f e)
       by_item (Some Source) at e = absurd (none-some f e)
       by_item (Some (Statement w flats)) at e = ranged_flat false flats.items n f (item_named m.names.entries (head_of n) (Statement w flats) (recursion_from_All IsNamed m.names.entries keeps.named) at).1 e
-
--- ---- the sources
-
-module _ (m : KeptMap) (keeps : IsKept m) (new : List Entry) (edited : Name) (plain : IsUndotted edited) (change : IsGoodChange (entries_in m) edited new) where
-  place_stays : (n : Name) (node : Node) → bytes_eq edited (head_of n) ≡ false → find_node (nodes_of new) n ≡ Some node → is_some (position (bytes_eq n) m.sources.names.keys) ≡ is_source_node (Some node)
-  place_stays n node differs e =
-      keeps.sources.stand n ∙ ap is_source_node (find_node-making (layers (entries_in m)) n ∙ ap (option_map (made_node n)) (sym (change.makings n differs)) ∙ sym (find_node-making (layers new) n) ∙ e)
-
-  own_node : (n : Name) (o : Option Def) → bytes_eq edited (head_of n) ≡ true → find_def new edited ≡ o → find_node (nodes_of new) n ≡ option_map (made_node n) (group_making n o)
-  own_node n o same is =
-      find_node-making (layers new) n
-      ∙ ap (option_map (made_node n)) (making_by_head new n change.good.groups change.good.apart ∙ ap (λ q. group_making n (find_def new q)) (sym (same_name edited (head_of n) same)) ∙ ap (group_making n) is)
-
-  pub stand_dropped : find_def new edited ≡ None → AreSources (nodes_of new) m.sources.names.keys
-  stand_dropped gone n node e = elim (cases_Bool (bytes_eq edited (head_of n))) [
-    | inl same ↦ absurd (none-some node (sym (own_node n None same gone) ∙ e))
-    | inr differs ↦ place_stays n node differs e
-  ]
-
-  pub stand_added : (grid : Grid) → find_def new edited ≡ Some (source grid) → AreSources (nodes_of new) (m.sources.names.keys ++ edited ∷ [])
-  stand_added grid there n node e = ap is_some (position_push (bytes_eq n) m.sources.names.keys edited) ∙ go (bytes_eq edited (head_of n)) refl
-    where
-      last : (o : Option ℕ) (k : ℕ) → is_some (option_or o (Some k)) ≡ true
-      last None k = refl
-      last (Some i) k = refl
-
-      of_own : (b : Bool) → bytes_eq (head_of n) n ≡ b → edited ≡ head_of n → option_map (made_node n) (option_map (λ (q : LayerDef). q.making) (cond b (Some (record { name = head_of n; making = given_grid grid })) None)) ≡ Some node
-          → is_some (option_or (position (bytes_eq n) m.sources.names.keys) (if bytes_eq n edited then Some (length m.sources.names.keys) else None)) ≡ is_source_node (Some node)
-      of_own true same at made =
-          let own : bytes_eq n edited ≡ true = ap (bytes_eq n) (at ∙ same_name (head_of n) n same) ∙ bytes_eq-self n in
-          ap (λ b. is_some (option_or (position (bytes_eq n) m.sources.names.keys) (if b then Some (length m.sources.names.keys) else None))) own ∙ last (position (bytes_eq n) m.sources.names.keys) (length m.sources.names.keys) ∙ ap is_source_node made
-      of_own false differs at made = absurd (none-some node made)
-
-      apart : bytes_eq edited (head_of n) ≡ false → bytes_eq n edited ≡ true → ⊥
-      apart differs same =
-          let own : edited ≡ head_of n = sym (head_undotted edited plain) ∙ ap head_of (sym (same_name n edited same)) in
-          true≢false (sym (bytes_eq-self edited) ∙ ap (bytes_eq edited) own ∙ differs)
-
-      go : (b : Bool) → bytes_eq edited (head_of n) ≡ b → is_some (option_or (position (bytes_eq n) m.sources.names.keys) (if bytes_eq n edited then Some (length m.sources.names.keys) else None)) ≡ is_source_node (Some node)
-      go true same = of_own (bytes_eq (head_of n) n) refl (same_name edited (head_of n) same) (sym (own_node n (Some (source grid)) same there) ∙ e)
-      go false differs =
-          ap (λ b. is_some (option_or (position (bytes_eq n) m.sources.names.keys) (if b then Some (length m.sources.names.keys) else None))) (false_from_ne_true (bytes_eq n edited) (apart differs))
-          ∙ ap is_some (or_none (position (bytes_eq n) m.sources.names.keys)) ∙ place_stays n node differs e
-
-  pub stand_defined : (w : statements.Written) (flats : List statements.Flat) → find_def new edited ≡ Some (statement w flats) → ((grid : Grid) → find_def (entries_in m) edited ≡ Some (source grid) → ⊥) → AreSources (nodes_of new) m.sources.names.keys
-  stand_defined w flats there other n node e = elim (cases_Bool (bytes_eq edited (head_of n))) [
-    | inl same ↦ (let at = same_name edited (head_of n) same in
-        false_from_ne_true (is_some (position (bytes_eq n) m.sources.names.keys)) (no_place at) ∙ sym (false_from_ne_true (is_source_node (Some node)) (no_node at)))
-    | inr differs ↦ place_stays n node differs e
-  ]
-    where
-      own : (es : List Entry) (grid : Grid) → AreGroups es → edited ≡ head_of n → find_def es n ≡ Some (source grid) → find_def es edited ≡ Some (source grid)
-      own es grid groups at is = ap (find_def es) (at ∙ head_undotted n (undotted es n (source grid) groups is)) ∙ is
-
-      no_place : edited ≡ head_of n → is_some (position (bytes_eq n) m.sources.names.keys) ≡ true → ⊥
-      no_place at placed =
-          let r = node_source (entries_in m) n keeps.lawful.groups keeps.lawful.apart (sym (keeps.sources.stand n) ∙ placed) in
-          other r.0 (own (entries_in m) r.0 keeps.lawful.groups at r.1)
-
-      no_node : edited ≡ head_of n → is_source_node (Some node) ≡ true → ⊥
-      no_node at is =
-          let r = node_source new n change.good.groups change.good.apart (ap is_source_node e ∙ is) in
-          let both : Some (statement w flats) ≡ Some (source r.0) = sym there ∙ own new r.0 change.good.groups at r.1 in
-          cc

@@ -1,9 +1,9 @@
 -- The layers of a kept map by their names, and what a name misses.
-use Rattle.std.proofs.Common.{◌≡◌, ℕ, Bool, true, false, not, List, [], position, Option, Some, None, is_some, option_map, unwrap_or, slice_get, bytes_eq, refl, sym, ap, ◌∙◌, if◌then◌else◌, map, option_copied, Bor}
+use Rattle.std.proofs.Common.{◌≡◌, ℕ, true, false, not, [], position, Option, Some, None, is_some, option_map, unwrap_or, slice_get, bytes_eq, refl, sym, ap, ◌∙◌, map}
 use Rattle.std.specs.List.{list_any}
 use Rattle.std.specs.Option.{option_or}
 use Rattle.std.proofs.lemmas.Bool.{true≢false, false≢true, and_from}
-use Rattle.std.proofs.lemmas.Option.{none-some, same_Some}
+use Rattle.std.proofs.lemmas.Option.{none-some}
 use Rattle.map_nums.specs.Grids.{Grid, Cells}
 use Rattle.map_defs.specs.Ops.{Name, Op, needs_of}
 use Rattle.map_defs.specs.Nodes.{find_node, lacks}
@@ -13,7 +13,7 @@ use Rattle.map_edits.specs.LayerDefs.{Making, given_grid, by_op, layers, find_ma
 use Rattle.map_edits.specs.EngineStates.{EngineState, made, value_of, term_cells}
 use Rattle.map_edits.specs.WholeStates.{stamps_of, cells_of}
 use Rattle.map_edits.specs.Laws.{HasNoCycle, is_named_in}
-use Rattle.map_edits.proofs.Looks.{made_node, find_node-making}
+use Rattle.map_edits.proofs.Looks.{made_node, find_node-making, none_there}
 use Rattle.map_edits.proofs.Stamped.{kept_found, value_there}
 use Rattle.map_edits.proofs.Order.{all_flats_listed}
 use Rattle.map_edits.proofs.Defined.{value_is_defined}
@@ -36,9 +36,8 @@ use Rattle.statement_graph.specs.Groups.{nodes_in}
 use Rattle.statement_parser.specs.Views.{op_view}
 use Rattle.edit_plans.proofs.There.{none_where}
 use Rattle.edit_plans.proofs.Operating.{operate_size}
-use Rattle.kept_map.proofs.Groupings.{nodes_in_groups}
-use Rattle.kept_map.proofs.SourceLayers.{source_at, source_none, source_whole, source_def}
-use Rattle.kept_map.proofs.Given.{source_value}
+use Rattle.kept_map.proofs.SourceLayers.{map_some, place_there, source_stands, source_at, source_none, source_whole, source_def}
+use Rattle.kept_map.proofs.Given.{source_value, nodes_in_groups}
 
 pub node_made : (s : EngineState) (n : Name) (making : Making) → find_making (layers s.entries) n ≡ Some making → find_node (nodes_of s.entries) n ≡ Some (made_node n making)
 node_made s n making e = find_node-making (layers s.entries) n ∙ ap (option_map (made_node n)) e
@@ -48,19 +47,13 @@ node_made s n making e = find_node-making (layers s.entries) n ∙ ap (option_ma
 module _ (s : EngineState) (sources : Sources) (are : AreKeptSources s sources) where
   -- a flat statement isn't among them
   pub no_source : (n : Name) (op : Op) → find_making (layers s.entries) n ≡ Some (by_op op) → source_in sources n ≡ None
-  no_source n op making = go (position (bytes_eq n) sources.names.keys) (are.stand n ∙ ap is_source_node (node_made s n (by_op op) making))
-    where
-      go : (o : Option ℕ) → is_some o ≡ false → at_place sources.layers.items o ≡ None
-      go None e = refl
-      go (Some i) e = absurd (true≢false e)
+  no_source n op making = source_none sources n (none_there (position (bytes_eq n) sources.names.keys) (are.stand n ∙ ap is_source_node (node_made s n (by_op op) making)))
 
   -- each has its layer
   pub source_there : (n : Name) (grid : Grid) → find_making (layers s.entries) n ≡ Some (given_grid grid) → (l : LayerState) × (source_in sources n ≡ Some l)
-  source_there n grid making = go (position (bytes_eq n) sources.names.keys) refl (are.stand n ∙ ap is_source_node (node_made s n (given_grid grid) making))
-    where
-      go : (o : Option ℕ) → position (bytes_eq n) sources.names.keys ≡ o → is_some o ≡ true → (l : LayerState) × (at_place sources.layers.items o ≡ Some l)
-      go None e h = absurd (false≢true h)
-      go (Some i) e h = step_at sources.names.keys sources.layers.items are.count i n (position_at n sources.names.keys i e)
+  source_there n grid making =
+      let r = source_stands sources n are.count (are.stand n ∙ ap is_source_node (node_made s n (given_grid grid) making)) in
+      (r.1, source_at sources n r.0 r.2 ∙ r.3)
 
 -- ---- statements
 
@@ -98,11 +91,9 @@ module _ (m : KeptMap) (kept : IsKept m) where
       (step.0, kept.statements.each i n step.0 own named step.1 here)
 
   pub kept_step : (n : Name) (own : Kept Beside) → kept_in m n ≡ Some own → (x : Step Given) × IsKeptStep (names_in m) n x own
-  kept_step n own e = go (position (bytes_eq n) m.planned.names.keys) refl e
-    where
-      go : (o : Option ℕ) → position (bytes_eq n) m.planned.names.keys ≡ o → at_place m.kept.items o ≡ Some own → (x : Step Given) × IsKeptStep (names_in m) n x own
-      go None at is = absurd (none-some own is)
-      go (Some k) at is = step_kept k n own (position_at n m.planned.names.keys k at) is
+  kept_step n own e =
+      let at = place_there m.kept.items (position (bytes_eq n) m.planned.names.keys) own e in
+      step_kept at.0 n own (position_at n m.planned.names.keys at.0 at.1) at.2
 
 -- a statement's layer is what is kept of it
 pub layer_kept : (m : KeptMap) (n : Name) (own : Kept Beside) → source_in m.sources n ≡ None → kept_in m n ≡ Some own → layer_in m n ≡ Some own.layer
@@ -116,22 +107,14 @@ layer_source m n l e = ap (λ o. option_or o (option_map (λ (k : Kept Beside). 
 -- the stamps of a layer that is defined
 pub stamps_found : (by_name : Name → Option LayerState) (s : EngineState) (n : Name) (l : LayerState) → by_name n ≡ Some l → is_some (value_of s n) ≡ true → stamps_of (stamps_seen by_name s) n ≡ Some l.stamps
 stamps_found by_name s n l is there =
-    kept_found stamps_by (λ m. is_some (value_of s m)) n (layers s.entries)
-    ∙ ap (λ (b : Bool). if b then Some (stamps_by n) else None) (value_there s n ∙ there)
-    ∙ ap (λ o. Some (unwrap_or (option_map (λ (k : LayerState). k.stamps) o) [])) is
-  where
-    stamps_by : Name → List ℕ
-    stamps_by m = unwrap_or (option_map (λ (k : LayerState). k.stamps) (by_name m)) []
+    kept_found (λ m. unwrap_or (option_map (λ (k : LayerState). k.stamps) (by_name m)) []) (λ m. is_some (value_of s m)) n (layers s.entries) ∙ rw (value_there s n, there, is) refl
 
 -- a statement's grid has the size of the map
 value_size : (s : EngineState) (n : Name) (op : Op) (cells : Cells) → HasNoCycle (nodes_of s.entries) → find_making (layers s.entries) n ≡ Some (by_op op) → cells_of s n ≡ Some cells → value_of s n ≡ Some (record { size = s.size; cells = cells })
-value_size s n op cells none making is = go (all_some (map (term_cells s.size (value_of s)) op.terms)) (value_unfolds s none n ∙ ap (made s.size (value_of s)) making)
-  where
-    go : (o : Option (List Cells)) → value_of s n ≡ option_map (operate s.size op) o → value_of s n ≡ Some (record { size = s.size; cells = cells })
-    go None e = absurd (none-some cells (sym (ap (option_map (λ (g : Grid). g.cells)) e) ∙ is))
-    go (Some operands) e =
-        let same : (operate s.size op operands).cells ≡ cells = same_Some (operate s.size op operands).cells cells (sym (ap (option_map (λ (g : Grid). g.cells)) e) ∙ is) in
-        e ∙ ap (λ g. Some g) (operate_size s.size op operands ∙ ap (λ cs. record { size = s.size; cells = cs }) same)
+value_size s n op cells none making is =
+    let g = map_some (λ (g : Grid). g.cells) (value_of s n) cells is in
+    let made_of = map_some (operate s.size op) (all_some (map (term_cells s.size (value_of s)) op.terms)) g.0 (sym (value_unfolds s none n ∙ ap (made s.size (value_of s)) making) ∙ g.1) in
+    g.1 ∙ ap (λ g. Some g) (sym made_of.2 ∙ operate_size s.size op made_of.0 ∙ ap (λ cs. record { size = s.size; cells = cs }) (ap (λ (g : Grid). g.cells) made_of.2 ∙ g.2))
 
 module _ (m : KeptMap) (keeps : IsKept m) (n : Name) where
   abbrev s : EngineState
@@ -161,7 +144,3 @@ module _ (m : KeptMap) (keeps : IsKept m) (n : Name) where
 
   pub graph_nodes : nodes_in m.graph ≡ nodes_of (entries_in m)
   graph_nodes = ap nodes_in keeps.graph_is ∙ nodes_in_groups (entries_in m)
-
-pub copied_now : (o : Option (Bor Name)) → option_copied o ≡ option_map (λ b. b.now) o
-copied_now None = refl
-copied_now (Some b) = refl

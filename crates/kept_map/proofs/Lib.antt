@@ -1,14 +1,13 @@
-pub mod Groupings
 pub mod Allowed
 pub mod Few
 pub mod Planning
+pub mod Replanning
 pub mod SourceLayers
 pub mod Given
 pub mod EditedFlats
 pub mod EditedPlans
 pub mod SettingUp
 pub mod SourcesAfter
-pub mod Attempted
 pub mod LayersByName
 pub mod Committed
 pub mod Ready

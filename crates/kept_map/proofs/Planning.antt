@@ -1,20 +1,23 @@
--- Steps that are planned over a map are those that are repaired, and what is made of them is prepared for the edit; the plan stays, or is made anew.
-use Rattle.std.proofs.Common.{◌≡◌, ℕ, zero, suc, ◌+◌, ◌*◌, ◌≤◌, false, List, [], ◌∷◌, length, get_or, position, Option, Some, None, is_some, option_map, slice_get, bytes_eq, refl, sym, ap, subst, ◌∙◌, arith, Bor, ◌^◌, ◌<◌, ◌||◌, ◌++◌, map, count_by, unwrap_or, true, inl, inr}
-use Rattle.std.specs.List.{All, list_any}
-use Rattle.std.proofs.lemmas.Bool.{true≢false, or_left, or_right, or_parts}
-use Rattle.std.proofs.lemmas.Option.{none-some, same_Some, slice_get-get_or}
-use Rattle.map_nums.specs.Grids.{Grid}
-use Rattle.map_defs.specs.Ops.{Name, Term, layer_term, number_term, Op, needs_of}
+-- Steps that are planned over a map are those that are repaired, and what is made of them is prepared for the edit, whose first fault is told and whose reads are allowed; the plan stays, or is made anew.
+use Rattle.std.proofs.Common.{◌≡◌, ℕ, suc, ◌+◌, ◌*◌, ◌≤◌, false, List, [], length, get_or, position, Option, Some, None, is_some, option_map, slice_get, bytes_eq, refl, sym, ap, subst, ◌∙◌, arith, Bor, ◌<◌, inl, inr}
+use Rattle.std.specs.List.{All}
+use Rattle.std.proofs.lemmas.Bool.{true≢false, cases_lt}
+use Rattle.std.proofs.lemmas.Option.{none-some, slice_get-get_or}
+use Rattle.map_nums.specs.Grids.{Grid, Size, row_of, column_of}
+use Rattle.map_defs.specs.Ops.{Name, Op}
 use Rattle.map_defs.specs.Depths.{depth_in, by_depth}
 use Rattle.layer_tiles.specs.Layers.{LayerState, IsLayer}
 use Rattle.layer_tiles.specs.Tallies.{TallyState, RisesBy}
-use Rattle.statement_parser.specs.Formed.{Each}
+use Rattle.layer_tiles.proofs.Rising.{rises_within}
 use Rattle.statement_parser.specs.Views.{op_view}
 use Rattle.statement_parser.specs.declared.op.Op.{Op as Given}
-use Rattle.map_edits.specs.LayerDefs.{by_op, layers, find_making, nodes_of, Making, given_grid}
+use Rattle.map_edits.specs.LayerDefs.{by_op, layers, nodes_of}
 use Rattle.map_edits.specs.LayerChanges.{operands_in}
 use Rattle.map_edits.specs.EngineStates.{value_of}
-use Rattle.map_edits.specs.Faults.{fault_of}
+use Rattle.map_edits.specs.Faults.{fault_of, too_many_viewers, overflow}
+use Rattle.map_edits.specs.Faults as faults
+use Rattle.map_edits.specs.Allowances.{faulty_name}
+use Rattle.map_edits.specs.EditCounts.{Counts}
 use Rattle.map_edits.specs.WholeStates.{WholeState, cells_of}
 use Rattle.map_edits.specs.WholeEdits.{WholeEdit}
 use Rattle.map_edits.specs.Touches.{touch_of, is_whole}
@@ -26,69 +29,50 @@ use Rattle.map_waves.specs.Operands.{IsOperand}
 use Rattle.map_waves.specs.Bases.{new_sources, source_by, IsBase, ArePlanned, AreRight, source_in, kept_by, step_by, plan_of}
 use Rattle.map_waves.specs.Plans.{Plan, operands_at, changed_to, evaluated_to, worked_to}
 use Rattle.map_waves.specs.Prepared.{IsPrepared, ArePrepared}
-use Rattle.map_waves.specs.Phases.{AreFaultless}
+use Rattle.map_waves.specs.Phases.{AreFaultless, EndsDepth}
+use Rattle.map_waves.specs.Statements.{Fault, too_many, wide_at}
 use Rattle.map_waves.specs.declared.keeping.Kept.{Kept}
 use Rattle.map_waves.specs.declared.keeping.Made.{Made}
 use Rattle.map_waves.specs.declared.plans.Step.{Step}
 use Rattle.map_waves.specs.declared.plans.Shift.{Shift}
 use Rattle.map_waves.specs.declared.plans.Base.{Base}
 use Rattle.map_waves.proofs.Reading.{prepared_at}
+use Rattle.map_waves.proofs.Rowing.{some_at}
 use Rattle.op_jobs.specs.Beside.{suits}
-use Rattle.op_jobs.specs.Ranges.{IsInRange, HasRanges}
+use Rattle.op_jobs.specs.Ranges.{HasRanges}
 use Rattle.op_jobs.specs.declared.beside.Beside.{Beside}
-use Rattle.op_jobs.proofs.Ranges.{terms_few}
 use Rattle.edit_plans.specs.PlansFor.{IsChangeOf, IsPlanFor}
-use Rattle.edit_plans.specs.Planned.{HasValue, HasOperands, whole_names, IsPlannedStep, FlatDef, IsFlatOf, AreFlats, AreSources, AreNamedApart, is_source_node, added_names, IsPlanned}
+use Rattle.edit_plans.specs.Planned.{whole_names, IsPlannedStep}
 use Rattle.edit_plans.specs.PlannedLaws.{IsPlannedFrom, IsCounted, AreFormed}
 use Rattle.edit_plans.specs.Orderly.{IsOrderly}
 use Rattle.edit_plans.specs.ReadLaws.{AreReached}
-use Rattle.edit_plans.specs.SourceCounts.{counts_to_place}
+use Rattle.edit_plans.specs.SourceCounts.{counts_of_sources, counts_to_place}
+use Rattle.edit_plans.specs.Telling.{fault_told}
 use Rattle.edit_plans.proofs.TouchedAlone.{others_are_kept, order_is_kept}
 use Rattle.edit_plans.proofs.RightBefore.{kept_is_right}
+use Rattle.edit_plans.proofs.Faulted.{first_fault_is_told, no_fault_is_none}
+use Rattle.edit_plans.proofs.OneSource.{one_source_counts}
+use Rattle.edit_plans.proofs.Reading.{reads_are_allowed}
 use Rattle.edit_plans.proofs.There.{none_where}
-use Rattle.edit_plans.proofs.Positions.{position_at, some_position}
+use Rattle.edit_plans.proofs.Positions.{position_at}
 use Rattle.edit_plans.proofs.Forming.{step_at, planned_is_plan}
 use Rattle.edit_plans.proofs.Ordered.{named_step, depths_rise, planned_is_in_order}
-use Rattle.kept_map.specs.Maps.{at_place, names_in, seen, entries_in, names_with}
-use Rattle.kept_map.specs.Keeps.{IsKept, IsKeptStep}
-use Rattle.kept_map.specs.Edits.{change_in, IsSetUp, IsReplanned, IsSamePlan}
-use Rattle.kept_map.specs.Planning.{IsPlannedFor, IsFlatAfter}
+use Rattle.kept_map.specs.Maps.{at_place, names_in, seen}
+use Rattle.kept_map.specs.Keeps.{IsKept}
+use Rattle.kept_map.specs.Edits.{change_in, IsSetUp}
+use Rattle.kept_map.specs.Planning.{IsPlannedFor}
 use Rattle.kept_map.specs.Halts.{IsHaltOf}
-use Rattle.kept_map.specs.Told.{IsTold, IsReachedAt}
-use Rattle.kept_map.specs.Repairs.{step_in, plan_in, IsUnder, AreMadeOf, counts_view, IsPreparedFor, RisesByRest}
+use Rattle.kept_map.specs.Told.{IsFirstNamed, IsTold, IsReachedAt}
+use Rattle.kept_map.specs.Repairs.{step_in, plan_in, IsUnder, AreMadeOf, counts_view, IsPreparedFor, own_damage, RisesByRest}
 use Rattle.kept_map.specs.declared.maps.KeptMap.{KeptMap}
 use Rattle.kept_map.specs.declared.halts.Halt.{Halt}
+use Rattle.kept_map.specs.declared.halts.Halt.TheVariants.{Viewers, Overflow, NoMemory}
 use Rattle.kept_map.specs.declared.repairing.Prepared.{Prepared}
-use Rattle.kept_map.proofs.Allowed.{fault_is_after, faultless, halted, reached_at, within_at, rests_by_rest, rises_by_rest}
-use Rattle.kept_map.proofs.Few.{few_whole, few_nodes}
-use Rattle.kept_map.proofs.LayersByName.{defined_placed, step_kept, kept_step, node_made}
-use Rattle.std.specs.Map.{lookup}
-use Rattle.std.proofs.lemmas.List.Folds.{list_any-append}
-use Rattle.map_defs.specs.Nodes.{Node, find_node}
-use Rattle.map_defs.specs.FlatNames.{IsIn}
-use Rattle.statement_graph.specs.Groups.{Group, nodes_in}
-use Rattle.map_edits.specs.Entries.{Entry}
-use Rattle.map_edits.specs.Laws.{HasNoCycle, is_named_in}
-use Rattle.map_edits.specs.Limits.{is_source, is_flat, most_sources, most_flats}
-use Rattle.map_edits.proofs.Among.{bytes_eq-self}
-use Rattle.map_edits.proofs.Looks.{find_node-making, made_node}
-use Rattle.map_edits.proofs.Once.{IsOnce}
-use Rattle.map_edits.proofs.GroupsOnce.{groups_once}
-use Rattle.procedure_expand.specs.declared.flat.Flat.{Flat}
-use Rattle.kept_map.specs.Flats.{flats_kept, flats_after}
-use Rattle.kept_map.proofs.EditedFlats.{flat_at}
-use Rattle.kept_map.proofs.Groupings.{nodes_in_groups}
-
--- ---- an operation whose numbers are in range has at most eight terms, and no other number
-
-each_value : (us : List Term) → Each IsInRange us → (k : ℕ) (u : Term) → slice_get us k ≡ Some u → HasValue u
-each_value [] each k u e = absurd (none-some u e)
-each_value (layer_term n ∷ us) each zero u e = subst HasValue (same_Some (layer_term n) u e) tt
-each_value (number_term z ∷ us) each zero u e = subst HasValue (same_Some (number_term z) u e) each.0
-each_value (v ∷ us) each (suc k) u e = each_value us each.1 k u e
-
-pub has_operands : (op : Op) → HasRanges op → HasOperands op
-has_operands op r = record { few = terms_few op r; values = each_value op.terms r.2 }
+use Rattle.kept_map.proofs.Allowed.{sources_allowed, first_fault, none_after, fault_is_after}
+use Rattle.kept_map.proofs.LayersByName.{defined_placed, step_kept, kept_step}
+use Rattle.map_edits.specs.Entries.{source}
+use Rattle.map_edits.specs.Laws.{HasNoCycle}
+use Rattle.kept_map.proofs.Few.{few_whole, has_operands}
 
 -- ---- what is kept
 
@@ -118,6 +102,10 @@ module _ (m : KeptMap) (kept : IsKept m) where
 
 -- ---- a plan over a base
 
+told_name : (size : Size) (n : Name) (f : Fault) → faulty_name (fault_told size n f) ≡ n
+told_name size n (too_many count) = refl
+told_name size n (wide_at at) = refl
+
 pub same_op : (a b : Op) → Some (by_op a) ≡ Some (by_op b) → a ≡ b
 same_op a b e = cc
 
@@ -125,12 +113,19 @@ module _ {m : KeptMap} {e : WholeEdit} {t : WholeState} {shift : Shift} {sources
   changes : ChangesOnly (touch_of e) (names_in m) t.names
   changes = others_are_kept (seen m) t e kept.lawful set_up.said set_up.attempt
 
-  orderly : IsOrderly t.names
+  pub orderly : IsOrderly t.names
   orderly = order_is_kept (seen m) t e kept.lawful set_up.said set_up.attempt
+
+  -- what the sources count is what the edit damages of its own
+  own_sources : (counts_of_sources (touch_of e) (names_in m) t.names).evaluated ≡ own_damage m e t
+  own_sources = ap (λ (c : Counts). c.evaluated) (one_source_counts (touch_of e) (names_in m) t.names changes kept.lawful.none_looped orderly)
 
   -- where there is no plan, nothing is read
   pub rests : (a : TallyState) → RisesByRest m e t a a
-  rests = rests_by_rest m e t set_up.attempt changes kept.lawful.none_looped orderly
+  rests a = record {
+    own = omega (arith, sources_allowed (seen m) t e set_up.attempt orderly, own_sources);
+    rest = record { looks_rise = omega arith; picks_rise = omega arith; parts_out_stay = refl; is_part_stays = refl };
+  }
 
 -- steps that are planned for an edit, and a base that is the map with a shift
 module _ {m : KeptMap} {e : WholeEdit} {t : WholeState} {shift : Shift} {sources names : List Name} {steps : List (Step Given)} (held : IsKept m) (plan : IsPlannedFor m e t shift sources names steps)
@@ -157,11 +152,8 @@ module _ {m : KeptMap} {e : WholeEdit} {t : WholeState} {shift : Shift} {sources
 
   pub few_steps : length steps ≤ 96
   few_steps =
-      let count = plan.planned.count in
       let named : length names ≡ length (whole_names (nodes_of t.names.entries) (by_depth (nodes_of t.names.entries))) = ap length plan.planned.names_are in
-      let whole = few_whole (nodes_of t.names.entries) in
-      let few = plan.few in
-      omega arith
+      omega (arith, named, plan.planned.count, plan.few, few_whole (nodes_of t.names.entries))
 
   steps_rise : (j k : ℕ) (x y : Step Given) → j ≤ k → slice_get steps j ≡ Some x → slice_get steps k ≡ Some y → x.depth ≤ y.depth
   steps_rise j k x y below at here = depths_rise (nodes_of t.names.entries) sources plan.flats m.planned.names.keys names steps j k x y plan.planned below at here
@@ -177,6 +169,9 @@ module _ {m : KeptMap} {e : WholeEdit} {t : WholeState} {shift : Shift} {sources
     shift = plan.set_up.shift_is;
     operands = λ i. subst (IsOperand m.extent) (sym (source_is i)) (plan.set_up.operands i);
   }
+
+  none_looped : HasNoCycle (nodes_of t.names.entries)
+  none_looped = (orderly held plan.set_up).none_looped
 
   planned_from : IsPlannedFrom (touch_of e) (names_in m) t.names base sources plan.flats m.planned.names.keys
   planned_from = record {
@@ -197,10 +192,10 @@ module _ {m : KeptMap} {e : WholeEdit} {t : WholeState} {shift : Shift} {sources
   formed n f found = let ranges = (plan.each n f found).ranges in (ranges, (has_operands (op_view f.op) ranges).few)
 
   is_plan : IsPlanFor (touch_of e) (names_in m) t.names the_plan sources names
-  is_plan = planned_is_plan (touch_of e) (names_in m) t.names base sources plan.flats m.planned.names.keys names steps (orderly held plan.set_up).none_looped planned_from plan.planned
+  is_plan = planned_is_plan (touch_of e) (names_in m) t.names base sources plan.flats m.planned.names.keys names steps none_looped planned_from plan.planned
 
   pub in_order : ArePlanned op_view (λ o. HasRanges (op_view o)) base steps
-  in_order = planned_is_in_order HasRanges (touch_of e) (names_in m) t.names base sources plan.flats m.planned.names.keys names steps (orderly held plan.set_up).none_looped planned_from counted formed plan.planned
+  in_order = planned_is_in_order HasRanges (touch_of e) (names_in m) t.names base sources plan.flats m.planned.names.keys names steps none_looped planned_from counted formed plan.planned
 
   depths_are : (k : ℕ) (n : Name) (x : Step Given) → slice_get names k ≡ Some n → slice_get steps k ≡ Some x → x.depth ≡ depth_in (nodes_of t.names.entries) n
   depths_are k n x named at = (plan.planned.each k n x named at).depth
@@ -224,28 +219,41 @@ module _ {m : KeptMap} {e : WholeEdit} {t : WholeState} {shift : Shift} {sources
       let untouched : is_whole t.names.entries (touch_of e) n ≡ false = sym flat.written ∙ sym step.written ∙ unwritten in
       let before = (changes held plan.set_up).statements n (op_view step.flat.op) untouched flat.making in
       let found : at_place m.kept.items (position (bytes_eq n) m.planned.names.keys) ≡ Some own = sym (kept_is (position (bytes_eq n) m.planned.names.keys)) ∙ ap (kept_by base) (sym step.kept) ∙ here in
-      let keeps = kept_step m held n own found in
-      right_by n keeps.0 (named_step names steps plan.planned.count k x at) (before ∙ ap (λ o. Some (by_op o)) (sym step.op)) keeps.1
-    where
-      right_by : (n : Name) (y : Step Given) → slice_get names k ≡ Some n → find_making (layers (names_in m).entries) n ≡ Some (by_op (op_view x.op)) → IsKeptStep (names_in m) n y own → IsRightOver suits m.extent (op_view x.op) (operands_at the_plan k) own
-      right_by n y named before keeps =
-          let both : Some (by_op (op_view y.op)) ≡ Some (by_op (op_view x.op)) = sym keeps.making ∙ before in
-          let same : op_view y.op ≡ op_view x.op = same_op (op_view y.op) (op_view x.op) both in
-          let is : op_view y.op ≡ (step_by op_view base (slice_get steps k)).op = same ∙ ap (λ o. (step_by op_view base o).op) (sym at) in
-          subst (λ o. IsRightOver suits m.extent (step_by op_view base o).op (operands_at the_plan k) own) at
-          (kept_is_right suits (touch_of e) (names_in m) t.names the_plan sources names k n own is_plan (changes held plan.set_up) held.lawful.none_looped held.faultless named
-          (ap (λ o. (step_by op_view base o).written) at ∙ unwritten)
-          (ap (λ o. (step_by op_view base o).was) at ∙ ap was_of here)
-          keeps.size
-          (subst (λ (o : Op). suits m.extent o (operands_in (names_in m) o) own.beside) is keeps.beside))
+      let kept = kept_step m held n own found in
+      let keeps = kept.1 in
+      let both : Some (by_op (op_view kept.0.op)) ≡ Some (by_op (op_view x.op)) = sym keeps.making ∙ before ∙ ap (λ o. Some (by_op o)) (sym step.op) in
+      let is : op_view kept.0.op ≡ (step_by op_view base (slice_get steps k)).op = same_op (op_view kept.0.op) (op_view x.op) both ∙ ap (λ o. (step_by op_view base o).op) (sym at) in
+      subst (λ o. IsRightOver suits m.extent (step_by op_view base o).op (operands_at the_plan k) own) at
+      (kept_is_right suits (touch_of e) (names_in m) t.names the_plan sources names k n own is_plan (changes held plan.set_up) held.lawful.none_looped held.faultless
+      (named_step names steps plan.planned.count k x at)
+      (ap (λ o. (step_by op_view base o).written) at ∙ unwritten)
+      (ap (λ o. (step_by op_view base o).was) at ∙ ap was_of here)
+      keeps.size
+      (subst (λ (o : Op). suits m.extent o (operands_in (names_in m) o) own.beside) is keeps.beside))
 
-  -- ---- what is made of the steps
+  -- ---- the fault for which the edit is refused is the first of its plan
 
   after : fault_after e t ≡ fault_of t.names
   after = fault_is_after (seen m) t e held.lawful held.faultless (said_puts_back (seen m) e plan.set_up.said) plan.set_up.attempt
 
   none_found : AreFaultless the_plan 0 (length steps) → fault_after e t ≡ None
-  none_found are = faultless e t is_plan (orderly held plan.set_up).none_looped (subst (AreFaultless the_plan 0) plan.planned.count are)
+  none_found are = none_after t e ((no_fault_is_none (touch_of e) (names_in m) t.names the_plan sources names is_plan none_looped).1 (λ k below. are k (omega arith) (omega (arith, below, plan.planned.count))))
+
+  named_fault : (n : Name) (f : Fault) → IsFirstNamed the_plan names n f → fault_after e t ≡ Some (fault_told t.names.size n f)
+  named_fault n f first =
+      after ∙ first_fault_is_told (touch_of e) (names_in m) t.names the_plan sources names first.place n f is_plan none_looped first.named first.first.is (λ j less. first.first.none j (omega arith) less)
+
+  pub halted_for : (halt : Halt) → IsTold m.extent the_plan names halt → IsHaltOf e t halt
+  halted_for NoMemory told = tt
+  halted_for (Viewers n count) told = named_fault n (too_many count) told
+  halted_for (Overflow n row column) told =
+      let at = told.0 in
+      named_fault n (wide_at at) told.1
+      ∙ ap (λ q. Some (overflow n (suc (row_of q at)) (suc (column_of q at)))) (sym (changes held plan.set_up).size)
+      ∙ ap (λ r. Some (overflow n r (suc (column_of m.extent at)))) (sym told.2)
+      ∙ ap (λ c. Some (overflow n row c)) (sym told.3)
+
+  -- ---- what is made of the steps
 
   made_of : (made : List (Option (Made Beside))) → ArePrepared op_view suits base steps 0 made → AreMadeOf m shift steps made
   made_of made prepared k x r at is =
@@ -258,114 +266,57 @@ module _ {m : KeptMap} {e : WholeEdit} {t : WholeState} {shift : Shift} {sources
       let counts : counts_view r.counts ≡ counts_to_place the_plan (length steps) = λ i. record { changed = changed i; evaluated = evaluated i; worked = worked i } in
       record { faultless = none_found none; under = under; count = count; made = made_of r.made.items made; counts = counts ∙ ap (λ p. counts_to_place p (length steps)) plan_is }
 
-  pub halted_for : (halt : Halt) → IsTold m.extent the_plan names halt → IsHaltOf e t halt
-  halted_for halt told = halted e t is_plan (orderly held plan.set_up).none_looped after m.extent (changes held plan.set_up).size halt told
+  -- ---- what is looked at before a fault is no deeper, and may be read
 
-  rises_to : (end : ℕ) → end ≤ length names → AreReached t e names end → (a b : TallyState) → RisesBy (62 * evaluated_to the_plan end) (1000 * worked_to the_plan end) a b → RisesByRest m e t a b
-  rises_to end within reached a b rise = rises_by_rest m e t plan.set_up.attempt (changes held plan.set_up) held.lawful.none_looped (orderly held plan.set_up) is_plan end within reached a b rise
+  -- those before the end of a depth are no deeper than one of that depth, or one after it
+  shallow : (k end i : ℕ) (n : Name) → EndsDepth steps k end → k ≤ i → slice_get names i ≡ Some n → (j : ℕ) (q : Name) → j < end → slice_get names j ≡ Some q
+      → depth_in (nodes_of t.names.entries) q ≤ depth_in (nodes_of t.names.entries) n
+  shallow k end i n ends from here j q below at =
+      let x = step_at names steps plan.planned.count j q at in
+      let y = some_at steps k (omega (arith, ends.0, ends.1)) in
+      let z = step_at names steps plan.planned.count i n here in
+      let low = depths_are j q x.0 at x.1 in
+      let deep = depths_are i n z.0 here z.1 in
+      elim (cases_lt j k) [
+        | inl less ↦ omega (arith, low, deep, steps_rise j i x.0 z.0 (omega (arith, less, from)) x.1 z.1)
+        | inr more ↦ omega (arith, low, deep, ends.2 j x.0 y.0 more below y.1 x.1, steps_rise k i y.0 z.0 from y.1 z.1)
+      ]
+
+  -- the name of a fault
+  by_fault : (k end i : ℕ) (n : Name) (f g : faults.Fault) → EndsDepth steps k end → k ≤ i → slice_get names i ≡ Some n → fault_after e t ≡ Some g → faulty_name g ≡ n → fault_after e t ≡ Some f
+      → (j : ℕ) (q : Name) → j < end → slice_get names j ≡ Some q → depth_in (nodes_of t.names.entries) q ≤ depth_in (nodes_of t.names.entries) (faulty_name f)
+  by_fault k end i n f g ends from here is named e j q below at =
+      let same : g ≡ f = cc in
+      subst (λ r. depth_in (nodes_of t.names.entries) q ≤ depth_in (nodes_of t.names.entries) r) (sym named ∙ ap faulty_name same) (shallow k end i n ends from here j q below at)
+
+  no_memory : (k end : ℕ) → AreFaultless the_plan 0 k → EndsDepth steps k end → AreReached t e names end
+  no_memory k end before ends f is j q below at = elim (first_fault the_plan (length names)) [
+    | inl are ↦ absurd (none-some f (sym (none_found (λ k from below. are k from (omega (arith, below, plan.planned.count)))) ∙ is))
+    | inr r ↦ (let n = some_at names r.0 r.2.below in
+        let told = named_fault n.0 r.1 (record { place = r.0; named = n.1; first = r.2 }) in
+        let later : k ≤ r.0 = elim (cases_lt r.0 k) [ inl less ↦ absurd (none-some r.1 (sym (before r.0 (omega arith) less) ∙ r.2.is)) | inr from ↦ from ] in
+        by_fault k end r.0 n.0 f (fault_told t.names.size n.0 r.1) ends later n.1 told (told_name t.names.size n.0 r.1) is j q below at)
+  ]
+
+  reached_at : (end : ℕ) (halt : Halt) → IsHaltOf e t halt → IsReachedAt the_plan names steps halt end → AreReached t e names end
+  reached_at end (Viewers n viewers) told at f is j q below here = by_fault at.0 end at.0 n f (too_many_viewers n viewers) at.3 (omega arith) at.1 told refl is j q below here
+  reached_at end (Overflow n row column) told at f is j q below here = by_fault at.0 end at.0 n f (overflow n row column) at.4 (omega arith) at.2 told refl is j q below here
+  reached_at end NoMemory told at f is j q below here = no_memory at.0 end at.1 at.2 f is j q below here
+
+  within_at : (end : ℕ) (halt : Halt) → IsReachedAt the_plan names steps halt end → end ≤ length steps
+  within_at end (Viewers n viewers) at = at.3.1
+  within_at end (Overflow n row column) at = at.4.1
+  within_at end NoMemory at = at.2.1
+
+  rises_to : (end : ℕ) → end ≤ length steps → AreReached t e names end → (a b : TallyState) → RisesBy (62 * evaluated_to the_plan end) (1000 * worked_to the_plan end) a b → RisesByRest m e t a b
+  rises_to end within reached a b rise =
+      let below : end ≤ length names = omega (arith, within, plan.planned.count) in
+      let allowed = reads_are_allowed (seen m) t e the_plan sources names end plan.set_up.attempt is_plan (changes held plan.set_up) held.lawful.none_looped (orderly held plan.set_up) below reached in
+      let own = own_sources held plan.set_up in
+      record { own = omega (arith, allowed.looks, own); rest = rises_within _ _ _ _ a b (omega (arith, allowed.looks, own)) (omega (arith, allowed.picks)) rise }
 
   pub rises_whole : AreFaultless the_plan 0 (length steps) → (end : ℕ) → end ≡ length steps → (a b : TallyState) → RisesBy (62 * evaluated_to the_plan end) (1000 * worked_to the_plan end) a b → RisesByRest m e t a b
-  rises_whole none end all a b rise =
-      let count = plan.planned.count in
-      rises_to end (omega arith) (λ f is j n below at. absurd (none-some f (sym (none_found none) ∙ is))) a b rise
+  rises_whole none end all a b rise = rises_to end (omega arith) (λ f is j n below at. absurd (none-some f (sym (none_found none) ∙ is))) a b rise
 
   pub rises_halted : (halt : Halt) (end : ℕ) → IsTold m.extent the_plan names halt → IsReachedAt the_plan names steps halt end → (a b : TallyState) → RisesBy (62 * evaluated_to the_plan end) (1000 * worked_to the_plan end) a b → RisesByRest m e t a b
-  rises_halted halt end told reached a b rise =
-      rises_to end
-      (within_at e t is_plan (orderly held plan.set_up).none_looped after steps plan.planned.count depths_are steps_rise end halt reached)
-      (reached_at e t is_plan (orderly held plan.set_up).none_looped after steps plan.planned.count depths_are steps_rise end halt (halted_for halt told) reached)
-      a b rise
-
-few_within : (es : List Entry) → count_by is_source es ≤ most_sources → count_by is_flat (layers es) ≤ most_flats → length (nodes_of es) ≤ most_sources + most_flats
-few_within es sources flats = let few = few_nodes es in omega arith
-
--- ---- names apart
-
-named_in : (n : Name) (xs : List Node) → IsIn n (map (λ (x : Node). x.name) xs) → is_named_in n xs ≡ true
-named_in n [] at = absurd at
-named_in n (x ∷ xs) (inl same) = or_left (bytes_eq x.name n) (is_named_in n xs) (ap (λ q. bytes_eq q n) (sym same) ∙ bytes_eq-self n)
-named_in n (x ∷ xs) (inr at) = or_right (bytes_eq x.name n) (is_named_in n xs) (named_in n xs at)
-
-apart_once : (xs : List Node) → IsOnce xs → AreNamedApart xs
-apart_once [] once = tt
-apart_once (x ∷ xs) once = (λ at. true≢false (sym (named_in x.name xs at) ∙ once.0), apart_once xs once.1)
-
--- ---- the plan stays
-
-pub same_planned : {m : KeptMap} {e : WholeEdit} {t : WholeState} {shift : Shift} → IsKept m → IsSetUp m e t shift m.sources.names.keys → IsSamePlan m e t
-    → IsPlannedFor m e t shift m.sources.names.keys m.planned.names.keys m.planned.steps.items
-same_planned {m} {e} {t} {shift} kept set_up same = record {
-  set_up = set_up;
-  few = subst (λ nodes. length nodes ≤ most_sources + most_flats) (sym same.nodes) (few_within (entries_in m) kept.sources_few kept.flats_few);
-  flats = flats_kept m.planned;
-  each = each;
-  planned = subst (λ nodes. IsPlanned nodes m.sources.names.keys (flats_kept m.planned) m.planned.names.keys m.planned.names.keys m.planned.steps.items) (sym same.nodes) kept.statements.planned_are;
-}
-  where
-    each : (n : Name) (f : FlatDef) → lookup (bytes_eq n) (flats_kept m.planned) ≡ Some f → IsFlatAfter m e t n f
-    each n f found =
-        let r = flat_at m.planned.names.keys m.planned.steps.items kept.statements.planned_are.count n f found in
-        let named = position_at n m.planned.names.keys r.0 r.2 in
-        let own = step_at m.planned.names.keys m.kept.items (kept_count m kept) r.0 n named in
-        let keeps = kept.statements.each r.0 n r.1 own.0 named r.3 own.1 in
-        let untouched = same.untouched n (op_view r.1.op) keeps.making in
-        subst (IsFlatAfter m e t n) r.4 (record {
-          making = same.makings n (op_view r.1.op) keeps.making;
-          written = keeps.written ∙ sym untouched;
-          ranges = keeps.ranges;
-          no_source = kept.sources.stand n ∙ ap is_source_node (node_made (names_in m) n (by_op (op_view r.1.op)) keeps.making);
-        })
-
--- ---- another plan
-
-module _ {m : KeptMap} {e : WholeEdit} {t : WholeState} {shift : Shift} {graph : List Group} {edited : Name} {written : List Flat} (added : Option (Bor (List ℕ)))
-    (kept : IsKept m) (set_up : IsSetUp m e t shift (names_with m.sources added)) (new : IsReplanned m e t (names_with m.sources added) graph edited written) where
-  nodes_are : nodes_in graph ≡ nodes_of t.names.entries
-  nodes_are = ap nodes_in new.graph_is ∙ nodes_in_groups t.names.entries
-
-  few : length (nodes_of t.names.entries) ≤ most_sources + most_flats
-  few = few_within t.names.entries new.sources_few new.flats_few
-
-  pub acyclic : HasNoCycle (nodes_in graph)
-  acyclic = subst HasNoCycle (sym nodes_are) (orderly kept set_up).none_looped
-
-  pub apart_in : AreNamedApart (nodes_in graph)
-  apart_in = subst AreNamedApart (sym nodes_are) (apart_once (nodes_of t.names.entries) (groups_once t.names.entries (orderly kept set_up).groups (orderly kept set_up).apart))
-
-  pub few_in : length (nodes_in graph) + 1 < 2 ^ 31
-  few_in = let same : length (nodes_in graph) ≡ length (nodes_of t.names.entries) = ap length nodes_are in let most = few in omega arith
-
-  pub sources_in : AreSources (nodes_in graph) (names_with m.sources added)
-  sources_in = subst (λ nodes. AreSources nodes (names_with m.sources added)) (sym nodes_are) new.stand
-
-  pub flats_in : AreFlats (nodes_in graph) (flats_after m.names.entries edited written)
-  flats_in = subst (λ nodes. AreFlats nodes (flats_after m.names.entries edited written)) (sym nodes_are) (λ n ns found. go n ns found (find_making (layers t.names.entries) n) refl)
-    where
-      go : (n : Name) (ns : List Name) → find_node (nodes_of t.names.entries) n ≡ Some (record { name = n; needs = Some ns }) → (o : Option Making) → find_making (layers t.names.entries) n ≡ o
-          → IsFlatOf (flats_after m.names.entries edited written) n ns
-      go n ns found None making = absurd (none-some _ (sym (find_node-making (layers t.names.entries) n ∙ ap (option_map (made_node n)) making) ∙ found))
-      go n ns found (Some (given_grid grid)) making = absurd (true≢false (ap is_source_node (sym (node_made t.names n (given_grid grid) making) ∙ found)))
-      go n ns found (Some (by_op op)) making =
-          let needs : needs_of op ≡ ns = ap (λ (o : Option Node). unwrap_or (unwrap_or (option_map (λ (x : Node). x.needs) o) None) []) (sym (node_made t.names n (by_op op) making) ∙ found) in
-          let flat = new.found n op making in
-          let same = same_op (op_view flat.0.op) op (sym (new.makings n flat.0 flat.1) ∙ making) in
-          record { flat = flat.0; found = flat.1; needs = ap needs_of same ∙ needs; operands = has_operands (op_view flat.0.op) (new.ranges n flat.0 flat.1) }
-
-  -- no flat statement has the name of a source that was there
-  no_source : (n : Name) (op : Op) → find_making (layers t.names.entries) n ≡ Some (by_op op) → is_some (position (bytes_eq n) m.sources.names.keys) ≡ false
-  no_source n op making =
-      let keys = m.sources.names.keys in
-      let more = added_names (option_map (λ b. b.now) added) in
-      let none : is_some (position (bytes_eq n) (keys ++ more)) ≡ false = new.stand n (record { name = n; needs = Some (needs_of op) }) (node_made t.names n (by_op op) making) in
-      let any : (list_any (bytes_eq n) keys || list_any (bytes_eq n) more) ≡ false = sym (some_position (bytes_eq n) (keys ++ more) ∙ list_any-append (bytes_eq n) keys more) ∙ none in
-      some_position (bytes_eq n) keys ∙ (or_parts (list_any (bytes_eq n) keys) (list_any (bytes_eq n) more) any).0
-
-  pub replanned : {names : List Name} {steps : List (Step Given)} → IsPlanned (nodes_in graph) (names_with m.sources added) (flats_after m.names.entries edited written) m.planned.names.keys names steps
-      → IsPlannedFor m e t shift (names_with m.sources added) names steps
-  replanned {names} {steps} planned = record {
-    set_up = set_up;
-    few = few;
-    flats = flats_after m.names.entries edited written;
-    each = λ n f found. record { making = new.makings n f found; written = new.touched n f found; ranges = new.ranges n f found; no_source = no_source n (op_view f.op) (new.makings n f found) };
-    planned = subst (λ nodes. IsPlanned nodes (names_with m.sources added) (flats_after m.names.entries edited written) m.planned.names.keys names steps) nodes_are planned;
-  }
+  rises_halted halt end told reached a b rise = rises_to end (within_at end halt reached) (reached_at end halt (halted_for halt told) reached) a b rise

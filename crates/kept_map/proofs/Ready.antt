@@ -1,5 +1,5 @@
 -- What is prepared of all statements can be put in place of what was kept, one after another, and the steps at rest are a plan.
-use Rattle.std.proofs.Common.{◌≡◌, ℕ, zero, suc, false, not, List, [], ◌∷◌, map, filter, length, position, Some, is_some, slice_get, bytes_eq, refl, sym, ap, subst, ◌∙◌, arith, ◌<◌, get_or, Option, None, slice_index_or, option_map, ◌≢◌, ◌⊎◌, inl, inr, ◌+◌, ◌≤◌, set, length-set}
+use Rattle.std.proofs.Common.{◌≡◌, ℕ, zero, suc, false, not, List, [], ◌∷◌, map, filter, length, position, Some, is_some, slice_get, bytes_eq, refl, sym, ap, subst, ◌∙◌, arith, ◌<◌, get_or, Option, None, slice_index_or, option_map, ◌≢◌, inl, inr, ◌+◌, ◌≤◌, set, length-set}
 use Rattle.std.specs.List.{AllByRecursion, IsDistinct}
 use Rattle.std.proofs.lemmas.Bool.{or_parts, cases_eq}
 use Rattle.std.proofs.lemmas.Option.{same_Some, slice_get_within, slice_get-get_or, get_or_from_slice_get}
@@ -27,7 +27,6 @@ use Rattle.map_waves.specs.declared.plans.Shift.{Shift}
 use Rattle.op_jobs.specs.declared.beside.Beside.{Beside}
 use Rattle.edit_plans.specs.PlansFor.{AreRefsFor}
 use Rattle.edit_plans.specs.Planned.{whole_names, IsPlanned}
-use Rattle.edit_plans.specs.Orderly.{IsOrderly}
 use Rattle.edit_plans.proofs.Forming.{step_at}
 use Rattle.edit_plans.proofs.Positions.{position_at}
 use Rattle.edit_plans.proofs.TouchedAlone.{order_is_kept}
@@ -55,16 +54,14 @@ none_changed R xs = record { count = refl; changed = λ j x below at. absurd (om
 pub one_changed : {X : Type 0} (R : ℕ → X → X → Type 0) (k : ℕ) (old now : List X) (d y : X) → AreChangedTo R k old now → k < length now → R k (get_or now k d) y → AreChangedTo R (k + 1) old (set now k y)
 one_changed {X} R k old now d y so_far within new = record {
   count = length-set now k y ∙ so_far.count;
-  changed = λ j x below at. go j x at below (cases_eq j k);
+  changed = λ j x below at. elim (cases_eq j k) [
+    | inl same ↦ (let is : get_or now k d ≡ x = get_or_from_slice_get now k x d (so_far.left k (omega arith) ∙ ap (slice_get old) (sym same) ∙ at) in
+        subst (λ i. (z : X) × (slice_get (set now k y) i ≡ Some z) × R i x z) (sym same)
+        (y, slice_get-set_same now k y (get_or now k d) (slice_get-get_or now k d within), subst (λ (q : X). R k q y) is new))
+    | inr other ↦ (let r = so_far.changed j x (omega (arith, other, below)) at in (r.0, slice_get-set_other now k j y other ∙ r.1, r.2))
+  ];
   left = λ j from. let other : j ≢ k = λ same. absurd (omega (arith, same)) in slice_get-set_other now k j y other ∙ so_far.left j (omega arith);
 }
-  where
-    go : (j : ℕ) (x : X) → slice_get old j ≡ Some x → j < k + 1 → (j ≡ k) ⊎ (j ≡ k → ⊥) → (z : X) × (slice_get (set now k y) j ≡ Some z) × R j x z
-    go j x at below (inl same) =
-        let is : get_or now k d ≡ x = get_or_from_slice_get now k x d (so_far.left k (omega arith) ∙ ap (slice_get old) (sym same) ∙ at) in
-        subst (λ i. (z : X) × (slice_get (set now k y) i ≡ Some z) × R i x z) (sym same)
-        (y, slice_get-set_same now k y (get_or now k d) (slice_get-get_or now k d within), subst (λ (q : X). R k q y) is new)
-    go j x at below (inr other) = let r = so_far.changed j x (omega (arith, other)) at in (r.0, slice_get-set_other now k j y other ∙ r.1, r.2)
 
 pub all_changed : {X : Type 0} (R : ℕ → X → X → Type 0) (k : ℕ) (old now : List X) → AreChangedTo R k old now → length old ≤ k
     → (length now ≡ length old) × ((j : ℕ) (x : X) → slice_get old j ≡ Some x → (y : X) × (slice_get now j ≡ Some y) × R j x y)
@@ -141,17 +138,14 @@ module _ (m : KeptMap) (e : WholeEdit) (t : WholeState) (shift : Shift) (sources
   slots_within k i x here is =
       let n = name_at k x here in
       let within = (position-Some (bytes_eq n.0) m.planned.names.keys i [] (sym (under.kept k n.0 x n.1 here) ∙ is)).0 in
-      let steps_count = kept.statements.planned_are.count in
-      let kept_count = kept.statements.count in
-      omega (arith, within, steps_count, kept_count)
+      omega (arith, within, kept.statements.planned_are.count, kept.statements.count)
 
   module _ (set_up : IsSetUp m e t shift sources) where
-    orderly : IsOrderly t.names
-    orderly = order_is_kept (seen m) t e kept.lawful set_up.said set_up.attempt
-
     -- each name stands at one place of the plan
     pub one_place : (k : ℕ) (n : Name) → slice_get names k ≡ Some n → position (bytes_eq n) names ≡ Some k
-    one_place = whole_place (nodes_of t.names.entries) (groups_once t.names.entries orderly.groups orderly.apart) names under.whole
+    one_place =
+        let orderly = order_is_kept (seen m) t e kept.lawful set_up.said set_up.attempt in
+        whole_place (nodes_of t.names.entries) (groups_once t.names.entries orderly.groups orderly.apart) names under.whole
 
     pub own_slots : HaveOwnSlots steps
     own_slots j k i x y here there is was =
@@ -170,8 +164,6 @@ module _ (m : KeptMap) (e : WholeEdit) (t : WholeState) (shift : Shift) (sources
       let rested = rests.1 k x here in
       let same : rested.0 ≡ y = same_Some rested.0 y (sym rested.1 ∙ there) in
       let step : (plan_in m shift steps).step k ≡ step_in m (Some x) = ap (step_in m) here in
-      let refs : AreRefsFor sources names k (op_view x.op).terms x.refs.items = subst (λ (d : StepDef). AreRefsFor sources names k d.op.terms d.refs) step (under.plan.steps k n.0 n.1).refs in (
-        subst (λ (z : Step Given). IsAtRest k x z) same rested.2,
-        subst (λ (z : Step Given). AreRefsFor sources names k (op_view x.op).terms z.refs.items) same
-            (subst (λ (rs : List Ref). AreRefsFor sources names k (op_view x.op).terms rs) (ap (λ v. v.items) (sym rested.3)) refs),
-      )
+      let refs : AreRefsFor sources names k (op_view x.op).terms x.refs.items = subst (λ (d : StepDef). AreRefsFor sources names k d.op.terms d.refs) step (under.plan.steps k n.0 n.1).refs in
+      subst (λ (z : Step Given). IsAtRest k x z × AreRefsFor sources names k (op_view x.op).terms z.refs.items) same
+      (rested.2, subst (λ (rs : List Ref). AreRefsFor sources names k (op_view x.op).terms rs) (ap (λ v. v.items) (sym rested.3)) refs)

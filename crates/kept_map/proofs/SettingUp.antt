@@ -3,7 +3,7 @@ use Rattle.std.proofs.Common.{◌≡◌, ℕ, zero, suc, ℤ, false, List, [], �
 use Rattle.std.specs.List.{IsDistinct}
 use Rattle.std.proofs.lemmas.Bool.{true≢false, false≢true, cases_order, cases_Bool}
 use Rattle.std.proofs.lemmas.Map.Keys.{apart_from_distinct}
-use Rattle.std.proofs.lemmas.Option.{none-some, same_Some, slice_get_past, slice_get_within, get_or_from_slice_get}
+use Rattle.std.proofs.lemmas.Option.{none-some, same_Some, slice_get_past, slice_get_cases, slice_get_within, get_or_from_slice_get}
 use Rattle.map_nums.specs.Grids.{Size, IsSize, Grid, Cells, constant}
 use Rattle.map_defs.specs.Damage.{changed_tiles}
 use Rattle.map_defs.specs.Ops.{Name}
@@ -75,11 +75,10 @@ constant_operand s cell = record { size = refl; exact = λ was e. none_changed s
 
 module _ (m : KeptMap) (keeps : IsKept m) where
   all_operands : (shift : Shift) (i : ℕ) → IsOperand m.extent (source_by m.extent shift i None) → ((l : LayerState) → l.size ≡ m.extent → IsOperand m.extent (source_by m.extent shift i (Some l))) → IsOperand m.extent (change_in m shift i)
-  all_operands shift i none some = go (slice_get m.sources.layers.items i) refl
-    where
-      go : (o : Option LayerState) → slice_get m.sources.layers.items i ≡ o → IsOperand m.extent (source_by m.extent shift i o)
-      go None e = none
-      go (Some l) e = some l (all_get (λ (k : LayerState). (k.size ≡ m.extent) × IsLayer k) m.sources.layers.items keeps.sources.whole i l e).0
+  all_operands shift i none some = elim (slice_get_cases m.sources.layers.items i).1 [
+    | inl r ↦ rw r.2 (some r.0 (all_get (λ (k : LayerState). (k.size ≡ m.extent) × IsLayer k) m.sources.layers.items keeps.sources.whole i r.0 r.2).0)
+    | inr past ↦ rw past.1 none
+  ]
 
   pub nothing_operands : (i : ℕ) → IsOperand m.extent (change_in m Nothing i)
   nothing_operands i = all_operands Nothing i (constant_operand m.extent None) (λ l size. same_operand m.extent l size)
@@ -120,13 +119,14 @@ module _ (m : KeptMap) (keeps : IsKept m) where
     IsLeft n = (find_making (layers t.entries) n ≡ None) ⊎ (find_making (layers t.entries) n ≡ find_making (layers (entries_in m)) n)
 
     pub left_change : (n : Name) (l : LayerState) → find_def (entries_in m) n ≡ Some (source (grid_of l)) → IsLeft n → IsChangeOf (names_in m) t n (same_change l)
-    left_change n l def left = record { after = λ now e. go left now e; before = λ was e. sym (value_before n l def) ∙ e }
-      where
-        go : IsLeft n → (now : List (Option ℤ)) → cells_of t n ≡ Some now → l.cells ≡ now
-        go (inl gone) now e = absurd (none-some now (sym (ap (option_map (λ (g : Grid). g.cells)) (value_after n None gone)) ∙ e))
-        go (inr same) now e =
-            let making = same ∙ source_making (entries_in m) n keeps.lawful.groups keeps.lawful.apart (grid_of l) def in
-            same_Some l.cells now (sym (ap (option_map (λ (g : Grid). g.cells)) (value_after n (Some (given_grid (grid_of l))) making)) ∙ e)
+    left_change n l def left = record {
+      before = λ was e. sym (value_before n l def) ∙ e;
+      after = λ now e. elim left [
+        | inl gone ↦ absurd (none-some now (sym (ap (option_map (λ (g : Grid). g.cells)) (value_after n None gone)) ∙ e))
+        | inr same ↦ (let making = same ∙ source_making (entries_in m) n keeps.lawful.groups keeps.lawful.apart (grid_of l) def in
+            same_Some l.cells now (sym (ap (option_map (λ (g : Grid). g.cells)) (value_after n (Some (given_grid (grid_of l))) making)) ∙ e))
+      ];
+    }
 
     -- of the sources that were there
     pub left_changes : (shift : Shift) → ((i : ℕ) (l : LayerState) → slice_get m.sources.layers.items i ≡ Some l → change_in m shift i ≡ same_change l)
@@ -141,15 +141,9 @@ module _ (m : KeptMap) (keeps : IsKept m) where
         → (i : ℕ) (n : Name) → slice_get (m.sources.names.keys ++ edited ∷ []) i ≡ Some n → IsChangeOf (names_in m) t n (change_in m (Loaded new) i)
     loaded_changes new edited plain absent there left i n e = elim (get_pushed m.sources.names.keys edited n i e) [
       | inl at ↦ left_changes (Loaded new) (λ j l is. ap (source_by m.extent (Loaded new) j) is) left i n at
-      | inr at ↦ last at.0 at.1
+      | inr last ↦ (let none : slice_get m.sources.layers.items i ≡ None = slice_get_past m.sources.layers.items i (omega (arith, last.0, keeps.sources.count)) in
+          rw (none, ← last.1) (record { after = λ now e. same_Some new.now.cells now (sym there ∙ e); before = λ was e. absurd (none-some was (sym (absent_before edited plain absent) ∙ e)) }))
     ]
-      where
-        no_layer : i ≡ length m.sources.names.keys → slice_get m.sources.layers.items i ≡ None
-        no_layer at = let count = keeps.sources.count in slice_get_past m.sources.layers.items i (omega arith)
-
-        last : i ≡ length m.sources.names.keys → edited ≡ n → IsChangeOf (names_in m) t n (change_in m (Loaded new) i)
-        last at own = subst (λ q. IsChangeOf (names_in m) t q (change_in m (Loaded new) i)) own (subst (IsChangeOf (names_in m) t edited) (sym (ap (source_by m.extent (Loaded new) i) (no_layer at)))
-            (record { after = λ now e. same_Some new.now.cells now (sym there ∙ e); before = λ was e. absurd (none-some was (sym (absent_before edited plain absent) ∙ e)) }))
 
 -- what an edit of a name leaves of the other sources
 module _ (m : KeptMap) (keeps : IsKept m) (t : EngineState) (edited : Name) (change : IsGoodChange (entries_in m) edited t.entries) where

@@ -151,24 +151,20 @@ module _ (m : KeptMap) (keeps : IsKept m) (e : WholeEdit) (t : WholeState) (shif
       let nodes = few_nodes t.names.entries in
       omega (arith, count, whole, listed, nodes)
 
-  few_in_all : (f : ℕ → ℕ) → ((i : ℕ) → f i ≤ tiles_in m.extent) → total_of f (length steps) < 2 ^ 63
-  few_in_all f each =
+  few_in_all : (count : ℕ) (f : ℕ → ℕ) → count ≡ total_of f (length steps) → ((i : ℕ) → f i ≤ tiles_in m.extent) → count < 2 ^ 63
+  few_in_all count f is each =
       let small = tiles_few m.extent keeps.size in
       let most = total_most f 16384 (length steps) (λ i. let one = each i in omega (arith, one, small)) in
       let steps_few = few_steps in
-      omega (arith, most, steps_few)
+      omega (arith, is, most, steps_few)
 
   pub few_changed : prepared.counts.changed < 2 ^ 63
-  few_changed =
-      let is = ap (λ (c : Counts). c.changed) ready.counts in
-      let few = few_in_all (λ i. length (change_at plan i).touched) (λ i. changed_most m.extent (plan.step i).was (change_at plan i).cells) in
-      omega (arith, is, few)
+  few_changed = few_in_all prepared.counts.changed (λ i. length (change_at plan i).touched) (ap (λ (c : Counts). c.changed) ready.counts) (λ i. changed_most m.extent (plan.step i).was (change_at plan i).cells)
 
   pub few_evaluated : prepared.counts.evaluated < 2 ^ 63
   few_evaluated =
-      let is = ap (λ (c : Counts). c.evaluated) ready.counts in
-      let few = few_in_all (λ i. length (damage_at plan i)) (λ i. damage_most m.extent (plan.step i).op (reckoned (plan.step i)) (operands_at plan i)) in
-      omega (arith, is, few)
+      few_in_all prepared.counts.evaluated (λ i. length (damage_at plan i)) (ap (λ (c : Counts). c.evaluated) ready.counts)
+      (λ i. damage_most m.extent (plan.step i).op (reckoned (plan.step i)) (operands_at plan i))
 
 -- ---- put in place
 

@@ -1,6 +1,8 @@
 -- What a name stands for, and how many sources and flat statements of a kind there are, before and after one is put.
-use Rattle.std.proofs.Common.{◌≡◌, ℕ, ◌+◌, ◌-◌, ◌≤◌, Bool, true, false, cond, List, [], ◌∷◌, ◌++◌, map, find, length, count_by, sum_by, Option, Some, None, option_map, bytes_eq, refl, sym, ap, ◌∙◌, arith, is_some}
+use Rattle.std.proofs.Common.{◌≡◌, ℕ, ◌+◌, ◌-◌, ◌≤◌, Bool, cond, not, List, [], ◌∷◌, ◌++◌, map, length, count_by, sum_by, Option, Some, None, option_map, bytes_eq, refl, sym, ap, ◌∙◌, arith, is_some, inl, inr}
 use Rattle.std.specs.Map.{lookup, values_of}
+use Rattle.std.proofs.lemmas.Bool.{cases_Bool}
+use Rattle.std.proofs.lemmas.List.Filters.{sum_by-filter_both}
 use Rattle.std.proofs.lemmas.List.Sums.{sum_by-cons, sum_by-append, sum_by-le-sum_by}
 use Rattle.map_nums.specs.Grids.{Size, Grid}
 use Rattle.map_defs.specs.Ops.{Name}
@@ -9,7 +11,7 @@ use Rattle.map_defs.specs.Statements.{Written, call}
 use Rattle.layer_tiles.specs.Layers.{LayerState}
 use Rattle.procedure_expand.specs.declared.flat.Flat.{Flat}
 use Rattle.procedure_expand.specs.Flats.{flat_view, flats_view}
-use Rattle.map_edits.specs.Entries.{Def, source, statement, Entry, find_def, put_entry}
+use Rattle.map_edits.specs.Entries.{Def, source, statement, Entry, find_def, put_entry, drop_entry}
 use Rattle.map_edits.specs.LayerDefs.{Making, given_grid, by_op, LayerDef, flat_layer, layers}
 use Rattle.map_edits.specs.Limits as limits
 use Rattle.map_edits.specs.Limits.{is_source, is_flat, most_flats}
@@ -43,22 +45,32 @@ module _ (f : Name → Def → ℕ) where
 
   pub sum_put : (es : List Entry) (n : Name) (d : Def) → entries_sum (put_entry es n d) + sum_there n (find_def es n) ≡ entries_sum es + f n d
   sum_put [] n d = let e = sum_by-cons of_entry (record { name = n; def = d }) [] in omega (arith, e)
-  sum_put (e ∷ es) n d = go (bytes_eq e.name n) refl (sum_put es n d)
-    where
-      go : (b : Bool) → bytes_eq e.name n ≡ b → entries_sum (put_entry es n d) + sum_there n (find_def es n) ≡ entries_sum es + f n d
-          → entries_sum (cond b (record e { def = d } ∷ es) (e ∷ put_entry es n d)) + sum_there n (option_map (λ (x : Entry). x.def) (cond b (Some e) (find (λ (x : Entry). bytes_eq x.name n) es))) ≡ entries_sum (e ∷ es) + f n d
-      go true same rest =
-          let a = sum_by-cons of_entry (record e { def = d }) es in
-          let b = sum_by-cons of_entry e es in
-          let new : f e.name d ≡ f n d = ap (λ m. f m d) (same_name e.name n same) in
-          let old : f e.name e.def ≡ f n e.def = ap (λ m. f m e.def) (same_name e.name n same) in
-          omega (arith, a, b, new, old)
-      go false other rest = let a = sum_by-cons of_entry e (put_entry es n d) in let b = sum_by-cons of_entry e es in omega (arith, a, b, rest)
+  sum_put (e ∷ es) n d =
+      let rest = sum_put es n d in
+      let old = sum_by-cons of_entry e es in
+      elim (cases_Bool (bytes_eq e.name n)) [
+        | inl same ↦
+            let new = sum_by-cons of_entry (record e { def = d }) es in
+            let at : (k : Def) → f e.name k ≡ f n k = λ k. ap (λ m. f m k) (same_name e.name n same) in
+            rw same (omega (arith, old, new, at d, at e.def))
+        | inr other ↦ let new = sum_by-cons of_entry e (put_entry es n d) in rw other (omega (arith, old, new, rest))
+      ]
+
+  pub sum_drop : (es : List Entry) (n : Name) → entries_sum (drop_entry es n) ≤ entries_sum es
+  sum_drop es n =
+      let both = sum_by-filter_both (λ (e : Entry). not (bytes_eq e.name n)) (λ (e : Entry). not (not (bytes_eq e.name n))) (λ e. refl) of_entry es in
+      omega (arith, both)
 
 -- ---- sources
 
 abbrev source_one : Name → Def → ℕ
 source_one n d = cond (is_source (record { name = n; def = d })) 1 0
+
+-- one source more at most
+pub source_more : (es : List Entry) (n : Name) (grid : Grid) → count_by is_source (put_entry es n (source grid)) ≤ count_by is_source es + 1
+source_more es n grid =
+    let put : count_by is_source (put_entry es n (source grid)) + sum_there source_one n (find_def es n) ≡ count_by is_source es + 1 = sum_put source_one es n (source grid) in
+    omega (arith, put)
 
 -- no source more by a statement
 pub sources_put : (es : List Entry) (n : Name) (w : Written) (fs : List meant.Flat) → count_by is_source (put_entry es n (statement w fs)) ≤ count_by is_source es
@@ -72,6 +84,10 @@ sources_stay es n old new is =
     let put : count_by is_source (put_entry es n (source new)) + sum_there source_one n (find_def es n) ≡ count_by is_source es + 1 = sum_put source_one es n (source new) in
     let was : sum_there source_one n (find_def es n) ≡ 1 = ap (sum_there source_one n) is in
     omega (arith, put, was)
+
+-- nor by a drop
+pub sources_drop : (es : List Entry) (n : Name) → count_by is_source (drop_entry es n) ≤ count_by is_source es
+sources_drop es n = sum_drop source_one es n
 
 -- ---- layers that pass a test
 
@@ -95,6 +111,9 @@ module _ (p : LayerDef → Bool) where
 
   pub count_put : (es : List Entry) (n : Name) (d : Def) → count_by p (layers (put_entry es n d)) + layers_there n (find_def es n) ≡ count_by p (layers es) + count_by p (def_layers n d)
   count_put es n d = let new = layers_summed (put_entry es n d) in let old = layers_summed es in let put = sum_put own_layers es n d in omega (arith, new, old, put)
+
+  pub count_drop : (es : List Entry) (n : Name) → count_by p (layers (drop_entry es n)) ≤ count_by p (layers es)
+  count_drop es n = let left = layers_summed (drop_entry es n) in let old = layers_summed es in let fewer = sum_drop own_layers es n in omega (arith, left, old, fewer)
 
   -- what is found is counted among all, as a statement without flat ones in its place shows
   pub there_least : (es : List Entry) (n : Name) → layers_there n (find_def es n) ≤ count_by p (layers es)
@@ -143,13 +162,9 @@ module _ (kind : Kind) (items : List (List ℕ × Item)) (n : Name) (all there t
 
 -- ---- of each kind there are no more than there are of any
 
-at_most_one : (b : Bool) → cond b 1 0 ≤ 1
-at_most_one true = omega arith
-at_most_one false = omega arith
-
 one_kind : (kind : limits.Kind) (n : Name) (making : Making) → cond (limits.is_of kind (record { name = n; making = making })) 1 0 ≤ cond (is_flat (record { name = n; making = making })) 1 0
 one_kind kind n (given_grid grid) = omega arith
-one_kind kind n (by_op op) = at_most_one (limits.is_of kind (record { name = n; making = by_op op }))
+one_kind kind n (by_op op) = elim (cases_Bool (limits.is_of kind (record { name = n; making = by_op op }))) [ inl e ↦ rw e (omega arith) | inr e ↦ rw e (omega arith) ]
 
 kind_flat : (kind : limits.Kind) (ls : List LayerDef) → count_by (limits.is_of kind) ls ≤ count_by is_flat ls
 kind_flat kind ls = sum_by-le-sum_by (λ l. cond (limits.is_of kind l) 1 0) (λ l. cond (is_flat l) 1 0) ls (λ l. one_kind kind l.name l.making)

@@ -1,13 +1,15 @@
 -- The state that a draft would make: what becomes of the sources, which flat statements are planned, and what of it counts.
-use Rattle.std.proofs.Common.{◌≡◌, ℕ, ◌+◌, false, List, [], ◌∷◌, ◌++◌, length, position, slice_get, Option, Some, None, is_some, option_map, Result, Ok, Err, IfOk, bytes_eq, Bor, Vec, refl, sym, ap, subst, ◌∙◌, arith, inl, inr}
-use Rattle.std.proofs.lemmas.Bool.{cases_Bool}
-use Rattle.std.specs.List.{All}
+use Rattle.std.proofs.Common.{◌≡◌, ℕ, ◌+◌, false, ◌||◌, List, [], ◌∷◌, ◌++◌, length, position, slice_get, Option, Some, None, is_some, option_map, Result, Ok, Err, IfOk, bytes_eq, Bor, Vec, refl, sym, ap, subst, ◌∙◌, arith, inl, inr}
+use Rattle.std.proofs.Math.Bool.{or-false}
+use Rattle.std.proofs.lemmas.Bool.{or_left, or_right, cases_Bool}
+use Rattle.std.specs.List.{All, list_any}
 use Rattle.std.specs.declared.alloc.Global.{Global}
 use Rattle.std.proofs.lemmas.Option.{none-some}
 use Rattle.std.proofs.lemmas.List.{length-append, append-nil}
+use Rattle.std.proofs.lemmas.List.Folds.{list_any-append}
 use Rattle.map_nums.specs.Grids.{Size, Grid, Cells}
-use Rattle.map_nums.specs.Tiles.{tiles}
 use Rattle.map_defs.specs.Ops.{Name}
+use Rattle.map_defs.specs.Nodes.{find_node}
 use Rattle.map_defs.specs.MadeProcedures.{IsUndotted}
 use Rattle.map_defs.specs.Differences.{changed_tiles}
 use Rattle.layer_tiles.specs.Layers.{LayerState}
@@ -23,32 +25,32 @@ use Rattle.map_edits.specs.EngineStates.{EngineState, made, value_of}
 use Rattle.map_edits.specs.LayerDefs.{Making, given_grid, by_op, layers, find_making, nodes_of}
 use Rattle.map_edits.specs.LayerChanges.{now_of, changed_of}
 use Rattle.map_edits.specs.EditCounts.{Counts}
-use Rattle.map_edits.specs.StampsAfter.{stamps_at}
 use Rattle.map_edits.specs.Touches.{whole, touch_of, is_whole}
 use Rattle.map_edits.specs.WholeEdits.{WholeEdit}
 use Rattle.map_edits.specs.WholeStates.{WholeState, cells_of}
 use Rattle.map_edits.proofs.Among.{same_name, bytes_eq-self, bytes_eq-turned}
 use Rattle.map_edits.proofs.Heads.{head_of, head_undotted}
+use Rattle.map_edits.proofs.Looks.{made_node, find_node-making}
 use Rattle.map_edits.proofs.Groups.{group_making, making_by_head}
 use Rattle.map_edits.proofs.Puts.{find_drop, find_drop_other}
-use Rattle.map_edits.proofs.LawfulEdits.{AreGood, IsGoodChange, good_of}
+use Rattle.map_edits.proofs.LawfulEdits.{IsGoodChange, good_of}
 use Rattle.map_edits.proofs.Unfolds.{value_unfolds}
 use Rattle.map_waves.specs.Bases.{source_by}
 use Rattle.map_waves.specs.declared.plans.Shift.{Shift}
 use Rattle.map_waves.specs.declared.plans.Shift.TheVariants.{Nothing, Loaded}
-use Rattle.edit_plans.specs.Planned.{AreSources}
+use Rattle.edit_plans.specs.Planned.{AreSources, is_source_node}
 use Rattle.edit_plans.specs.SourceCounts.{joined, no_counts, counts_of_source, counts_of_touched}
-use Rattle.kept_map.specs.Maps.{grid_of, source_in, entries_in, names_in, names_with, seen}
-use Rattle.kept_map.specs.Keeps.{IsKept, AreKeptSources}
+use Rattle.edit_plans.proofs.Positions.{some_position}
+use Rattle.kept_map.specs.Maps.{grid_of, entries_in, names_in, names_with, seen}
+use Rattle.kept_map.specs.Keeps.{IsKept}
 use Rattle.kept_map.specs.Edits.{IsSetUp, IsReplanned}
 use Rattle.kept_map.specs.Repairs.{IsPreparedFor}
 use Rattle.kept_map.specs.declared.maps.KeptMap.{KeptMap}
 use Rattle.kept_map.specs.declared.halts.Halt.{Halt}
 use Rattle.kept_map.specs.declared.preparing.Replanned.{Replanned}
 use Rattle.kept_map.proofs.EditedFlats.{IsWrittenAs}
-use Rattle.kept_map.proofs.EditedPlans.{flats_make, flats_made, flats_touched, flats_ranged, stand_added, stand_defined, stand_dropped}
-use Rattle.kept_map.proofs.SourceLayers.{source_def}
-use Rattle.kept_map.proofs.SourcesAfter.{is_source_def, stand_by, stood_by, other_stamps}
+use Rattle.kept_map.proofs.EditedPlans.{flats_make, flats_made, flats_touched, flats_ranged}
+use Rattle.kept_map.proofs.SourcesAfter.{is_source_def, source_node_is, stand_by, stood_by}
 use Rattle.kept_map.proofs.SettingUp.{nothing_operands, loaded_operands, left_changes, loaded_changes, others_left, absent_before}
 use Rattle.kept_map.proofs.Given.{making_source, source_making, source_value}
 use Rattle.live_engine.specs.Drafts.{entries_after, state_after, draft_state, sources_after, flats_written, counts_with, IsDraftOf, IsDraft, IsRepairedFor}
@@ -87,9 +89,6 @@ module _ (m : KeptMap) (keeps : IsKept m) (e : WholeEdit) (draft : Draft) where
   undotted_name : (change : Change) → Drafted change → IsUndotted n
   undotted_name change is = plain_undotted n is.plain
 
-  good : (change : Change) → Drafted change → AreGood (new change)
-  good change is = good_of (after change) is.lawful
-
   -- what is found by the name
   abbrev def_after : Change → Option Def
   def_after (Source key layer place) = Some (source (grid_of layer))
@@ -109,7 +108,7 @@ module _ (m : KeptMap) (keeps : IsKept m) (e : WholeEdit) (draft : Draft) where
 
   pub draft_change : (change : Change) → Drafted change → IsGoodChange (entries_in m) n (new change)
   draft_change change is = record {
-    good = good change is;
+    good = good_of (after change) is.lawful;
     makings = λ q differs.
         making_by_head (new change) q is.lawful.groups is.lawful.apart
         ∙ ap (group_making q) (others_stay change is (head_of q) (bytes_eq-turned n (head_of q) differs)) ∙ sym (making_by_head (entries_in m) q keeps.lawful.groups keeps.lawful.apart);
@@ -120,31 +119,79 @@ module _ (m : KeptMap) (keeps : IsKept m) (e : WholeEdit) (draft : Draft) where
   wrote (Statement written flats place) is = subst (λ o. IsWrittenAs o flats.items) (sym (there (Statement written flats place) is)) refl
   wrote Out is = subst (λ o. IsWrittenAs o []) (sym (there Out is)) refl
 
-  -- ---- the sources
+  -- ---- a source more
 
-  pub source_set_up : (key : Name) (layer : LayerState) (place : Option ℕ) (is : Drafted (Source key layer place)) (b : Bor LayerState) → b.now ≡ layer → IsSetUp m e (after (Source key layer place)) (Loaded b) (m.sources.names.keys ++ n ∷ [])
-  source_set_up key layer place is b same = record {
-    said = is.said;
-    attempt = is.attempt;
-    shift_is = sized;
-    operands = loaded_operands m keeps b sized;
-    changes = loaded_changes m keeps t change.good.none_looped b n (undotted_name (Source key layer place) is) is.fits.absent cells (others_left m keeps t n change (λ grid def. absurd (none-some (source grid) (sym is.fits.absent ∙ def))));
-    count = let a = length-append m.sources.names.keys (n ∷ []) in let count = keeps.sources.count in omega (arith, a, count);
-  }
-    where
-      t : EngineState
-      t = (after (Source key layer place)).names
+  module _ (key : Name) (layer : LayerState) (place : Option ℕ) (d : Drafted (Source key layer place)) where
+    abbrev added : Change
+    added = Source key layer place
 
-      change : IsGoodChange (entries_in m) n t.entries
-      change = draft_change (Source key layer place) is
+    change : IsGoodChange (entries_in m) n (new added)
+    change = draft_change added d
 
-      sized : b.now.size ≡ m.extent
-      sized = ap (λ (l : LayerState). l.size) same ∙ is.fits.sized
+    pub source_set_up : (b : Bor LayerState) → b.now ≡ layer → IsSetUp m e (after added) (Loaded b) (m.sources.names.keys ++ n ∷ [])
+    source_set_up b same = record {
+      said = d.said;
+      attempt = d.attempt;
+      shift_is = sized;
+      operands = loaded_operands m keeps b sized;
+      changes = loaded_changes m keeps t change.good.none_looped b n (undotted_name added d) d.fits.absent cells (others_left m keeps t n change (λ grid def. absurd (none-some (source grid) (sym d.fits.absent ∙ def))));
+      count = let a = length-append m.sources.names.keys (n ∷ []) in let count = keeps.sources.count in omega (arith, a, count);
+    }
+      where
+        t : EngineState
+        t = (after added).names
 
-      cells : cells_of t n ≡ Some b.now.cells
-      cells =
-          ap (option_map (λ (g : Grid). g.cells)) (source_value t n (grid_of layer) change.good.groups change.good.apart change.good.none_looped (there (Source key layer place) is))
-          ∙ ap (λ (l : LayerState). Some l.cells) (sym same)
+        sized : b.now.size ≡ m.extent
+        sized = ap (λ (l : LayerState). l.size) same ∙ d.fits.sized
+
+        cells : cells_of t n ≡ Some b.now.cells
+        cells =
+            ap (option_map (λ (g : Grid). g.cells)) (source_value t n (grid_of layer) change.good.groups change.good.apart change.good.none_looped (there added d))
+            ∙ ap (λ (l : LayerState). Some l.cells) (sym same)
+
+    pub added_stands : (q : Name) → is_some (position (bytes_eq q) (m.sources.names.keys ++ n ∷ [])) ≡ is_source_node (find_node (nodes_of (new added)) q)
+    added_stands = stand_by (new added) (m.sources.names.keys ++ n ∷ []) d.lawful.groups d.lawful.apart (λ q.
+        some_position (bytes_eq q) (m.sources.names.keys ++ n ∷ []) ∙ list_any-append (bytes_eq q) m.sources.names.keys (n ∷ []) ∙ elim (cases_Bool (bytes_eq q n)) [
+          | inl same ↦
+              or_right (list_any (bytes_eq q) m.sources.names.keys) (bytes_eq q n || false) (or_left (bytes_eq q n) false same)
+              ∙ sym (ap is_source_def (ap (find_def (new added)) (same_name q n same) ∙ there added d))
+          | inr other ↦
+              ap (λ b. list_any (bytes_eq q) m.sources.names.keys || (b || false)) other ∙ or-false (list_any (bytes_eq q) m.sources.names.keys) ∙ sym (some_position (bytes_eq q) m.sources.names.keys)
+              ∙ stood_by m keeps q ∙ ap is_source_def (sym (others_stay added d q other))
+        ])
+
+  -- ---- a statement, which leaves the sources as they are
+
+  module _ (written : Written) (flats : Vec Flat Global) (place : Option ℕ) (d : Drafted (Statement written flats place)) where
+    abbrev put : Change
+    put = Statement written flats place
+
+    pub put_stands : (q : Name) → is_some (position (bytes_eq q) m.sources.names.keys) ≡ is_source_node (find_node (nodes_of (new put)) q)
+    put_stands = stand_by (new put) m.sources.names.keys d.lawful.groups d.lawful.apart (λ q. stood_by m keeps q ∙ elim (cases_Bool (bytes_eq q n)) [
+      | inl same ↦
+          let at = same_name q n same in
+          ap (λ a. is_source_def (find_def (entries_in m) a)) at ∙ no_source (find_def (entries_in m) n) d.fits.other ∙ sym (ap (λ a. is_source_def (find_def (new put) a)) at ∙ ap is_source_def (there put d))
+      | inr other ↦ ap is_source_def (sym (others_stay put d q other))
+    ])
+      where
+        no_source : (o : Option Def) → ((grid : Grid) → o ≡ Some (source grid) → ⊥) → is_source_def o ≡ false
+        no_source None other = refl
+        no_source (Some (source grid)) other = absurd (other grid refl)
+        no_source (Some (statement w fs)) other = refl
+
+  -- ---- no name
+
+  -- a name that is out is no layer any more
+  no_making : Drafted Out → find_making (layers (new Out)) n ≡ None
+  no_making is = making_by_head (new Out) n is.lawful.groups is.lawful.apart ∙ ap (group_making n) (ap (find_def (new Out)) (head_undotted n (undotted_name Out is)) ∙ there Out is)
+
+  dropped_stands : Drafted Out → AreSources (nodes_of (new Out)) m.sources.names.keys
+  dropped_stands d q node found = elim (cases_Bool (bytes_eq q n)) [
+    | inl same ↦
+        let here = subst (λ a. find_node (nodes_of (new Out)) a ≡ Some node) (same_name q n same) found in
+        absurd (none-some node (sym (find_node-making (layers (new Out)) n ∙ ap (option_map (made_node n)) (no_making d)) ∙ here))
+    | inr other ↦ stood_by m keeps q ∙ ap is_source_def (sym (others_stay Out d q other)) ∙ sym (source_node_is (new Out) q d.lawful.groups d.lawful.apart) ∙ ap is_source_node found
+  ]
 
   -- where no layer is loaded, a source stays or is gone
   pub left_up : (change : Change) (is : Drafted change) → sources_after m.sources.names.keys n change ≡ m.sources.names.keys
@@ -165,10 +212,9 @@ module _ (m : KeptMap) (keeps : IsKept m) (e : WholeEdit) (draft : Draft) where
   -- ---- the plan
 
   stand : (change : Change) → Drafted change → AreSources (nodes_of (new change)) (sources_after m.sources.names.keys n change)
-  stand (Source key layer place) is = stand_added m keeps (new (Source key layer place)) n (undotted_name (Source key layer place) is) (draft_change (Source key layer place) is) (grid_of layer) (there (Source key layer place) is)
-  stand (Statement written flats place) is =
-      stand_defined m keeps (new (Statement written flats place)) n (undotted_name (Statement written flats place) is) (draft_change (Statement written flats place) is) (written_view written) (flats_view flats.items) (there (Statement written flats place) is) is.fits.other
-  stand Out is = stand_dropped m keeps (new Out) n (undotted_name Out is) (draft_change Out is) (there Out is)
+  stand (Source key layer place) is = λ q node found. added_stands key layer place is q ∙ ap is_source_node found
+  stand (Statement written flats place) is = λ q node found. put_stands written flats place is q ∙ ap is_source_node found
+  stand Out is = dropped_stands is
 
   ranged : (change : Change) → Drafted change → All (λ (f : Flat). HasRanges (op_view f.op)) (flats_written change)
   ranged (Statement written flats place) is = is.fits.ranges
@@ -192,10 +238,6 @@ module _ (m : KeptMap) (keeps : IsKept m) (e : WholeEdit) (draft : Draft) where
       }
 
   -- ---- what counts
-
-  -- a name that is out is no layer any more
-  no_making : Drafted Out → find_making (layers (new Out)) n ≡ None
-  no_making is = making_by_head (new Out) n is.lawful.groups is.lawful.apart ∙ ap (group_making n) (ap (find_def (new Out)) (head_undotted n (undotted_name Out is)) ∙ there Out is)
 
   -- with what is counted of the name's own source
   own_source : (change : Change) → Drafted change → (counts : Counts) → joined (counts_of_touched (whole n) (names_in m) (after change).names) counts ≡ counts_with m.extent change counts
@@ -224,34 +266,6 @@ module _ (m : KeptMap) (keeps : IsKept m) (e : WholeEdit) (draft : Draft) where
 
   pub own_counts : (change : Change) → Drafted change → (counts : Counts) → joined (counts_of_touched (touch_of e) (names_in m) (after change).names) counts ≡ counts_with m.extent change counts
   own_counts change is counts = ap (λ touch. joined (counts_of_touched touch (names_in m) (after change).names) counts) is.touch ∙ own_source change is counts
-
-  -- ---- the sources of a map, which a statement leaves as they are
-
-  module _ (written : Written) (flats : Vec Flat Global) (place : Option ℕ) (d : Drafted (Statement written flats place)) where
-    abbrev put : Change
-    put = Statement written flats place
-
-    places_stay : (q : Name) → is_some (position (bytes_eq q) m.sources.names.keys) ≡ is_source_def (find_def (new put) q)
-    places_stay q = stood_by m keeps q ∙ elim (cases_Bool (bytes_eq q n)) [
-      | inl same ↦
-          let at = same_name q n same in
-          ap (λ a. is_source_def (find_def (entries_in m) a)) at ∙ no_source (find_def (entries_in m) n) d.fits.other ∙ sym (ap (λ a. is_source_def (find_def (new put) a)) at ∙ ap is_source_def (there put d))
-      | inr other ↦ ap is_source_def (sym (others_stay put d q other))
-    ]
-      where
-        no_source : (o : Option Def) → ((grid : Grid) → o ≡ Some (source grid) → ⊥) → is_source_def o ≡ false
-        no_source None other = refl
-        no_source (Some (source grid)) other = absurd (other grid refl)
-        no_source (Some (statement w fs)) other = refl
-
-    pub kept_sources : AreKeptSources (after put).names m.sources
-    kept_sources = record { stand = stand_by (new put) m.sources.names.keys d.lawful.groups d.lawful.apart places_stay; apart = keeps.sources.apart; count = keeps.sources.count; whole = keeps.sources.whole }
-
-    pub kept_stamps : (q : Name) (l : LayerState) → source_in m.sources q ≡ Some l → l.stamps ≡ stamps_at (seen m) (after put) q
-    kept_stamps q l at = other_stamps m keeps (after put) refl (good put d) q l (elim (cases_Bool (bytes_eq q n)) [
-      | inl same ↦ absurd (d.fits.other (grid_of l) (ap (find_def (entries_in m)) (sym (same_name q n same)) ∙ source_def m q keeps l at))
-      | inr other ↦ others_stay put d q other
-    ]) at
 
 -- ---- what is asked of a repair, and what it then tells of the draft
 

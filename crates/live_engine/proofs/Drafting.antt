@@ -1,7 +1,6 @@
 -- The drafts of edits of names: of sources that are added, statements that are written and names that are dropped; and how such edits are refused.
-use Rattle.std.proofs.Common.{◌≡◌, ℕ, ◌+◌, ◌<◌, ◌≤◌, ◌^◌, Bool, true, false, cond, List, [], ◌∷◌, ◌++◌, filter, length, count_by, position, ◌==◌, ℤ, Option, Some, None, is_some, Ok, Err, bytes_eq, IsTrue, refl, sym, ap, subst, ◌∙◌, arith, not, unwrap_or, IfSome, IfNone, map, option_map, Result, Vec, IsFalse, inl, inr}
-use Rattle.std.proofs.lemmas.List.Filters.{sum_by-filter_both}
-use Rattle.std.proofs.lemmas.Bool.{cond_both, lt-ltb, and_parts, eqb-true, cases_Bool}
+use Rattle.std.proofs.Common.{◌≡◌, ℕ, ◌+◌, ◌<◌, ◌≤◌, ◌^◌, Bool, true, false, cond, List, [], ◌∷◌, ◌++◌, length, count_by, position, ◌==◌, ℤ, Option, Some, None, is_some, Ok, Err, bytes_eq, IsTrue, refl, sym, ap, subst, ◌∙◌, arith, unwrap_or, IfSome, IfNone, map, option_map, Result, Vec}
+use Rattle.std.proofs.lemmas.Bool.{lt-ltb, and_parts, eqb-true}
 use Rattle.std.specs.List.{All}
 use Rattle.std.specs.declared.alloc.Global.{Global}
 use Rattle.std.proofs.lemmas.List.{map-append}
@@ -13,7 +12,7 @@ use Rattle.map_defs.specs.Depths.{is_looped}
 use Rattle.map_defs.specs.FlatNames.{IsInside, AreFlats}
 use Rattle.map_defs.specs.Statements as meant
 use Rattle.map_defs.specs.Expansion.{WrongCall, not_defined, wrong_count, expansion_of}
-use Rattle.layer_tiles.specs.Layers.{LayerState, IsLayer}
+use Rattle.layer_tiles.specs.Layers.{LayerState, IsLayer, layer_of}
 use Rattle.statement_parser.specs.Formed.{IsWritten}
 use Rattle.statement_parser.specs.Views.{op_view, written_view}
 use Rattle.statement_parser.specs.declared.line.Written.{Written}
@@ -25,7 +24,7 @@ use Rattle.statement_graph.specs.declared.refusal.GraphRefusal.{GraphRefusal}
 use Rattle.statement_graph.specs.declared.refusal.GraphRefusal.TheVariants.{Cycle, NoMemory}
 use Rattle.statement_graph.specs.Puts.{source_node, own_name, FitsAs}
 use Rattle.op_jobs.specs.Ranges.{HasRanges}
-use Rattle.map_edits.specs.Entries.{source, Entry, find_def, put_entry, drop_entry, Def, statement}
+use Rattle.map_edits.specs.Entries.{source, Entry, find_def, put_entry, Def, statement}
 use Rattle.map_edits.specs.LayerDefs.{layers_of, layers, nodes_of, flat_layer, node_of_layer}
 use Rattle.map_edits.specs.EditForms.{Edit, load, new_layer, drop_name, define}
 use Rattle.map_edits.specs.EntriesAfter.{same_size, entries_with, unless_beyond, bounded, put_statement, define_with}
@@ -41,12 +40,14 @@ use Rattle.map_edits.specs.Marks.{Mark, drop_marks}
 use Rattle.map_edits.specs.Limits as limits
 use Rattle.map_edits.specs.GroupLaws.{IsPlainEdit}
 use Rattle.map_edits.proofs.Accepted.{none_beyond}
-use Rattle.kept_map.specs.Maps.{grid_of, entries_in, names_in, seen}
+use Rattle.map_edits.proofs.Looks.{none_there}
+use Rattle.kept_map.specs.Maps.{grid_of, source_in, entries_by, entries_in, names_in, seen}
 use Rattle.kept_map.specs.Keeps.{IsKept}
 use Rattle.kept_map.specs.declared.maps.KeptMap.{KeptMap}
 use Rattle.kept_map.proofs.Few.{few_nodes}
+use Rattle.edit_plans.proofs.There.{map_none}
 use Rattle.kept_map.proofs.SourcesAfter.{is_source_def, stood_by}
-use Rattle.kept_map.proofs.Groupings.{nodes_in_groups, has_group_is, groups_add, groups_drop, groups_put}
+use Rattle.kept_map.proofs.Given.{nodes_in_groups, has_group_is, groups_add, groups_drop, groups_put}
 use Rattle.kept_map.specs.Groups.{groups_of, statement_nodes, IsGraphWith}
 use Rattle.live_engine.specs.Accepts.{Refuses, which_of}
 use Rattle.live_engine.specs.declared.edits.Refusal.TheVariants as a_refusal
@@ -54,7 +55,7 @@ use Rattle.live_engine.specs.Adding.{IsAdding}
 use Rattle.live_engine.specs.Drafts.{entries_after, IsFit, IsDraftOf}
 use Rattle.live_engine.specs.declared.drafts.Change.{Change}
 use Rattle.live_engine.specs.declared.drafts.Change.TheVariants.{Source, Out, Statement}
-use Rattle.live_engine.proofs.Counted.{count_first, count_put, count_join, there_least, flats_all, sources_put}
+use Rattle.live_engine.proofs.Counted.{source_more, sources_put, sources_drop, count_put, count_drop, there_least, flats_all}
 use Rattle.live_engine.specs.Dropping.{drops}
 use Rattle.live_engine.specs.Counting.{IsBeyond}
 use Rattle.live_engine.specs.Defining.{defines, entries_with_it, groups_with_it, not_put}
@@ -67,36 +68,6 @@ use Rattle.live_engine.specs.declared.edits.Which.TheVariants as which
 use Rattle.live_engine.specs.declared.edits.Refusal as refused
 use Rattle.live_engine.proofs.Bodies.{written_undotted}
 use Rattle.live_engine.proofs.Accepting.{accept_refused}
-
--- ---- counts
-
--- one source more at most
-source_more : (es : List Entry) (n : Name) (grid : Grid) → count_by is_source (put_entry es n (source grid)) ≤ count_by is_source es + 1
-source_more [] n grid = let a = count_first is_source (record { name = n; def = source grid }) [] in omega arith
-source_more (e ∷ es) n grid =
-    let rest = source_more es n grid in
-    let b = count_first is_source e es in
-    cond_both (bytes_eq e.name n) (record e { def = source grid } ∷ es) (e ∷ put_entry es n (source grid)) (λ left. count_by is_source left ≤ count_by is_source (e ∷ es) + 1)
-    (λ same. let a = count_first is_source (record e { def = source grid }) es in omega (arith, a, b)) (λ other. let a = count_first is_source e (put_entry es n (source grid)) in omega (arith, a, b, rest))
-
--- and no flat statement
-flats_stay : (es : List Entry) (n : Name) (grid : Grid) → count_by is_flat (layers (put_entry es n (source grid))) ≤ count_by is_flat (layers es)
-flats_stay es n grid =
-    let put = count_put is_flat es n (source grid) in let none : count_by is_flat (layers_of (record { name = n; def = source grid })) ≡ 0 = refl in
-    omega (arith, put, none)
-
--- a drop leaves no more
-fewer_sources : (es : List Entry) (n : Name) → count_by is_source (drop_entry es n) ≤ count_by is_source es
-fewer_sources es n =
-    let both : count_by is_source (drop_entry es n) + count_by is_source (filter (λ (e : Entry). not (not (bytes_eq e.name n))) es) ≡ count_by is_source es =
-    sum_by-filter_both (λ (e : Entry). not (bytes_eq e.name n)) (λ (e : Entry). not (not (bytes_eq e.name n))) (λ e. refl) (λ (e : Entry). cond (is_source e) 1 0) es in
-    omega (arith, both)
-
-fewer_flats : (es : List Entry) (n : Name) → count_by is_flat (layers (drop_entry es n)) ≤ count_by is_flat (layers es)
-fewer_flats [] n = omega arith
-fewer_flats (e ∷ es) n =
-    let rest = fewer_flats es n in let a = count_join is_flat (layers_of e) (layers (drop_entry es n)) in let b = count_join is_flat (layers_of e) (layers es) in
-    elim (cases_Bool (bytes_eq e.name n)) [ inl same ↦ rw same (omega arith) | inr other ↦ rw other (omega arith) ]
 
 -- ---- the graph
 
@@ -139,7 +110,8 @@ module _ (m : KeptMap) (keeps : IsKept m) (n key : Name) (plain : IsTrue (is_pla
       (record { same = same; absent = absent; sized = sized; whole = whole; seat = tt }) graph
       (graph_is ∙ ap (λ g. g ++ record { name = n; nodes = source_node n ∷ [] } ∷ []) keeps.graph_is ∙ groups_add (entries_in m) n (grid_of layer) absent)
       (let more = source_more (entries_in m) n (grid_of layer) in omega (arith, more, few))
-      (let stay = flats_stay (entries_in m) n (grid_of layer) in let was = keeps.flats_few in omega (arith, stay, was))
+      (let put = count_put is_flat (entries_in m) n (source (grid_of layer)) in let none : count_by is_flat (layers_of (record { name = n; def = source (grid_of layer) })) ≡ 0 = refl in
+      let was = keeps.flats_few in omega (arith, put, none, was))
 
 -- a name less
 module _ (m : KeptMap) (keeps : IsKept m) (n : Name) (plain : IsTrue (is_plain n)) (there : is_some (find_def (entries_in m) n) ≡ true) (graph : List Group) (graph_is : graph ≡ drop_group m.graph n)
@@ -148,8 +120,8 @@ module _ (m : KeptMap) (keeps : IsKept m) (n : Name) (plain : IsTrue (is_plain n
   dropped_draft =
       by_entries m keeps n (drop_name n) Out labels symbols plain (plain_undotted n plain) refl (rw there refl) labels_left symbols_left tt graph
       (graph_is ∙ ap (λ g. drop_group g n) keeps.graph_is ∙ groups_drop (entries_in m) n)
-      (let fewer = fewer_sources (entries_in m) n in let was = keeps.sources_few in omega (arith, fewer, was))
-      (let fewer = fewer_flats (entries_in m) n in let was = keeps.flats_few in omega (arith, fewer, was))
+      (let fewer = sources_drop (entries_in m) n in let was = keeps.sources_few in omega (arith, fewer, was))
+      (let fewer = count_drop is_flat (entries_in m) n in let was = keeps.flats_few in omega (arith, fewer, was))
 
 -- the marks without those of the name, or as they were where it has none
 pub without_it : (own dropped : List Mark) (left : Option (List Mark)) → IfSome left (λ marks. marks ≡ dropped) → IfNone left (dropped ≡ own) → dropped ≡ unwrap_or left own
@@ -158,26 +130,24 @@ without_it own dropped (Some marks) some none = sym some
 
 -- ---- loads and new layers
 
-pub none_where : {X : Type 0} (o : Option X) → is_some o ≡ false → o ≡ None
-none_where o e = grind arith
-
 -- a name that isn't there has no place among the sources
 pub no_place : (m : KeptMap) → IsKept m → (n : Name) → find_def (entries_in m) n ≡ None → position (bytes_eq n) m.sources.names.keys ≡ None
-no_place m keeps n absent = none_where (position (bytes_eq n) m.sources.names.keys) (stood_by m keeps n ∙ ap is_source_def absent)
-
--- a name that is free, in the map that has room
-module _ (m roomy : KeptMap) (n : Name) (same : seen roomy ≡ seen m) (plain : IsTrue (is_plain n)) (free : is_some (find_def (entries_in m) n) ≡ false) where
-  pub load_adding : (layer : LayerState) → same_size layer.size m.extent ≡ true → IsAdding (seen roomy) (load n (grid_of layer)) n (grid_of layer)
-  load_adding layer size = subst (λ (q : WholeState). IsAdding q (load n (grid_of layer)) n (grid_of layer)) (sym same)
-      (record { after = rw (free, size) refl; touch = refl; named = refl; plain = plain_undotted n plain; marks = λ ms. refl })
-
-  pub new_adding : (cell : Option ℤ) (grid : Grid) → grid ≡ constant m.extent cell → IsAdding (seen roomy) (new_layer n cell) n grid
-  new_adding cell grid is = subst (IsAdding (seen roomy) (new_layer n cell) n) (sym is) (subst (λ (q : WholeState). IsAdding q (new_layer n cell) n (constant m.extent cell)) (sym same)
-      (record { after = rw free refl; touch = refl; named = refl; plain = plain_undotted n plain; marks = λ ms. refl }))
+no_place m keeps n absent = none_there (position (bytes_eq n) m.sources.names.keys) (stood_by m keeps n ∙ ap is_source_def absent)
 
 -- the size of a layer against the map's
 pub size_is : (m : KeptMap) (layer : LayerState) (told : Size) (fits b : Bool) → told ≡ layer.size → fits ≡ same_size told m.extent → fits ≡ b → same_size layer.size m.extent ≡ b
 size_is m layer told fits b size tested is = ap (λ x. same_size x m.extent) (sym size) ∙ sym tested ∙ is
+
+-- a name that is free, in the map that has room
+module _ (m roomy : KeptMap) (n : Name) (same : seen roomy ≡ seen m) (plain : IsTrue (is_plain n)) (free : is_some (find_def (entries_in m) n) ≡ false) where
+  pub load_adding : (layer : LayerState) (told : Size) (fits : Bool) → told ≡ layer.size → fits ≡ same_size told m.extent → fits ≡ true → IsAdding (seen roomy) (load n (grid_of layer)) n (grid_of layer)
+  load_adding layer told fits told_is tested is = subst (λ (q : WholeState). IsAdding q (load n (grid_of layer)) n (grid_of layer)) (sym same)
+      (record { after = rw (free, size_is m layer told fits true told_is tested is) refl; touch = refl; named = refl; plain = plain_undotted n plain; marks = λ ms. refl })
+
+  pub new_adding : (cell : Option ℤ) (layer : LayerState) (stamp : ℕ) → layer ≡ layer_of m.extent (constant m.extent cell).cells stamp → IsAdding (seen roomy) (new_layer n cell) n (grid_of layer)
+  new_adding cell layer stamp is =
+      subst (λ (l : LayerState). IsAdding (seen roomy) (new_layer n cell) n (grid_of l)) (sym is)
+      (subst (λ (q : WholeState). IsAdding q (new_layer n cell) n (constant m.extent cell)) (sym same) (record { after = rw free refl; touch = refl; named = refl; plain = plain_undotted n plain; marks = λ ms. refl }))
 
 pub same_sized : (one other : Size) → same_size one other ≡ true → one ≡ other
 same_sized one other same =
@@ -202,11 +172,7 @@ module _ (n : Name) (es : List Entry) where
       go (Some kind) h = let same : which_of w ≡ which_kind kind = cc in ap (λ x. Err (beyond x)) (sym same)
 
   none_first : IsBeyond es None → first_beyond limits.kinds (layers es) ≡ None
-  none_first h = go (first_beyond limits.kinds (layers es)) h
-    where
-      go : (o : Option limits.Kind) → None ≡ option_map which_kind o → o ≡ None
-      go None h = refl
-      go (Some kind) h = absurd cc
+  none_first h = map_none which_kind (first_beyond limits.kinds (layers es)) (sym h)
 
   bounded_within : (looped : Bool) → IsBeyond es None → is_looped (nodes_of es) n ≡ looped → bounded n es ≡ cond looped (Err (cycle n)) (Ok es)
   bounded_within looped few is = ap (unless_beyond n es) (none_first few) ∙ ap (λ l. cond l (Err (cycle n)) (Ok es)) is
@@ -276,12 +242,22 @@ module _ (m : KeptMap) (keeps : IsKept m) (n : Name) (written : Written) where
     stands_for_none a_refusal.NoMemory e = refl
     stands_for_none r e = absurd e
 
-    module _ (fs : List Flat) (expands : expansion_of m.procedures n (written_view written) ≡ Ok (flats_view fs)) where
+    module _ (flats : Vec Flat Global) (expands : expansion_of m.procedures n (written_view written) ≡ Ok (flats_view flats.items)) (slice : List Flat) (slice_is : slice ≡ flats.items) where
+      abbrev fs : List Flat
+      fs = flats.items
+
       puts_it : entries_after_it ≡ bounded n (entries_with_it m n written fs)
       puts_it = puts_by (Ok (flats_view fs)) expands
 
-      pub defined_beyond : (w : Which) → IsBeyond (entries_with_it m n written fs) (Some w) → Refuses (seen m) (seen m) (defines n written) (a_refusal.Limit w)
-      defined_beyond w many = (refused_names (beyond (which_of w)) (puts_it ∙ bounded_beyond n (entries_with_it m n written fs) w many), refl)
+      -- what is told of the slice, whatever else the entries are
+      abbrev AreBeyond : Option Which → Type 0
+      AreBeyond o = (size : Size) (grids : Name → Option LayerState) (w : meant.Written) → IsBeyond (put_entry (entries_by size grids m.names.entries) n (statement w (flats_view slice))) o
+
+      are_beyond : (o : Option Which) → AreBeyond o → IsBeyond (entries_with_it m n written fs) o
+      are_beyond o told = subst (λ (xs : List Flat). IsBeyond (entries_with_it m n written xs) o) slice_is (told m.extent (source_in m.sources) (written_view written))
+
+      pub defined_beyond : (w : Which) → AreBeyond (Some w) → Refuses (seen m) (seen m) (defines n written) (a_refusal.Limit w)
+      defined_beyond w many = (refused_names (beyond (which_of w)) (puts_it ∙ bounded_beyond n (entries_with_it m n written fs) w (are_beyond (Some w) many)), refl)
 
       -- the nodes of the graph with it
       graph_nodes : nodes_in (groups_with_it m n fs) ≡ nodes_of (entries_with_it m n written fs)
@@ -289,12 +265,18 @@ module _ (m : KeptMap) (keeps : IsKept m) (n : Name) (written : Written) where
           ap (λ (g : List Group). nodes_in (put_group g n (statement_nodes (flats_view fs)))) keeps.graph_is
           ∙ ap nodes_in (groups_put (entries_in m) n (written_view written) (flats_view fs)) ∙ nodes_in_groups (entries_with_it m n written fs)
 
-      module _ (few : IsBeyond (entries_with_it m n written fs) None) where
+      module _ (none : AreBeyond None) (given : List Flat) (given_is : given ≡ fs) where
+        few : IsBeyond (entries_with_it m n written fs) None
+        few = are_beyond None none
+
         sources_with_few : count_by is_source (entries_with_it m n written fs) ≤ 32
         sources_with_few = let most = keeps.sources_few in let less = sources_put (entries_in m) n (written_view written) (flats_view fs) in omega (arith, most, less)
 
-        pub fits_graph : AreFlats (IsInside n) n [] (flats_view fs) → FitsAs m.graph n (statement_nodes (flats_view fs))
-        fits_graph named = record {
+        bounded_by : (looped : Bool) → is_looped (nodes_in (groups_with_it m n fs)) n ≡ looped → entries_after_it ≡ cond looped (Err (cycle n)) (Ok (entries_with_it m n written fs))
+        bounded_by looped is = puts_it ∙ bounded_within n (entries_with_it m n written fs) looped few (ap (λ nodes. is_looped nodes n) (sym graph_nodes) ∙ is)
+
+        pub fits_graph : AreFlats (IsInside n) n [] (flats_view fs) → FitsAs m.graph n (statement_nodes (flats_view given))
+        fits_graph named = subst (λ (xs : List Flat). FitsAs m.graph n (statement_nodes (flats_view xs))) (sym given_is) (record {
           own = statement_own n (flats_view fs) named;
           few =
               let nodes : length (nodes_in (groups_with_it m n fs)) ≡ length (nodes_of (entries_with_it m n written fs)) = ap length graph_nodes in
@@ -302,24 +284,19 @@ module _ (m : KeptMap) (keeps : IsKept m) (n : Name) (written : Written) where
               let sources = sources_with_few in
               let flats = flats_within n (entries_with_it m n written fs) few in
               omega (arith, nodes, all, sources, flats);
-        }
+        })
 
         -- the graph doesn't take it
-        pub defined_not_put : (r : GraphRefusal) → IsGraphWith m.graph n (statement_nodes (flats_view fs)) (Err r) → Refuses (seen m) (seen m) (defines n written) (not_put n r)
-        defined_not_put Cycle looped = (refused_names (cycle n) (puts_it ∙ bounded_within n (entries_with_it m n written fs) true few (ap (λ nodes. is_looped nodes n) (sym graph_nodes) ∙ looped)), refl)
+        pub defined_not_put : (r : GraphRefusal) → IsGraphWith m.graph n (statement_nodes (flats_view given)) (Err r) → Refuses (seen m) (seen m) (defines n written) (not_put n r)
+        defined_not_put Cycle looped = (refused_names (cycle n) (bounded_by true (ap (λ (xs : List Flat). is_looped (nodes_in (groups_with_it m n xs)) n) (sym given_is) ∙ looped)), refl)
         defined_not_put NoMemory is = refl
 
-        defined_entries : IsFalse (is_looped (nodes_in (groups_with_it m n fs)) n) → entries_after_it ≡ Ok (entries_with_it m n written fs)
-        defined_entries alone = puts_it ∙ bounded_within n (entries_with_it m n written fs) false few (ap (λ nodes. is_looped nodes n) (sym graph_nodes) ∙ alone)
-
-  -- ---- the draft
-
-  pub defined_draft : (kind : Kind) (kind_is : kind ≡ standing_of (find_def (entries_in m) n)) (differs : kind ≡ kinds.Source → ⊥) (flats : Vec Flat Global) (expands : expansion_of m.procedures n (written_view written) ≡ Ok (flats_view flats.items)) (few : IsBeyond (entries_with_it m n written flats.items) None)
-      → IsFalse (is_looped (nodes_in (groups_with_it m n flats.items)) n) → (graph : List Group) → graph ≡ groups_with_it m n flats.items → IsTrue (is_plain n) → IsWritten (written_view written) → All (λ (f : Flat). HasRanges (op_view f.op)) flats.items
-      → IsDraftOf m (defines n written) n (Statement written flats None) graph None None
-  defined_draft kind kind_is differs flats expands few alone graph graph_is plain formed ranges =
-      let fs = flats.items in
-      by_entries m keeps n (define n (written_view written)) (Statement written flats None) None None plain (plain_undotted n plain, written_undotted (written_view written) formed) refl (defined_entries kind kind_is differs fs expands few alone) refl refl
-      (record { formed = formed; ranges = ranges; other = no_source kind kind_is differs; seat = tt }) graph
-      (graph_is ∙ ap (λ (g : List Group). put_group g n (statement_nodes (flats_view fs))) keeps.graph_is ∙ groups_put (entries_in m) n (written_view written) (flats_view fs))
-      (sources_with_few kind kind_is differs fs expands few) (flats_within n (entries_with_it m n written fs) few)
+        -- or it does
+        pub defined_draft : (graph : List Group) → IsGraphWith m.graph n (statement_nodes (flats_view given)) (Ok graph) → IsTrue (is_plain n) → IsWritten (written_view written)
+            → All (λ (f : Flat). HasRanges (op_view f.op)) fs → IsDraftOf m (defines n written) n (Statement written flats None) graph None None
+        defined_draft graph put plain formed ranges =
+            let is = subst (λ (xs : List Flat). IsGraphWith m.graph n (statement_nodes (flats_view xs)) (Ok graph)) given_is put in
+            by_entries m keeps n (define n (written_view written)) (Statement written flats None) None None plain (plain_undotted n plain, written_undotted (written_view written) formed) refl (bounded_by false is.1) refl refl
+            (record { formed = formed; ranges = ranges; other = no_source; seat = tt }) graph
+            (is.0 ∙ ap (λ (g : List Group). put_group g n (statement_nodes (flats_view fs))) keeps.graph_is ∙ groups_put (entries_in m) n (written_view written) (flats_view fs))
+            sources_with_few (flats_within n (entries_with_it m n written fs) few)

@@ -130,19 +130,20 @@ module _ (s : Size) (r : Rectangle) where
       let has = tile_has s (holds s r) in
       ap (λ ts. length (filter has ts)) (range_join a n k) ∙ ap length (filter-append has (range_with_len a n) (range_with_len (a + n) k)) ∙ length-append (filter has (range_with_len a n)) (filter has (range_with_len (a + n) k))
 
-  pub met_less : (a n k : ℕ) → n ≤ k → met_count s r a n ≤ met_count s r a k
-  met_less a n k h =
+  -- looks at the first of them are no more than at all
+  pub met_fewer : (a n k : ℕ) → n ≤ k → (x y : TallyState) → RisesBy (met_count s r a n) 0 x y → RisesBy (met_count s r a k) 0 x y
+  met_fewer a n k h x y =
       let split : n + (k - n) ≡ k = omega arith in
       let join = met_join a n (k - n) in
       let whole : met_count s r a (n + (k - n)) ≡ met_count s r a k = ap (met_count s r a) split in
-      omega arith
+      rises_within (met_count s r a n) 0 (met_count s r a k) 0 x y (omega (arith, join, whole)) (omega arith)
 
-  -- one more that is met
-  met_more : (a n : ℕ) → MeetsRectangle s r (a + n) → met_count s r a (n + 1) ≡ met_count s r a n + 1
-  met_more a n met =
+  -- one look more, at one that is met
+  met_looked : (a n : ℕ) → MeetsRectangle s r (a + n) → (x y z : TallyState) → RisesBy (met_count s r a n) 0 x y → z ≡ looked 1 y → RisesBy (met_count s r a (n + 1)) 0 x z
+  met_looked a n met x y z before look =
       let join = met_join a n 1 in
       let one : met_count s r (a + n) 1 ≡ 1 = ap (λ (b : Bool). length (cond b ((a + n) ∷ []) [])) (met_has s r (a + n) met) in
-      omega arith
+      rises_within (met_count s r a n + 1) 0 (met_count s r a (n + 1)) 0 x z (omega (arith, join, one)) (omega arith) (rises_looked (met_count s r a n) 0 1 x y z before look)
 
   -- looks at those of one row of tiles more
   pub met_row : (row : ℕ) (x y z : TallyState) → RisesBy (met_count s r 0 (row * tiles_across s)) 0 x y → RisesBy (met_count s r (row * tiles_across s) (tiles_across s)) 0 y z → RisesBy (met_count s r 0 ((row + 1) * tiles_across s)) 0 x z
@@ -215,9 +216,9 @@ module _ (s : Size) (r : Rectangle) (size : IsSize s) (counted : IsCounted r) (w
 
   -- ---- a row of tiles that is met, with so many across
 
-  module _ (row : ℕ) (rows : (first_row r ≤ row) × (row ≤ last_row r)) (across : ℕ) (same : across ≡ tiles_across s) where
-    base_is : row * across ≡ row * tiles_across s
-    base_is = ap (λ a. row * a) same
+  module _ (row : ℕ) (rows : (first_row r ≤ row) × (row ≤ last_row r)) (extent : Size) (extent_is : extent ≡ s) (across : ℕ) (across_is : across ≡ tiles_across extent) where
+    pub base_is : row * across ≡ row * tiles_across s
+    base_is = ap (λ a. row * a) (across_is ∙ ap tiles_across extent_is)
 
     pub row_few : row * across ≤ 128 * 128
     row_few = omega (arith, base_is, few_tiles s size, tile_within row 0 rows.1 (across_some s size))
@@ -226,35 +227,28 @@ module _ (s : Size) (r : Rectangle) (size : IsSize s) (counted : IsCounted r) (w
     pub record IsMet (column : ℕ) : Type 0 where
       pub tile : row * tiles_across s + column ≡ row * across + column
       pub inside : row * across + column < tiles_in s
+      pub on_extent : row * across + column < tiles_in extent
       pub few : row * across + column ≤ 128 * 128
       pub met : MeetsRectangle s r (row * across + column)
-      pub more : met_count s r (row * tiles_across s) (column + 1) ≡ met_count s r (row * tiles_across s) column + 1
-      pub less : met_count s r (row * tiles_across s) (column + 1) ≤ met_count s r (row * tiles_across s) (tiles_across s)
+      pub looks : (x y z : TallyState) → RisesBy (met_count s r (row * tiles_across s) column) 0 x y → z ≡ looked 1 y → RisesBy (met_count s r (row * tiles_across s) (column + 1)) 0 x z
+      pub row_looks : (x y z : TallyState) → RisesBy (met_count s r (row * tiles_across s) column) 0 x y → z ≡ looked 1 y → RisesBy (met_count s r (row * tiles_across s) (tiles_across s)) 0 x z
 
-    pub is_met : (column : ℕ) → first_column r ≤ column → column ≤ last_column r → IsMet column
+    pub is_met : (column : ℕ) → first_column r ≤ column → column < last_column r + 1 → IsMet column
     is_met column from to =
-        let k = column_within column to in
+        let k = column_within column (omega (arith, to)) in
         let t = row * tiles_across s + column in
         let q : t / tiles_across s ≡ row = div-mul-add row (tiles_across s) column k in
         let m : t % tiles_across s ≡ column = mod-mul-add row (tiles_across s) column k in
         let here = tile_within row column rows.1 k in
-        let met = meets_rectangle s r t size here counted within (record { below = rw q rows.0; above = rw q rows.1; behind = rw m from; before = rw m to }) in
+        let met = meets_rectangle s r t size here counted within (record { below = rw q rows.0; above = rw q rows.1; behind = rw m from; before = rw m (omega (arith, to)) }) in
         let tile : t ≡ row * across + column = omega (arith, base_is) in
+        let looks = met_looked s r (row * tiles_across s) column met in
         record {
           tile = tile;
           inside = omega (arith, tile, here);
+          on_extent = omega (arith, tile, here, ap tiles_in extent_is);
           few = omega (arith, tile, here, few_tiles s size);
           met = subst (MeetsRectangle s r) tile met;
-          more = met_more s r (row * tiles_across s) column met;
-          less = met_less s r (row * tiles_across s) (column + 1) (tiles_across s) (omega (arith, k));
+          looks = looks;
+          row_looks = λ x y z before look. met_fewer s r (row * tiles_across s) (column + 1) (tiles_across s) (omega (arith, k)) x z (looks x y z before look);
         }
-
-    -- one look more
-    pub met_looked : (column : ℕ) → IsMet column → (x y z : TallyState) → RisesBy (met_count s r (row * tiles_across s) column) 0 x y → z ≡ looked 1 y
-        → RisesBy (met_count s r (row * tiles_across s) (column + 1)) 0 x z × RisesBy (met_count s r (row * tiles_across s) (tiles_across s)) 0 x z
-    met_looked column met x y z before look =
-        let more = met.more in
-        let less = met.less in
-        let rise = rises_looked (met_count s r (row * tiles_across s) column) 0 1 x y z before look in
-        let one = rises_within _ 0 (met_count s r (row * tiles_across s) (column + 1)) 0 x z (omega (arith, more)) (omega arith) rise in
-        (one, rises_within (met_count s r (row * tiles_across s) (column + 1)) 0 (met_count s r (row * tiles_across s) (tiles_across s)) 0 x z less (omega arith) one)

@@ -1,10 +1,10 @@
 -- An edit that changes what is noted beside the names: the state that it makes, and the map after it, whose layers are all as they were.
-use Rattle.std.proofs.Common.{◌≡◌, ℕ, ◌+◌, ◌-◌, ◌≤◌, Bool, true, List, [], ◌∷◌, ◌++◌, filter, map, take, length, get_or, sum_by, position, Option, Some, None, is_some, option_map, unwrap_or, bytes_eq, IsTrue, Ok, refl, sym, ap, subst, ◌∙◌, arith}
+use Rattle.std.proofs.Common.{◌≡◌, ℕ, ◌+◌, ◌-◌, ◌≤◌, Bool, true, List, [], ◌∷◌, ◌++◌, filter, map, take, length, get_or, sum_by, position, Option, Some, None, is_some, option_map, unwrap_or, bytes_eq, Ok, refl, sym, ap, subst, ◌∙◌, arith}
 use Rattle.std.specs.List.{All}
 use Rattle.std.proofs.lemmas.Bool.{false≢true, le-ltb}
 use Rattle.std.proofs.Math.Seq.{take-append_seam}
 use Rattle.std.proofs.lemmas.List.{length-append}
-use Rattle.std.proofs.lemmas.List.Elements.{All-head, All-tail, All-push, All-take, filter_passes}
+use Rattle.std.proofs.lemmas.List.Elements.{All-push, All-take, filter_passes}
 use Rattle.std.proofs.lemmas.List.Sums.{sum_by-le}
 use Rattle.map_nums.specs.Counts.{raised}
 use Rattle.map_nums.specs.Grids.{Grid, Cells}
@@ -18,6 +18,7 @@ use Rattle.statement_parser.specs.Formed.{IsProcedure}
 use Rattle.statement_parser.specs.Procedures.{procedure_view}
 use Rattle.statement_parser.specs.Views.{op_view}
 use Rattle.op_jobs.specs.Beside.{suits}
+use Rattle.op_jobs.proofs.Agreeing.{map_agree}
 use Rattle.map_edits.specs.Refusals.{procedures, labels, symbols}
 use Rattle.map_edits.specs.Marks.{put_mark}
 use Rattle.map_edits.specs.LayerDefs.{Making, given_grid, by_op, LayerDef, layers}
@@ -49,22 +50,16 @@ use Rattle.kept_map.specs.declared.maps.KeptMap.{KeptMap}
 use Rattle.kept_map.proofs.LayersByName.{layer_kept, layer_source, IsTold, source_told, statement_told, nothing_told}
 use Rattle.kept_map.proofs.SourceLayers.{layer_at, source_at, source_none, source_whole}
 use Rattle.live_engine.specs.Accepts.{Accepts}
-use Rattle.live_engine.specs.Inverses.{back, touched, past_of, is_note, Suits, AreReached, Fits, TakesBack}
-use Rattle.live_engine.specs.Notes.{with_beside, edit_of_note, procedures_with, labels_with, symbols_with, MayNote, IsNoteBack}
+use Rattle.live_engine.specs.Inverses.{past_of, AreReached, Fits, TakesBack}
+use Rattle.live_engine.specs.Notes.{with_beside, edit_of_note, procedures_with, labels_with, symbols_with, MayNote, IsNoteBack, procedures_without, without_note, SuitsNote}
 use Rattle.live_engine.specs.declared.edits.Accepted.{Accepted as Told}
-use Rattle.live_engine.specs.declared.inverses.Inverse.{Inverse}
+use Rattle.live_engine.specs.declared.noting.NoteBack.{NoteBack}
+use Rattle.live_engine.specs.declared.noting.NoteBack.TheVariants as backs
 use Rattle.live_engine.specs.declared.inverses.Inverse.TheVariants as inverses
 use Rattle.live_engine.specs.declared.noting.Note.{Note}
 use Rattle.live_engine.specs.declared.noting.Note.TheVariants as notes
 use Rattle.live_engine.proofs.Bodies.{body_made}
 use Rattle.live_engine.proofs.Backs.{kept_reached, reached_said}
-
-map_agree : (f g : LayerDef → Stamps) (ls : List LayerDef) → All (λ l. f l ≡ g l) ls → map f ls ≡ map g ls
-map_agree f g [] each = refl
-map_agree f g (l ∷ ls) each =
-    let here : f l ≡ g l = All-head (λ l. f l ≡ g l) l ls each in
-    let rest = map_agree f g ls (All-tail (λ l. f l ≡ g l) l ls each) in
-    rw (here, rest) refl
 
 -- ---- the map after it
 
@@ -124,14 +119,11 @@ module _ (m : KeptMap) (e : WholeEdit) (p : Parts) (kept : IsKept m) (is : IsBes
           let there = source_at m.sources n i at ∙ l.1 in
           (l.0, layer_source m n l.0 there, source_told m kept n i l.0 at l.1, (source_whole m.sources n (names_in m) l.0 kept.sources there).1)
 
-  layer_cells : (n : Name) (r : LayerOf n) → cells_of (names_in m) n ≡ Some r.0.cells
-  layer_cells n r = ap (option_map (λ (g : Grid). g.cells)) r.2.0
-
   layer_stamps : (n : Name) → is_some (value_of (names_in m) n) ≡ true → unwrap_or (option_map (λ (k : LayerState). k.stamps) (layer_in m n)) [] ≡ stamps_at (seen m) after n
   layer_stamps n defined =
       let r = layer_of n defined in
       let l = r.0 in
-      let cells = layer_cells n r in
+      let cells = ap (option_map (λ (g : Grid). g.cells)) r.2.0 in
       ap (λ (o : Option LayerState). unwrap_or (option_map (λ (k : LayerState). k.stamps) o) []) r.1
       ∙ old_is_stamped (seen m) after n l.cells l.cells l.stamps l.stamps kept.size cells (same_cells n ∙ cells) r.2.1
       (record { count = r.3.stamps ∙ ap tiles_in r.2.2; same = λ k within e. refl; changed = λ k within differs. absurd (differs refl) })
@@ -162,7 +154,7 @@ module _ (m : KeptMap) (e : WholeEdit) (p : Parts) (kept : IsKept m) (is : IsBes
   -- ---- counts
 
   nothing_counted : (l : LayerDef) → is_some (value_of (names_in m) l.name) ≡ true → CountsNothing nothing (names_in m) after.names l
-  nothing_counted l defined = let r = layer_of l.name defined in let cells = layer_cells l.name r in by_making l.name r.0.cells cells (same_cells l.name ∙ cells) l.making
+  nothing_counted l defined = let r = layer_of l.name defined in let cells = ap (option_map (λ (g : Grid). g.cells)) r.2.0 in by_making l.name r.0.cells cells (same_cells l.name ∙ cells) l.making
     where
       by_making : (n : Name) (w : Cells) → cells_of (names_in m) n ≡ Some w → cells_of after.names n ≡ Some w → (making : Making) → CountsNothing nothing (names_in m) after.names (record { name = n; making = making })
       by_making n w was now (by_op op) = counts_nothing nothing (names_in m) after.names n op w refl (same_operands op) was now
@@ -254,46 +246,45 @@ note_beside m (notes.Label n z text) kept may = record { attempt = rw (may.0, le
 note_beside m (notes.Symbol n z sign) kept may = record { attempt = rw (may.0, le-ltb 4096 (length (put_mark m.symbols n z (sign ∷ []))) may.1) refl; touches = refl; faultless = refl; said = tt; formed = kept.formed }
 
 -- what it took the place of leads back
-record LeadsBack (m : KeptMap) (note : Note) (i : Inverse) : Type 0 where
-  suits : Suits m.extent (parts_with (seen m) note) i
-  parts : back i (parts_with (seen m) note) ≡ parts_of (seen m)
-  touch_is : touched i ≡ touch_of (edit_of_note note)
+record LeadsBack (m : KeptMap) (note : Note) (back : NoteBack) : Type 0 where
+  suits : SuitsNote (parts_with (seen m) note) back
+  parts : without_note back (parts_with (seen m) note) ≡ parts_of (seen m)
+  touch_is : nothing ≡ touch_of (edit_of_note note)
 
 without_last : (ps : List Procedure) (p : Procedure) → take (length (ps ++ p ∷ []) - 1) (ps ++ p ∷ []) ≡ ps
 without_last ps p = let count : length (ps ++ p ∷ []) - 1 ≡ length ps = omega (arith, length-append ps (p ∷ [])) in ap (λ n. take n (ps ++ p ∷ [])) count ∙ take-append_seam ps (p ∷ [])
 
-leads_back : (m : KeptMap) (note : Note) (i : Inverse) → IsNoteBack m note i → LeadsBack m note i
-leads_back m (notes.Procedure p) inverses.Procedure is = record {
+leads_back : (m : KeptMap) (note : Note) (back : NoteBack) → IsNoteBack m note back → LeadsBack m note back
+leads_back m (notes.Procedure p) backs.Procedure is = record {
   suits = omega (arith, length-append m.procedures (procedure_view p ∷ []));
   parts = ap (λ ps. record (parts_of (seen m)) { procedures = ps }) (without_last m.procedures (procedure_view p));
   touch_is = refl;
 }
-leads_back m (notes.Label n z text) (inverses.Label taken) is = record { suits = omega arith; parts = ap (λ marks. record (parts_of (seen m)) { labels = marks }) is; touch_is = refl }
-leads_back m (notes.Symbol n z sign) (inverses.Symbol taken) is = record { suits = omega arith; parts = ap (λ marks. record (parts_of (seen m)) { symbols = marks }) is; touch_is = refl }
-leads_back m note i is = absurd is
+leads_back m (notes.Label n z text) (backs.Label taken) is = record { suits = omega arith; parts = ap (λ marks. record (parts_of (seen m)) { labels = marks }) is; touch_is = refl }
+leads_back m (notes.Symbol n z sign) (backs.Symbol taken) is = record { suits = omega arith; parts = ap (λ marks. record (parts_of (seen m)) { symbols = marks }) is; touch_is = refl }
+leads_back m note back is = absurd is
 
-pub note_back : (m : KeptMap) (note : Note) (i : Inverse) (number : ℕ) → IsKept m → IsNoteBack m note i
-    → TakesBack (seen m) (seen (record (with_beside m (parts_with (seen m) note)) { number = number })) (touch_of (edit_of_note note)) i
-note_back m note i number kept is =
-    let r = leads_back m note i is in
+pub note_back : (m : KeptMap) (note : Note) (back : NoteBack) (number : ℕ) → IsKept m → IsNoteBack m note back
+    → TakesBack (seen m) (seen (record (with_beside m (parts_with (seen m) note)) { number = number })) (touch_of (edit_of_note note)) (inverses.Note back)
+note_back m note back number kept is =
+    let r = leads_back m note back is in
     record { size = refl; fits = record { suits = r.suits; reached = subst (AreReached m.extent) (sym r.parts) (kept_reached m kept) }; parts = r.parts; touch_is = r.touch_is }
 
 -- ---- a note is taken back
 
-back_said : (m : KeptMap) (i : Inverse) → AreReached m.extent (back i (parts_of (seen m))) → ChangesOnly (touched i) (names_in m) (with_entries (names_in m) (back i (parts_of (seen m))).entries) → IsSaid (seen m) (put_back (past_of i (parts_of (seen m))))
-back_said m i = reached_said (seen m) (past_of i (parts_of (seen m)))
-
 untouched : (s : EngineState) → ChangesOnly nothing s (with_entries s s.entries)
 untouched s = record { size = refl; statements = λ n op away made. made; sources = λ n grid away made. made }
 
-pub back_beside : (m : KeptMap) (i : Inverse) → IsKept m → IsTrue (is_note i) → Fits m.extent (parts_of (seen m)) i → IsBeside m (put_back (past_of i (parts_of (seen m)))) (back i (parts_of (seen m)))
-back_beside m inverses.Procedure kept note fits = record {
+formed_without : (back : NoteBack) (ps : List Procedure) → All IsProcedure ps → All IsProcedure (procedures_without back ps)
+formed_without backs.Procedure ps formed = All-take IsProcedure (length ps - 1) ps formed
+formed_without back ps formed = formed
+
+pub back_beside : (m : KeptMap) (back : NoteBack) → IsKept m → Fits m.extent (parts_of (seen m)) (inverses.Note back)
+    → IsBeside m (put_back (past_of (inverses.Note back) (parts_of (seen m)))) (without_note back (parts_of (seen m)))
+back_beside m back kept fits = record {
   attempt = refl;
   touches = refl;
   faultless = refl;
-  said = back_said m inverses.Procedure fits.reached (untouched (names_in m));
-  formed = All-take IsProcedure (length m.procedures - 1) m.procedures kept.formed;
+  said = reached_said (seen m) (past_of (inverses.Note back) (parts_of (seen m))) fits.reached (untouched (names_in m));
+  formed = formed_without back m.procedures kept.formed;
 }
-back_beside m (inverses.Label taken) kept note fits = record { attempt = refl; touches = refl; faultless = refl; said = back_said m (inverses.Label taken) fits.reached (untouched (names_in m)); formed = kept.formed }
-back_beside m (inverses.Symbol taken) kept note fits = record { attempt = refl; touches = refl; faultless = refl; said = back_said m (inverses.Symbol taken) fits.reached (untouched (names_in m)); formed = kept.formed }
-back_beside m i kept note fits = absurd (false≢true note)

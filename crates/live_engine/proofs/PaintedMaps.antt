@@ -1,18 +1,17 @@
 -- An edit that repaints a source: the state that it makes, what it does to the sources, and the map after it.
-use Rattle.std.proofs.Common.{◌≡◌, inl, inr, ℕ, ◌≤◌, ◌==◌, true, false, cond, ◌<◌, ◌^◌, List, [], count_by, length, set, position, Option, Some, None, is_some, option_map, unwrap_or, slice_get, bytes_eq, Result, Ok, refl, sym, ap, subst, ◌∙◌, arith}
+use Rattle.std.proofs.Common.{◌≡◌, inl, inr, ℕ, ◌≤◌, ◌==◌, true, false, ◌<◌, ◌^◌, List, count_by, length, set, position, Some, None, is_some, option_map, slice_get, bytes_eq, Ok, refl, sym, ap, subst, ◌∙◌, arith}
 use Rattle.std.specs.List.{All}
 use Rattle.std.proofs.lemmas.Bool.{cases_Bool, cond_both, eqb-true, eqb-false, false_from_ne_true}
 use Rattle.std.proofs.lemmas.List.{length-map, length-set}
 use Rattle.std.proofs.lemmas.List.Elements.{All-set}
-use Rattle.std.proofs.lemmas.Option.{same_Some, slice_get_within}
+use Rattle.std.proofs.lemmas.Option.{same_Some, slice_get_cases, slice_get_within}
 use Rattle.map_nums.specs.Counts.{raised}
-use Rattle.map_nums.specs.Grids.{Size, Grid, Cells}
+use Rattle.map_nums.specs.Grids.{Size, Grid}
 use Rattle.map_defs.specs.Ops.{Name}
 use Rattle.map_defs.specs.Nodes.{Node, find_node}
-use Rattle.map_defs.specs.Differences.{changed_tiles}
-use Rattle.layer_tiles.specs.Changes.{same_change, patched_change}
-use Rattle.layer_tiles.specs.Layers.{LayerState, IsLayer, IsStamped, IsCommitted}
-use Rattle.layer_tiles.specs.Patches.{PatchState, patched}
+use Rattle.layer_tiles.specs.Changes.{ChangeState, same_change, patched_change}
+use Rattle.layer_tiles.specs.Layers.{LayerState, IsLayer, IsCommitted}
+use Rattle.layer_tiles.specs.Patches.{PatchState}
 use Rattle.layer_tiles.specs.Tiles.{Block}
 use Rattle.statement_graph.specs.Groups.{nodes_in}
 use Rattle.map_edits.specs.Entries.{source, Entry, find_def, put_entry}
@@ -21,12 +20,11 @@ use Rattle.map_edits.specs.LayerDefs.{by_op, layers, nodes_of, find_making}
 use Rattle.map_edits.specs.LayerChanges.{changed_of}
 use Rattle.map_edits.specs.Limits.{is_source, is_flat, most_sources, most_flats}
 use Rattle.map_edits.specs.EditCounts.{Counts}
-use Rattle.map_edits.specs.Refusals.{Refusal}
-use Rattle.map_edits.specs.Counted.{Accepted, accept_counted}
+use Rattle.map_edits.specs.Counted.{accept_counted}
 use Rattle.map_edits.specs.Pasts.{parts_of}
 use Rattle.map_edits.specs.StampsAfter.{stamps_at, stamped}
 use Rattle.map_edits.specs.GroupLaws.{IsLawful}
-use Rattle.map_edits.specs.Touches.{touch_of, within, is_whole, source_damage}
+use Rattle.map_edits.specs.Touches.{touch_of, within, is_whole}
 use Rattle.map_edits.specs.WholeEdits.{WholeEdit}
 use Rattle.map_edits.specs.WholeStates.{WholeState, cells_of}
 use Rattle.map_edits.proofs.Among.{same_name, bytes_eq-self, bytes_eq-turned}
@@ -35,21 +33,20 @@ use Rattle.map_edits.proofs.Heads.{head_of, head_undotted}
 use Rattle.map_edits.proofs.GroupsKept.{put_makings}
 use Rattle.map_edits.proofs.LawfulEdits.{IsGoodChange, good_of}
 use Rattle.map_edits.proofs.Puts.{find_put, find_put_other}
-use Rattle.map_waves.specs.Bases.{source_by}
 use Rattle.map_waves.specs.Operands.{IsOperand}
 use Rattle.map_waves.specs.declared.counting.Counts as told
 use Rattle.map_waves.specs.declared.plans.Shift.{Shift}
 use Rattle.map_waves.specs.declared.plans.Shift.TheVariants.{Painted}
 use Rattle.edit_plans.specs.PlansFor.{IsChangeOf}
 use Rattle.edit_plans.specs.Planned.{is_source_node}
-use Rattle.edit_plans.specs.SourceCounts.{joined, counts_of_source, counts_of_touched}
+use Rattle.edit_plans.specs.SourceCounts.{joined, counts_of_touched}
 use Rattle.edit_plans.proofs.Positions.{position_at}
 use Rattle.edit_plans.proofs.Restamped.{old_is_stamped}
 use Rattle.edit_plans.proofs.TouchedAlone.{source_only}
-use Rattle.kept_map.specs.Maps.{grid_of, source_in, source_grid, layer_in, entries_in, names_in, seen}
+use Rattle.kept_map.specs.Maps.{grid_of, source_in, layer_in, entries_in, names_in, seen}
 use Rattle.kept_map.specs.Keeps.{IsKept}
 use Rattle.kept_map.specs.Edits.{change_in, IsSetUp, IsSamePlan}
-use Rattle.kept_map.specs.Repairs.{IsPreparedFor, counts_view, own_damage}
+use Rattle.kept_map.specs.Repairs.{IsPreparedFor, counts_view}
 use Rattle.kept_map.specs.Groups.{groups_of}
 use Rattle.kept_map.specs.declared.maps.KeptMap.{KeptMap}
 use Rattle.kept_map.specs.declared.maps.Sources.{Sources}
@@ -60,8 +57,7 @@ use Rattle.kept_map.proofs.Ready.{rests_after}
 use Rattle.map_waves.proofs.Making.{all_get}
 use Rattle.kept_map.proofs.SettingUp.{place_is, same_operand, constant_operand, placed_layer, placed_def, value_before, left_change, stamps_stay}
 use Rattle.kept_map.proofs.SourceLayers.{source_at, source_painted, source_unpainted, entries_painted, placed_item, source_def}
-use Rattle.kept_map.proofs.Given.{undotted, source_making, source_value}
-use Rattle.kept_map.proofs.Groupings.{nodes_in_groups, groups_repaint}
+use Rattle.kept_map.proofs.Given.{undotted, source_making, source_value, nodes_in_groups, groups_repaint}
 use Rattle.live_engine.specs.Painting.{rectangle_of, met_tiles}
 use Rattle.live_engine.specs.Inverses.{TakesBack}
 use Rattle.live_engine.specs.Repainting.{CanRepaint, HadTiles, IsRepainted, IsRepaintOf, repainted_state}
@@ -75,17 +71,14 @@ use Rattle.live_engine.proofs.TileBacks.{tiles_back}
 pub layer_size : (m : KeptMap) → IsKept m → (i : ℕ) (l : LayerState) → slice_get m.sources.layers.items i ≡ Some l → l.size ≡ m.extent
 layer_size m keeps i l e = (all_get (λ (k : LayerState). (k.size ≡ m.extent) × IsLayer k) m.sources.layers.items keeps.sources.whole i l e).0
 
--- an edit of a rectangle damages the tiles that the rectangle meets
-pub repaint_damage : (m : KeptMap) (n : Name) (r : Rectangle) (grid : Grid) → IsLawful (repainted_state (seen m) n grid) → (counts_of_touched (within n r) (names_in m) (repainted_state (seen m) n grid).names).evaluated ≡ length (met_tiles m.extent r)
-repaint_damage m n r grid lawful =
+-- an edit of a rectangle of a source counts its changed tiles, and damages those that the rectangle meets
+pub repaint_counts : (m : KeptMap) (n : Name) (r : Rectangle) (grid : Grid) → IsLawful (repainted_state (seen m) n grid) → counts_of_touched (within n r) (names_in m) (repainted_state (seen m) n grid).names
+    ≡ record { changed = length (changed_of (names_in m) (repainted_state (seen m) n grid).names n); evaluated = length (met_tiles m.extent r); worked = 0 }
+repaint_counts m n r grid lawful =
     let entries = put_entry (entries_in m) n (source grid) in
-    ap (λ o. (counts_of_source (within n r) (names_in m) (repainted_state (seen m) n grid).names n o).evaluated) (source_making entries n lawful.groups lawful.apart grid (find_put (entries_in m) n (source grid)))
-    ∙ ap (λ b. length (cond b (met_tiles m.extent r) [])) (bytes_eq-self n)
+    rw (source_making entries n lawful.groups lawful.apart grid (find_put (entries_in m) n (source grid)), bytes_eq-self n) refl
 
-abbrev ok_of : Accepted → Result Accepted Refusal
-ok_of a = Ok a
-
-module _ (m : KeptMap) (kept : IsKept m) (e : WholeEdit) (grid : Grid) (d : Repaint) (is : IsRepaintOf m e grid d) (place : ℕ) (at : position (bytes_eq d.name) m.sources.names.keys ≡ Some place) where
+module _ {m : KeptMap} {e : WholeEdit} {grid : Grid} {d : Repaint} {place : ℕ} (kept : IsKept m) (is : IsRepaintOf m e grid d) (at : position (bytes_eq d.name) m.sources.names.keys ≡ Some place) where
   abbrev n : Name
   n = d.name
 
@@ -134,7 +127,7 @@ module _ (m : KeptMap) (kept : IsKept m) (e : WholeEdit) (grid : Grid) (d : Repa
   nodes : nodes_of entries ≡ nodes_of (entries_in m)
   nodes = sym (nodes_in_groups entries) ∙ ap nodes_in (sym groups) ∙ nodes_in_groups (entries_in m)
 
-  same_plan : IsSamePlan m e after
+  pub same_plan : IsSamePlan m e after
   same_plan = record {
     nodes = nodes;
     makings = λ q op was. elim (cases_Bool (bytes_eq n (head_of q))) [
@@ -156,24 +149,12 @@ module _ (m : KeptMap) (kept : IsKept m) (e : WholeEdit) (grid : Grid) (d : Repa
   flats_few : count_by is_flat (layers entries) ≤ most_flats
   flats_few = subst (λ k. k ≤ most_flats) (sym (flats_stay (entries_in m) n (grid_of l) grid def)) kept.flats_few
 
-  pub paint_damage : own_damage m e after ≡ d.met
-  paint_damage = ap (λ touch. (counts_of_touched touch (names_in m) after.names).evaluated) is.touch ∙ repaint_damage m n r grid is.lawful ∙ sym is.met
-
-  own_counts : counts_of_touched (touch_of e) (names_in m) after.names ≡ record { changed = length d.patch.tiles; evaluated = d.met; worked = 0 }
-  own_counts =
-      ap (λ touch. counts_of_touched touch (names_in m) after.names) is.touch
-      ∙ ap (counts_of_source (within n r) (names_in m) after.names n) (source_making entries n change.good.groups change.good.apart grid (find_put (entries_in m) n (source grid)))
-      ∙ ap (λ k. record { changed = k; evaluated = length (source_damage m.extent (within n r) n); worked = 0 }) changed
-      ∙ ap (λ k. record { changed = length d.patch.tiles; evaluated = k; worked = 0 }) (ap (λ b. length (cond b (met_tiles m.extent r) [])) (bytes_eq-self n) ∙ sym is.met)
+  pub own_counts : counts_of_touched (touch_of e) (names_in m) after.names ≡ record { changed = length d.patch.tiles; evaluated = d.met; worked = 0 }
+  own_counts = rw (is.touch, repaint_counts m n r grid is.lawful, changed) (ap (λ k. record { changed = length d.patch.tiles; evaluated = k; worked = 0 }) (sym is.met))
     where
       changed : length (changed_of (names_in m) after.names n) ≡ length d.patch.tiles
       changed =
-          ap (λ o. length (changed_tiles m.extent o (unwrap_or (cells_of after.names n) []))) (value_before m kept n l def)
-          ∙ ap (λ o. length (changed_tiles m.extent (Some l.cells) (unwrap_or o []))) own_value
-          ∙ ap (λ cs. length (changed_tiles m.extent (Some l.cells) cs)) (sym is.cells)
-          ∙ ap (λ z. length (changed_tiles z (Some l.cells) (patched l.size l.cells d.patch.tiles))) (sym size_is)
-          ∙ ap (λ ks. length ks) (sym (is.operand.exact l.cells refl))
-          ∙ length-map d.patch.tiles (λ (e : ℕ × Block). e.0)
+          simp (value_before m kept n l def, own_value, ← is.cells, ← size_is, ← is.operand.exact l.cells refl) (length-map d.patch.tiles (λ (e : ℕ × Block). e.0))
 
   -- ---- its patch
 
@@ -181,8 +162,19 @@ module _ (m : KeptMap) (kept : IsKept m) (e : WholeEdit) (grid : Grid) (d : Repa
     abbrev shift : Shift
     shift = Painted place (record { ref_ptr = ptr; now = d.patch })
 
-    same_layer : (i : ℕ) (k : LayerState) → (place == i) ≡ true → slice_get m.sources.layers.items i ≡ Some k → l ≡ k
-    same_layer i k same here = same_Some l k (sym there ∙ ap (slice_get m.sources.layers.items) (eqb-true place i same) ∙ here)
+    -- what becomes of the layer at a place
+    each_change : (i : ℕ) (k : LayerState) → slice_get m.sources.layers.items i ≡ Some k → (P : ChangeState → Type 0) → (place ≡ i → P (patched_change l d.patch)) → ((place == i) ≡ false → P (same_change k))
+        → P (change_in m shift i)
+    each_change i k here P own left =
+        rw here (cond_both (place == i) (patched_change k d.patch) (same_change k) P
+        (λ same. let at = eqb-true place i same in subst (λ (x : LayerState). P (patched_change x d.patch)) (same_Some l k (sym there ∙ ap (slice_get m.sources.layers.items) at ∙ here)) (own at))
+        left)
+
+    operands : (i : ℕ) → IsOperand m.extent (change_in m shift i)
+    operands i = elim (slice_get_cases m.sources.layers.items i).1 [
+      | inl k ↦ each_change i k.0 k.2 (IsOperand m.extent) (λ same. subst (λ (z : Size). IsOperand z (patched_change l d.patch)) size_is is.operand) (λ other. same_operand m.extent k.0 (layer_size m kept i k.0 k.2))
+      | inr none ↦ rw none.1 (constant_operand m.extent None)
+    ]
 
     own_change : IsChangeOf (names_in m) after.names n (patched_change l d.patch)
     own_change = record {
@@ -190,36 +182,20 @@ module _ (m : KeptMap) (kept : IsKept m) (e : WholeEdit) (grid : Grid) (d : Repa
       before = λ was e. sym (value_before m kept n l def) ∙ e;
     }
 
-    operands : (i : ℕ) → IsOperand m.extent (change_in m shift i)
-    operands i = go (slice_get m.sources.layers.items i) refl
-      where
-        go : (o : Option LayerState) → slice_get m.sources.layers.items i ≡ o → IsOperand m.extent (source_by m.extent shift i o)
-        go None here = constant_operand m.extent None
-        go (Some k) here = cond_both (place == i) (patched_change k d.patch) (same_change k) (IsOperand m.extent)
-            (λ same. subst (λ (x : LayerState). IsOperand m.extent (patched_change x d.patch)) (same_layer i k same here) (subst (λ (z : Size). IsOperand z (patched_change l d.patch)) size_is is.operand))
-            (λ other. same_operand m.extent k (layer_size m kept i k here))
-
     changes : (i : ℕ) (q : Name) → slice_get m.sources.names.keys i ≡ Some q → IsChangeOf (names_in m) after.names q (change_in m shift i)
     changes i q named =
         let k = placed_layer m kept i q named in
-        subst (IsChangeOf (names_in m) after.names q) (sym (ap (source_by m.extent shift i) k.1))
-        (cond_both (place == i) (patched_change k.0 d.patch) (same_change k.0) (IsChangeOf (names_in m) after.names q) (own k.0 k.1) (left k.0 k.1))
+        let its = placed_def m kept i q k.0 named k.1 in
+        let head = head_undotted q (undotted (entries_in m) q (source (grid_of k.0)) kept.lawful.groups its) in
+        each_change i k.0 k.1 (IsChangeOf (names_in m) after.names q)
+        (λ same. subst (λ a. IsChangeOf (names_in m) after.names a (patched_change l d.patch))
+        (same_Some n q (sym (position_at n m.sources.names.keys place at) ∙ ap (slice_get m.sources.names.keys) same ∙ named)) own_change)
+        (λ other. left_change m kept after.names change.good.none_looped q k.0 its (inr (change.makings q (ap (bytes_eq n) head ∙ false_from_ne_true (bytes_eq n q) (λ e. eqb-false place i other (one_place e))))))
       where
-        own : (k : LayerState) → slice_get m.sources.layers.items i ≡ Some k → (place == i) ≡ true → IsChangeOf (names_in m) after.names q (patched_change k d.patch)
-        own k here same =
-            let one : n ≡ q = same_Some n q (sym (position_at n m.sources.names.keys place at) ∙ ap (slice_get m.sources.names.keys) (eqb-true place i same) ∙ named) in
-            subst (λ a. IsChangeOf (names_in m) after.names a (patched_change k d.patch)) one (subst (λ (x : LayerState). IsChangeOf (names_in m) after.names n (patched_change x d.patch)) (same_layer i k same here) own_change)
-
         one_place : bytes_eq n q ≡ true → place ≡ i
         one_place e = same_Some place i (sym at ∙ ap (λ a. position (bytes_eq a) m.sources.names.keys) (same_name n q e) ∙ place_is m.sources.names.keys kept.sources.apart i q named)
 
-        left : (k : LayerState) → slice_get m.sources.layers.items i ≡ Some k → (place == i) ≡ false → IsChangeOf (names_in m) after.names q (same_change k)
-        left k here other =
-            let its = placed_def m kept i q k named here in
-            let head = head_undotted q (undotted (entries_in m) q (source (grid_of k)) kept.lawful.groups its) in
-            left_change m kept after.names change.good.none_looped q k its (inr (change.makings q (ap (bytes_eq n) head ∙ false_from_ne_true (bytes_eq n q) (λ e. eqb-false place i other (one_place e)))))
-
-    set_up : IsSetUp m e after shift m.sources.names.keys
+    pub set_up : IsSetUp m e after shift m.sources.names.keys
     set_up = record {
       said = is.said;
       attempt = is.attempt;
@@ -229,18 +205,11 @@ module _ (m : KeptMap) (kept : IsKept m) (e : WholeEdit) (grid : Grid) (d : Repa
       count = let count = kept.sources.count in omega (arith, count);
     }
 
-    -- its statements can be prepared, and what is said of any edit that is set up so is said of it
-    pub paint_tried : (f : WholeEdit) × (t : WholeState) × IsSetUp m f t shift m.sources.names.keys × IsSamePlan m f t
-    paint_tried = (e, after, set_up, same_plan)
-
-    pub paint_gives : {R : WholeEdit → WholeState → Type 0} → ((f : WholeEdit) (t : WholeState) → IsSetUp m f t shift m.sources.names.keys → IsSamePlan m f t → R f t) → R e after
-    paint_gives known = known e after set_up same_plan
-
     -- ---- what is prepared of its statements
 
     module _ (prepared : Prepared) (made : (f : WholeEdit) (t : WholeState) → IsSetUp m f t shift m.sources.names.keys → IsSamePlan m f t → IsPreparedFor m f t shift m.sources.names.keys m.planned.names.keys m.planned.steps.items prepared) where
       ready : IsPreparedFor m e after shift m.sources.names.keys m.planned.names.keys m.planned.steps.items prepared
-      ready = paint_gives made
+      ready = made e after set_up same_plan
 
       pub paint_few : (prepared.counts.changed < 2 ^ 63) × (prepared.counts.evaluated < 2 ^ 63)
       paint_few = (
@@ -294,20 +263,16 @@ module _ (m : KeptMap) (kept : IsKept m) (e : WholeEdit) (grid : Grid) (d : Repa
           entries_are : entries_in map_after ≡ entries
           entries_are =
               entries_painted m.extent (source_in m.sources) (source_in sources_after) n (λ q differs. other_source q (bytes_eq-turned n q differs)) m.names.entries kept.lawful.apart (placed_item m n kept (ap is_some at))
-              ∙ ap (λ o. put_entry (entries_in m) n (source (source_grid m.extent o))) own_source
-              ∙ ap (λ z. put_entry (entries_in m) n (source (record { size = z; cells = new.cells }))) (new_size ∙ sym is.grid_size)
-              ∙ ap (λ cs. put_entry (entries_in m) n (source (record { size = grid.size; cells = cs }))) new_cells
+              ∙ simp (own_source, new_size ∙ sym is.grid_size, new_cells)
 
           stamps_are : (q : Name) (k : LayerState) → source_in sources_after q ≡ Some k → k.stamps ≡ stamps_at (seen m) after q
           stamps_are q k its = elim (cases_Bool (bytes_eq q n)) [
             | inl same ↦
                 let own : q ≡ n = same_name q n same in
                 let layer : new ≡ k = same_Some new k (sym own_source ∙ ap (source_in sources_after) (sym own) ∙ its) in
-                ap (λ (x : LayerState). x.stamps) (sym layer)
-                ∙ old_is_stamped (seen m) after n l.cells grid.cells l.stamps new.stamps kept.size (value_before m kept n l def) own_value
+                rw (own, ← layer) (old_is_stamped (seen m) after n l.cells grid.cells l.stamps new.stamps kept.size (value_before m kept n l def) own_value
                 (stamps_found (layer_in m) (names_in m) n l (layer_source m n l found) (ap is_some (source_value (names_in m) n (grid_of l) kept.lawful.groups kept.lawful.apart kept.lawful.none_looped def)))
-                (subst (λ (cs : Cells). IsStamped m.extent l.cells cs (raised m.number 1) l.stamps new.stamps) new_cells (subst (λ (z : Size). IsStamped z l.cells new.cells (raised m.number 1) l.stamps new.stamps) size_is committed.stamps))
-                ∙ ap (stamps_at (seen m) after) (sym own)
+                (simp (← new_cells, ← size_is) committed.stamps))
             | inr differs ↦
                 let before = sym (other_source q differs) ∙ its in
                 stamps_stay m kept after refl q k before (value_after q (grid_of k) (find_put_other (entries_in m) n (source grid) q differs ∙ source_def m q kept k before))
@@ -345,8 +310,8 @@ module _ (m : KeptMap) (kept : IsKept m) (e : WholeEdit) (grid : Grid) (d : Repa
               → accept_counted (seen m) e ≡ Ok (record { state = seen m'; counts = counts_view counts })
           paint_accepted counts sum =
               accepted_is m e after shift m.sources.names.keys kept set_up m.planned.names.keys m.planned.steps.items prepared ready
-              ∙ ap (λ (q : Counts). ok_of (record { state = stamped (seen m) after; counts = q })) (ap (λ (q : Counts). joined q (counts_view prepared.counts)) own_counts ∙ sym sum)
-              ∙ ap (λ (q : WholeState). ok_of (record { state = q; counts = counts_view counts })) (sym painted_done.1)
+              ∙ ap (λ (q : Counts). Ok (record { state = stamped (seen m) after; counts = q })) (ap (λ (q : Counts). joined q (counts_view prepared.counts)) own_counts ∙ sym sum)
+              ∙ ap (λ (q : WholeState). Ok (record { state = q; counts = counts_view counts })) (sym painted_done.1)
 
           pub paint_taken_back : (taken : PatchState) → HadTiles mid place d.patch taken → TakesBack (seen m) (seen m') (touch_of e) (inverses.Tiles (record d { patch = taken }))
           paint_taken_back taken had =

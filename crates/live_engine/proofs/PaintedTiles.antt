@@ -1,5 +1,5 @@
 -- A tile that is painted place by place, a patch of the painted tiles, and one of which only those that differ from a layer are left.
-use Rattle.std.proofs.Common.{◌≡◌, ◌≢◌, ℕ, suc, ◌+◌, ◌*◌, ◌<◌, ◌&&◌, nat_le, cond, length, get_or, set, drop, Option, None, ℤ, refl, sym, ◌∙◌, ap, subst, arith, below_more, inl, inr, ◌-◌, ◌≤◌, [], ◌∷◌, ◌++◌, is_some, IsTrue, ⊎_elim, not, true, List, Some, IsSome}
+use Rattle.std.proofs.Common.{◌≡◌, ◌≢◌, ℕ, suc, ◌+◌, ◌*◌, ◌<◌, ◌&&◌, nat_le, cond, length, get_or, set, drop, Option, None, ℤ, refl, sym, ◌∙◌, ap, subst, arith, below_more, inl, inr, ◌-◌, ◌≤◌, [], ◌∷◌, ◌++◌, is_some, ⊎_elim, not, true, List, Some, IsSome}
 use Rattle.std.proofs.lemmas.List.{get_or-set_same, get_or-set_other, length-set, get_or-take, get_or-drop, get_or_default, length-map, map-append}
 use Rattle.std.specs.List.{Contains, All}
 use Rattle.std.proofs.lemmas.List.Elements.{Contains-append_left, Contains-push, Contains-push_cases, All-filter, filter_passes}
@@ -7,20 +7,20 @@ use Rattle.std.proofs.lemmas.List.FromFn.{get_or-map-range_with_len, length-map-
 use Rattle.std.proofs.lemmas.Nat.{div-mul-add, mod-mul-add, mul-add-lt}
 use Rattle.map_nums.specs.Grids.{Size, IsSize, Cells, Grid, cells_in}
 use Rattle.map_edits.specs.EditForms.{Rectangle}
-use Rattle.map_edits.specs.Painting.{is_within, holds, painted}
-use Rattle.layer_tiles.specs.Tiles.{Block, block_row, tile_block, tile_cells, tiles_in, tiles_across, tile_top, tile_left, tile_height, tile_width, tile_start, IsBlockOf}
+use Rattle.map_edits.specs.Painting.{holds, painted}
+use Rattle.layer_tiles.specs.Tiles.{Block, block_row, tile_block, tile_cells, tiles_in, tile_top, tile_left, tile_height, tile_width, tile_start, IsBlockOf}
 use Rattle.layer_tiles.specs.Places.{IsPlaceOf}
 use Rattle.layer_tiles.specs.declared.extents.Place.{Place}
-use Rattle.layer_tiles.proofs.Rounds.{here, back}
+use Rattle.layer_tiles.proofs.Rounds.{here}
 use Rattle.layer_tiles.proofs.Strides.{tile_from, get_or-strided, same_tile}
-use Rattle.live_engine.specs.Painting.{IsCounted, last_row, painted_in, IsPainted, MeetsRectangle, ArePainted}
-use Rattle.live_engine.proofs.MetTiles.{line_of, rows_within, unmet_below}
+use Rattle.live_engine.specs.Painting.{painted_in, IsPainted, MeetsRectangle, ArePainted}
+use Rattle.live_engine.proofs.MetTiles.{line_of}
 use Rattle.std.proofs.lemmas.Bool.{cases_lt, cond_both, false≢true, true≢false, not-false}
 use Rattle.std.proofs.lemmas.Option.{none-some, same_Some}
 use Rattle.layer_tiles.specs.Patches.{PatchState, patch_get, patched, numbers_of, IsAboveLast, IsPatch}
 use Rattle.layer_tiles.proofs.Found.{Contains-from_get, get-from_Contains}
-use Rattle.layer_tiles.proofs.Patching.{patch_get-push, length-patched, tile_kept, tile_replaced}
-use Rattle.layer_tiles.proofs.Whole.{patched_to, same_grid}
+use Rattle.layer_tiles.proofs.Patching.{block_is, patch_get-push, length-patched, tile_kept, tile_replaced}
+use Rattle.layer_tiles.proofs.Whole.{patched_to}
 use Rattle.std.specs.Prelude.{◌↔◌}
 use Rattle.map_defs.specs.Differences.{changed_tiles}
 use Rattle.layer_tiles.specs.Layers.{LayerState, IsLayer}
@@ -33,12 +33,6 @@ use Rattle.map_waves.proofs.Unchanged.{unchanged}
 use Rattle.map_waves.proofs.Narrowing.{found_all, lost}
 use Rattle.op_jobs.proofs.WholeTiles.{numbers_changed}
 
--- what a place of a row is painted with
-painted_here : (s : Size) (t row column : ℕ) (r : Rectangle) (cell : Option ℤ) (b : Block) → IsSize s → t < tiles_in s → column < tile_width s t → painted_in s t r cell b (row * tile_width s t + column) ≡ cond (nat_le r.top (suc (tile_top s t + row)) && nat_le (suc (tile_top s t + row)) r.bottom && nat_le r.left (suc (tile_left s t + column)) && nat_le (suc (tile_left s t + column)) r.right) cell (get_or b.cells (row * tile_width s t + column) None)
-painted_here s t row column r cell b h l q =
-    let e = line_of s t row column h l q in
-    rw (div-mul-add row (tile_width s t) column q, mod-mul-add row (tile_width s t) column q, e.0, e.1) refl
-
 -- one more place
 pub painted_more : (s : Size) (t row column : ℕ) (r : Rectangle) (cell : Option ℤ) (b made new : Block) (p : Place) (these : Cells) (old now : Option ℤ) → IsSize s → t < tiles_in s → IsBlockOf s t b → IsPlaceOf s t p → row < tile_height s t → column < tile_width s t → IsPainted s t r cell b (row * tile_width s t + column) made → these ≡ block_row b row → old ≡ get_or these column old → length these ≡ b.width → now ≡ cond (nat_le r.top (p.top + row + 1) && nat_le (p.top + row + 1) r.bottom && nat_le r.left (p.left + column + 1) && nat_le (p.left + column + 1) r.right) cell old → new ≡ record made { cells = set made.cells (row * made.width + column) now } → IsPainted s t r cell b (row * tile_width s t + (column + 1)) new
 painted_more s t row column r cell b made new p these old now h l i place rl cl m e f n g w =
@@ -49,7 +43,10 @@ painted_more s t row column r cell b made new p these old now h l i place rl cl 
     ∙ get_or-take b.width (drop (row * b.width) b.cells) column None (omega (arith, i.width))
     ∙ get_or-drop (row * b.width) b.cells column None
     ∙ ap (λ x. get_or b.cells (row * x + column) None) i.width in
-    let there : now ≡ painted_in s t r cell b k = painted_now (tile_top s t) (tile_left s t) p row column r cell old now (get_or b.cells k None) place.top place.left same g ∙ sym (painted_here s t row column r cell b h l cl) in
+    let line = line_of s t row column h l cl in
+    let below : p.top + row + 1 ≡ suc (tile_top s t + row) = omega (arith, place.top) in
+    let right : p.left + column + 1 ≡ suc (tile_left s t + column) = omega (arith, place.left) in
+    let there : now ≡ painted_in s t r cell b k = rw (div-mul-add row (tile_width s t) column cl, mod-mul-add row (tile_width s t) column cl, line.0, line.1, ← below, ← right, ← same) g in
     let next : k + 1 ≡ row * tile_width s t + (column + 1) = omega arith in
     subst (λ (j : ℕ). IsPainted s t r cell b j new) next
     (rw (w, m.width)
@@ -61,12 +58,6 @@ painted_more s t row column r cell b made new p these old now h l i place rl cl 
           (λ j q. let ne : j ≢ k = omega arith in get_or-set_other made.cells k j now None ne ∙ m.done j q)
           (get_or-set_same made.cells k now None (omega (arith, m.count)) ∙ there);
     })
-  where
-    painted_now : (top left : ℕ) (p : Place) (row column : ℕ) (r : Rectangle) (cell old now was : Option ℤ) → p.top ≡ top → p.left ≡ left → old ≡ was → now ≡ cond (nat_le r.top (p.top + row + 1) && nat_le (p.top + row + 1) r.bottom && nat_le r.left (p.left + column + 1) && nat_le (p.left + column + 1) r.right) cell old → now ≡ cond (nat_le r.top (suc (top + row)) && nat_le (suc (top + row)) r.bottom && nat_le r.left (suc (left + column)) && nat_le (suc (left + column)) r.right) cell was
-    painted_now top left p row column r cell old now was e f g h =
-        let a : p.top + row + 1 ≡ suc (top + row) = omega arith in
-        let b : p.left + column + 1 ≡ suc (left + column) = omega arith in
-        rw (← a, ← b, ← g) h
 
 -- a cell of the painted grid
 pub painted_cell : (g : Grid) (r : Rectangle) (cell : Option ℤ) (i : ℕ) → i < cells_in g.size → get_or (painted g.size r cell g).cells i None ≡ cond (holds g.size r i) cell (get_or g.cells i None)
@@ -75,8 +66,8 @@ painted_cell g r cell i l = get_or-map-range_with_len (λ k. cond (holds g.size 
 -- all places
 pub painted_whole : (g : Grid) (t : ℕ) (r : Rectangle) (cell : Option ℤ) (b made : Block) (k : ℕ) → IsSize g.size → t < tiles_in g.size → b ≡ tile_block g.size g.cells t → k ≡ tile_height g.size t * tile_width g.size t → IsPainted g.size t r cell b k made → made ≡ tile_block g.size (painted g.size r cell g).cells t
 painted_whole g t r cell b made k h l e n m =
-    whole made (tile_height g.size t) (tile_width g.size t) (tile_cells g.size (painted g.size r cell g).cells t) m.height m.width
-    (sym (tile_from g.size (painted g.size r cell g).cells made.cells t m.count
+    block_is g.size (painted g.size r cell g).cells t made (record { height = m.height; width = m.width; count = m.count })
+    (tile_from g.size (painted g.size r cell g).cells made.cells t m.count
     (λ row column p q.
     let s = g.size in
     let j = row * tile_width s t + column in
@@ -86,10 +77,7 @@ painted_whole g t r cell b made k h l e n m =
     let old : get_or b.cells j None ≡ get_or g.cells (tile_start s t + row * s.columns + column) None =
     ap (λ (x : Block). get_or x.cells j None) e ∙ get_or-strided g.cells (tile_start s t) s.columns (tile_height s t) (tile_width s t) row column j None p q refl in
     painted_cell g r cell (tile_start s t + row * s.columns + column) at.within
-    ∙ sym (m.done j within ∙ rw (div-mul-add row (tile_width s t) column q, mod-mul-add row (tile_width s t) column q, old) refl))))
-  where
-    whole : (b : Block) (h w : ℕ) (cells : Cells) → b.height ≡ h → b.width ≡ w → b.cells ≡ cells → b ≡ record { height = h; width = w; cells = cells }
-    whole b h w cells e f g = rw (← e, ← f, ← g) refl
+    ∙ sym (m.done j within ∙ rw (div-mul-add row (tile_width s t) column q, mod-mul-add row (tile_width s t) column q, old) refl)))
 
 -- ---- a patch of the painted tiles
 
@@ -111,12 +99,6 @@ module _ (g : Grid) (r : Rectangle) (cell : Option ℤ) where
     there = λ t m l. absurd (omega (arith, l));
     only = λ t i. absurd (false≢true (ap (λ ts. is_some (patch_get ts t)) (sym none) ∙ i));
   }
-
-  -- none stands below the last row of tiles
-  pub are_painted_rows : IsSize g.size → IsCounted r → IsTrue (is_within g.size r) → (row : ℕ) → row ≡ last_row r + 1 → (p : PatchState) → ArePainted g r cell (row * tiles_across g.size) p → ArePainted g r cell (tiles_in g.size) p
-  are_painted_rows size counted within row end p a =
-      are_painted_skip (row * tiles_across g.size) (tiles_in g.size) p (rows_within g.size r size counted within row (omega (arith, end))) a
-      (λ t from to. unmet_below g.size r size counted within t (subst (λ k. k * tiles_across g.size ≤ t) end from))
 
   -- a tile that it meets
   pub are_painted_push : (n : ℕ) (p new : PatchState) (b : Block) → ArePainted g r cell n p → MeetsRectangle g.size r n → b ≡ tile_block g.size (painted g.size r cell g).cells n → new ≡ record p { tiles = p.tiles ++ (n, b) ∷ [] } → ArePainted g r cell (n + 1) new
@@ -158,10 +140,6 @@ module _ (g : Grid) (r : Rectangle) (cell : Option ℤ) where
       (λ held. absurd (false≢true (sym (ap is_some none) ∙ a.there t (record { at = i; within = at.within; tile = at.tile; held = held }) l)))
       (λ out. refl))))
 
--- a tile that the rectangle meets is one of the grid
-pub met_within : (s : Size) (r : Rectangle) (t : ℕ) → IsSize s → MeetsRectangle s r t → t < tiles_in s
-met_within s r t h m = subst (λ (u : ℕ). u < tiles_in s) m.tile (back s m.at h m.within).tile
-
 -- ---- tiles that differ from a layer
 
 module _ (s : Size) (was : Cells) (held : List (ℕ × Block)) (is : IsPatch (record { size = s; tiles = held })) where
@@ -184,46 +162,40 @@ module _ (s : Size) (was : Cells) (held : List (ℕ × Block)) (is : IsPatch (re
       found_all (λ t b. patch_get held t ≡ Some b) left t b (All-filter (is_other_tile s was) (λ (e : ℕ × Block). patch_get held e.0 ≡ Some e.1) held entries_found) e
 
   -- where nothing is left of a tile it has the old cells
-  none_left : (t : ℕ) → t < tiles_in s → patch_get left t ≡ None → tile_cells s after t ≡ tile_cells s was t
-  none_left t within none = go (patch_get held t) refl
-    where
-      go : (o : Option Block) → patch_get held t ≡ o → tile_cells s after t ≡ tile_cells s was t
-      go None here = tile_kept s was held t is.size within here
-      go (Some b) here = entry_is t b here ∙ sym ((decides_tile s was (t, b)).0 (not-false (is_same_tile s was (t, b)) (lost (is_other_tile s was) held t b here none)))
+  none_left : (t : ℕ) → t < tiles_in s → patch_get left t ≡ None → (o : Option Block) → patch_get held t ≡ o → tile_cells s after t ≡ tile_cells s was t
+  none_left t within none None here = tile_kept s was held t is.size within here
+  none_left t within none (Some b) here = entry_is t b here ∙ sym ((decides_tile s was (t, b)).0 (not-false (is_same_tile s was (t, b)) (lost (is_other_tile s was) held t b here none)))
 
   -- the cells are those of all the patch's tiles
-  pub left_cells : patched s was left ≡ after
-  left_cells = same_grid s (patched s was left) after is.size (length-patched s was left) (length-patched s was held) (λ t within. go t within (patch_get left t) refl)
-    where
-      go : (t : ℕ) → t < tiles_in s → (o : Option Block) → patch_get left t ≡ o → tile_cells s (patched s was left) t ≡ tile_cells s after t
-      go t within None here = tile_kept s was left t is.size within here ∙ sym (none_left t within here)
-      go t within (Some b) here =
-          let found = still_found t b here in
-          tile_replaced s was left t is.size within b (is.sizes t b found) here ∙ sym (entry_is t b found)
+  left_cells : patched s was left ≡ after
+  left_cells =
+      patched_to s was after left is.size (length-patched s was held)
+      (λ t b e. let found = still_found t b e in block_is s after t b (is.sizes t b found) (entry_is t b found))
+      (λ t within none. sym (none_left t within none _ refl))
 
-  left_exact : (t : ℕ) → t < tiles_in s → IsSome (patch_get left t) ↔ (tile_cells s after t ≢ tile_cells s was t)
-  left_exact t within = go (patch_get left t) refl
-    where
-      go : (o : Option Block) → patch_get left t ≡ o → IsSome o ↔ (tile_cells s after t ≢ tile_cells s was t)
-      go None here = (λ some. absurd (false≢true some), λ other. absurd (other (none_left t within here)))
-      go (Some b) here =
-          let passes = found_all (λ u c. is_other_tile s was (u, c) ≡ true) left t b (filter_passes (is_other_tile s was) held) here in
-          (λ some same. true≢false (sym passes ∙ ap not ((decides_tile s was (t, b)).1 (sym same ∙ entry_is t b (still_found t b here)))), λ other. refl)
+  left_exact : (t : ℕ) → t < tiles_in s → (o : Option Block) → patch_get left t ≡ o → IsSome o ↔ (tile_cells s after t ≢ tile_cells s was t)
+  left_exact t within None here = (λ some. absurd (false≢true some), λ other. absurd (other (none_left t within here _ refl)))
+  left_exact t within (Some b) here =
+      let passes = found_all (λ u c. is_other_tile s was (u, c) ≡ true) left t b (filter_passes (is_other_tile s was) held) here in
+      (λ some same. true≢false (sym passes ∙ ap not ((decides_tile s was (t, b)).1 (sym same ∙ entry_is t b (still_found t b here)))), λ other. refl)
 
--- what is left makes an operand with exactly the changed tiles
-pub left_operand : (layer : LayerState) (patch : PatchState) → IsLayer layer → IsPatch patch → patch.size ≡ layer.size → IsOperand layer.size (patched_change layer (record patch { tiles = narrowed layer.size layer.cells patch.tiles }))
+-- what is left makes the same cells, and an operand with exactly the changed tiles
+pub left_operand : (layer : LayerState) (patch : PatchState) → IsLayer layer → IsPatch patch → patch.size ≡ layer.size
+    → (patched layer.size layer.cells (narrowed layer.size layer.cells patch.tiles) ≡ patched layer.size layer.cells patch.tiles)
+    × IsOperand layer.size (patched_change layer (record patch { tiles = narrowed layer.size layer.cells patch.tiles }))
 left_operand layer patch whole is size =
     let s = layer.size in
     let was = layer.cells in
-    let P : Size → Type 0 = λ z. IsPatch (record { size = z; tiles = patch.tiles }) in
-    let here : IsPatch (record { size = s; tiles = patch.tiles }) = subst P size is in
+    let here : IsPatch (record { size = s; tiles = patch.tiles }) = subst (λ (z : Size). IsPatch (record { size = z; tiles = patch.tiles })) size is in
     let left = narrowed s was patch.tiles in
     let cells = left_cells s was patch.tiles here in
     let part : IsPatch (record { size = s; tiles = left }) = IsPatch-filter (is_other_tile s was) s patch.tiles here in
     let exact : numbers_of left ≡ changed_tiles s (Some was) (patched s was left) =
-    numbers_changed s (patched s was left) left part was (λ t l. subst (λ (xs : Cells). IsSome (patch_get left t) ↔ (tile_cells s xs t ≢ tile_cells s was t)) (sym cells) (left_exact s was patch.tiles here t l)) in
-    record {
-      size = refl;
-      exact = λ w e. exact ∙ ap (λ x. changed_tiles s (Some x) (patched s was left)) (same_Some was w e);
-      same = λ w e none. sym (unchanged s was (patched s was left) whole.size (sym exact ∙ none) whole.cells (length-patched s was left)) ∙ same_Some was w e;
-    }
+    numbers_changed s (patched s was left) left part was (λ t l. subst (λ (xs : Cells). IsSome (patch_get left t) ↔ (tile_cells s xs t ≢ tile_cells s was t)) (sym cells) (left_exact s was patch.tiles here t l _ refl)) in (
+      cells,
+      record {
+        size = refl;
+        exact = λ w e. exact ∙ ap (λ x. changed_tiles s (Some x) (patched s was left)) (same_Some was w e);
+        same = λ w e none. sym (unchanged s was (patched s was left) whole.size (sym exact ∙ none) whole.cells (length-patched s was left)) ∙ same_Some was w e;
+      },
+    )

@@ -1,7 +1,6 @@
 -- The flat statements of a formed statement have their numbers in range, where the bodies of all procedures are formed.
-use Rattle.std.proofs.Common.{◌≡◌, ℕ, zero, suc, ◌==◌, List, [], ◌∷◌, ◌++◌, map, length, codes, Option, Some, None, Result, Ok, Err, bytes_eq, refl, sym, subst}
-use Rattle.std.specs.List.{All}
-use Rattle.std.specs.List.{AllByRecursion as ByRecursion}
+use Rattle.std.proofs.Common.{◌≡◌, ℕ, zero, suc, List, [], ◌∷◌, ◌++◌, map, length, codes, Some, Result, Ok, Err, bytes_eq, refl, sym, subst}
+use Rattle.std.specs.List.{All, AllByRecursion as ByRecursion}
 use Rattle.std.proofs.lemmas.Bool.{cond_both}
 use Rattle.std.proofs.lemmas.List.{length-map}
 use Rattle.std.proofs.lemmas.List.Elements.{All-from_recursion, recursion_from_All}
@@ -11,18 +10,15 @@ use Rattle.map_defs.specs.Ops.{Name, Term, layer_term, number_term, Op}
 use Rattle.map_defs.specs.Facts.{facts}
 use Rattle.map_defs.specs.Statements.{Written, plain, call, Flat, Inner, Procedure}
 use Rattle.map_defs.specs.Bindings.{Binding, named_term, term_with, op_with, given_for}
-use Rattle.map_defs.specs.Expansion.{WrongCall, wrong_count, find_procedure, Expands, inner_flats, inner_name, dotted, body_flats, called, called_flats, call_flats, expansion_of}
-use Rattle.map_defs.proofs.Naming.{both_are}
+use Rattle.map_defs.specs.Expansion.{WrongCall, find_procedure, Expands, inner_flats, inner_name, dotted, body_flats, called, called_flats, call_flats, expansion_of}
+use Rattle.map_defs.proofs.Naming.{both_are, called_is}
+use Rattle.map_edits.proofs.Listed.{each_more, each_append}
 use Rattle.statement_parser.specs.Formed.{Each, IsBetween, IsWritten, AreInner, IsBody, IsProcedure}
 use Rattle.statement_parser.specs.Views.{op_view}
 use Rattle.procedure_expand.specs.declared.flat.Flat as held
 use Rattle.procedure_expand.specs.Flats.{flats_view}
 use Rattle.op_jobs.specs.Ranges.{IsInRange, HasRanges}
 use Rattle.op_jobs.proofs.Ranges.{each_of_line, ranges_of}
-
-each_join : {A : Type 0} (P : A → Type 0) (xs ys : List A) → Each P xs → Each P ys → Each P (xs ++ ys)
-each_join P [] ys first rest = rest
-each_join P (x ∷ xs) ys first rest = (first.0, each_join P xs ys first.1 rest)
 
 -- ---- what is formed is in range
 
@@ -37,7 +33,7 @@ written_ranges (call p ts) h = each_of_line ts h.3
 -- ---- terms that stand for what is bound
 
 abbrev BoundInRange : List Binding → Type 0
-BoundInRange bs = Each (λ (b : Binding). IsInRange b.term) bs
+BoundInRange bs = ByRecursion (λ (b : Binding). IsInRange b.term) bs
 
 named_ranges : (bs : List Binding) (n : Name) → BoundInRange bs → IsInRange (named_term bs n)
 named_ranges [] n bound = tt
@@ -65,14 +61,14 @@ module _ (bs : List Binding) (bound : BoundInRange bs) where
 -- ---- an expansion
 
 abbrev FlatsInRange : List Flat → Type 0
-FlatsInRange fs = Each (λ (f : Flat). HasRanges f.op) fs
+FlatsInRange fs = ByRecursion (λ (f : Flat). HasRanges f.op) fs
 
 -- what a call gives is in range, where its terms are
 abbrev IsRanged : Expands → Type 0
 IsRanged expand = (name prefix p : Name) (ts : List Term) (fs : List Flat) → Each IsInRange ts → expand name prefix p ts ≡ Ok fs → FlatsInRange fs
 
 abbrev BodyInRange : List Inner → Type 0
-BodyInRange is = Each (λ (i : Inner). WrittenInRange i.written) is
+BodyInRange is = ByRecursion (λ (i : Inner). WrittenInRange i.written) is
 
 one_flat : (name : Name) (op : Op) (fs : List Flat) (r : Result (List Flat) WrongCall) → HasRanges op → r ≡ Ok (record { name = name; op = op } ∷ []) → r ≡ Ok fs → FlatsInRange fs
 one_flat name op fs r h is e =
@@ -90,22 +86,18 @@ module _ (expand : Expands) (ranged : IsRanged expand) where
       let more : Binding = record { name = i.name; term = layer_term (inner_name name prefix i.name) } in
       let both = both_are (inner_flats expand bs (inner_name name prefix i.name) (dotted prefix i.name) i.written) (body_flats expand name prefix (bs ++ more ∷ []) is) fs e in
       subst FlatsInRange both.joined
-      (each_join (λ (f : Flat). HasRanges f.op) both.front both.rest
+      (each_append (λ (f : Flat). HasRanges f.op) both.front both.rest
       (inner_ranges bs (inner_name name prefix i.name) (dotted prefix i.name) i.written both.front bound h.0 both.first)
-      (body_ranges name prefix (bs ++ more ∷ []) is both.rest (each_join (λ (b : Binding). IsInRange b.term) bs (more ∷ []) bound (tt, tt)) h.1 both.second))
+      (body_ranges name prefix (bs ++ more ∷ []) is both.rest (each_append (λ (b : Binding). IsInRange b.term) bs (more ∷ []) bound (tt, tt)) h.1 both.second))
 
 abbrev BodiesInRange : List Procedure → Type 0
-BodiesInRange ps = Each (λ (p : Procedure). BodyInRange p.body) ps
+BodiesInRange ps = ByRecursion (λ (p : Procedure). BodyInRange p.body) ps
 
 found_ranges : (ps : List Procedure) (p : Name) (q : Procedure) → BodiesInRange ps → find_procedure ps p ≡ Some q → BodyInRange q.body
 found_ranges [] p q h e = absurd cc
 found_ranges (x ∷ ps) p q h e =
     cond_both (bytes_eq x.name p) (Some x) (find_procedure ps p) (λ o. o ≡ Some q → BodyInRange q.body)
     (λ same is. subst (λ (r : Procedure). BodyInRange r.body) (same_Some x q is) h.0) (λ other. found_ranges ps p q h.1) e
-
-called_is : (o : Option Procedure) (p : Name) (ts : List Term) (q : Procedure) → called o p ts ≡ Ok q → o ≡ Some q
-called_is None p ts q e = absurd cc
-called_is (Some r) p ts q e = cond_both (length ts == length r.takes) (Ok r) (Err (wrong_count (length ts) (length r.takes))) (λ x. x ≡ Ok q → Some r ≡ Some q) (λ same is. cc) (λ other is. absurd cc) e
 
 call_ranges : (k : ℕ) (ps : List Procedure) → BodiesInRange ps → IsRanged (call_flats k ps)
 call_ranges zero ps bodies name prefix p ts fs h e = absurd cc
@@ -128,11 +120,7 @@ inner_formed ns (i ∷ is) h = (written_ranges i.written h.1.0, inner_formed (ns
 
 body_formed : (ps : List Text) (body : List Inner) → IsBody ps body → BodyInRange body
 body_formed ps body h =
-    subst BodyInRange (sym h.whole) (each_join (λ (i : Inner). WrittenInRange i.written) h.before (record { name = codes "result"; written = h.last } ∷ []) (inner_formed ps h.before h.inner) (written_ranges h.last h.result.0, tt))
-
-bodies_formed : (ps : List Procedure) → ByRecursion IsProcedure ps → BodiesInRange ps
-bodies_formed [] h = tt
-bodies_formed (p ∷ ps) h = (body_formed p.takes p.body h.0.body, bodies_formed ps h.1)
+    subst BodyInRange (sym h.whole) (each_append (λ (i : Inner). WrittenInRange i.written) h.before (record { name = codes "result"; written = h.last } ∷ []) (inner_formed ps h.before h.inner) (written_ranges h.last h.result.0, tt))
 
 held_ranges : (fs : List held.Flat) → FlatsInRange (flats_view fs) → ByRecursion (λ (f : held.Flat). HasRanges (op_view f.op)) fs
 held_ranges [] h = tt
@@ -140,4 +128,5 @@ held_ranges (f ∷ fs) h = (h.0, held_ranges fs h.1)
 
 pub ranged_flats : (ps : List Procedure) (n : Name) (w : Written) (fs : List held.Flat) → All IsProcedure ps → IsWritten w → expansion_of ps n w ≡ Ok (flats_view fs) → All (λ (f : held.Flat). HasRanges (op_view f.op)) fs
 ranged_flats ps n w fs procedures formed e =
-    All-from_recursion (λ (f : held.Flat). HasRanges (op_view f.op)) fs (held_ranges fs (expansion_ranges ps n w (flats_view fs) (bodies_formed ps (recursion_from_All IsProcedure ps procedures)) (written_ranges w formed) e))
+    let bodies = each_more IsProcedure (λ (p : Procedure). BodyInRange p.body) (λ p h. body_formed p.takes p.body h.body) ps (recursion_from_All IsProcedure ps procedures) in
+    All-from_recursion (λ (f : held.Flat). HasRanges (op_view f.op)) fs (held_ranges fs (expansion_ranges ps n w (flats_view fs) bodies (written_ranges w formed) e))

@@ -1,5 +1,5 @@
 -- What takes a repaint back: the tiles that the source had, and when they can be put in place.
-use Rattle.std.proofs.Common.{◌≡◌, inl, inr, ℕ, ◌==◌, not, List, [], ◌∷◌, length, position, Option, Some, None, option_map, slice_get, bytes_eq, Result, Ok, refl, sym, ap, subst, ◌∙◌, ℤ}
+use Rattle.std.proofs.Common.{◌≡◌, inl, inr, ℕ, ◌==◌, not, List, [], ◌∷◌, length, position, Option, Some, None, option_map, slice_get, bytes_eq, Ok, refl, sym, ap, subst, ◌∙◌, ℤ}
 use Rattle.std.specs.List.{list_any}
 use Rattle.std.proofs.lemmas.Bool.{cases_Bool, eqb-true}
 use Rattle.std.proofs.lemmas.Bool.Decides.{same_from_decides, Decides-int_eq}
@@ -20,7 +20,6 @@ use Rattle.map_edits.specs.Edits.{with_entries}
 use Rattle.map_edits.specs.Entries.{source, find_def, put_entry}
 use Rattle.map_edits.specs.GroupLaws.{IsLawful}
 use Rattle.map_edits.specs.Pasts.{Parts, Past, parts_of, with_parts}
-use Rattle.map_edits.specs.Refusals.{Refusal}
 use Rattle.map_edits.specs.Touches.{touch_of}
 use Rattle.map_edits.specs.Touching.{ChangesOnly}
 use Rattle.map_edits.specs.WholeEdits.{WholeEdit, put_back}
@@ -35,14 +34,15 @@ use Rattle.edit_plans.proofs.TouchedAlone.{part_touched}
 use Rattle.kept_map.specs.Maps.{grid_of, source_in, entries_in, names_in, seen}
 use Rattle.kept_map.specs.Keeps.{IsKept}
 use Rattle.kept_map.specs.declared.maps.KeptMap.{KeptMap}
+use Rattle.edit_plans.proofs.There.{map_none}
 use Rattle.kept_map.proofs.SourceLayers.{source_at, source_whole, placed_item, item_source, source_def}
 use Rattle.kept_map.proofs.Given.{source_node}
-use Rattle.live_engine.specs.Inverses.{with_tiles, repainted, back, past_of, AreReached, SuitsTiles, Fits, TakesBack}
+use Rattle.live_engine.specs.Inverses.{with_tiles, repainted, back, past_of, SuitsTiles, Fits, TakesBack}
 use Rattle.live_engine.specs.Painting.{rectangle_of}
 use Rattle.live_engine.specs.Repainting.{repainted_state, IsRepaintOf}
 use Rattle.live_engine.specs.declared.inverses.Inverse.TheVariants as inverses
 use Rattle.live_engine.specs.declared.repainting.Repaint.{Repaint}
-use Rattle.live_engine.proofs.Backs.{kept_reached, reached_lawful, reached_said}
+use Rattle.live_engine.proofs.Backs.{reached_lawful, reached_said, takes_back}
 
 -- ---- tiles that differ do so both ways
 
@@ -87,15 +87,11 @@ module _ (s : Size) (cells : Cells) (held : List (ℕ × Block)) (size : IsSize 
   of_grid t b None e = absurd (none-some b e)
   of_grid t b (Some c) e = sym (same_Some (tile_block s cells t) b e)
 
-  not_held : (t : ℕ) (o : Option Block) → option_map (λ (c : Block). tile_block s cells t) o ≡ None → o ≡ None
-  not_held t None e = refl
-  not_held t (Some c) e = absurd (none-some (tile_block s cells t) (sym e))
-
   own_back : patched s new own ≡ cells
   own_back =
       patched_to s new cells own size count
       (λ t b e. of_grid t b (patch_get held t) (sym (had_tile s cells held t) ∙ e))
-      (λ t within none. tile_kept s cells held t size within (not_held t (patch_get held t) (sym (had_tile s cells held t) ∙ none)))
+      (λ t within none. tile_kept s cells held t size within (map_none (λ (c : Block). tile_block s cells t) (patch_get held t) (sym (had_tile s cells held t) ∙ none)))
 
   -- they are just those that differ again
   own_operand : IsOperand s (change_by s cells held) → IsOperand s (change_by s new own)
@@ -128,54 +124,28 @@ module _ (m : KeptMap) (keeps : IsKept m) (e : WholeEdit) (grid : Grid) (d : Rep
 
   -- the source has its own grid again
   source_back : source (with_tiles grid taken) ≡ source (grid_of l)
-  source_back =
-      ap (λ z. source (record { size = z; cells = patched z grid.cells taken.tiles })) (is.grid_size ∙ sym whole.0)
-      ∙ ap (λ xs. source (record { size = l.size; cells = patched l.size xs taken.tiles })) (sym is.cells)
-      ∙ ap (λ (p : PatchState). source (record { size = l.size; cells = patched l.size (patched l.size l.cells d.patch.tiles) p.tiles })) taken_is
-      ∙ ap (λ xs. source (record { size = l.size; cells = xs })) (own_back l.size l.cells d.patch.tiles whole.1.size whole.1.cells)
+  source_back = simp (is.grid_size ∙ sym whole.0, ← is.cells, taken_is, own_back l.size l.cells d.patch.tiles whole.1.size whole.1.cells)
 
   entries_back : repainted after.entries d.name taken (find_def after.entries d.name) ≡ entries_in m
   entries_back =
-      ap (repainted after.entries d.name taken) (find_put (entries_in m) d.name (source grid))
-      ∙ put_put (entries_in m) d.name (source grid) (source (with_tiles grid taken))
-      ∙ ap (put_entry (entries_in m) d.name) source_back
-      ∙ put_same (entries_in m) d.name (source (grid_of l)) (source_def m d.name keeps l found)
-
-  parts_back : back (inverses.Tiles before) after ≡ parts_of (seen m)
-  parts_back = ap (λ es. record (parts_of (seen m)) { entries = es }) entries_back
-
-  own_suits : SuitsTiles m.extent after before
-  own_suits = record {
-    plain = is.plain;
-    grid = grid;
-    there = find_put (entries_in m) d.name (source grid);
-    sized = is.grid_size;
-    patch_sized = ap (λ (p : PatchState). p.size) taken_is ∙ is.size ∙ whole.0;
-    operand = subst (λ z. IsOperand z (change_by z grid.cells taken.tiles)) whole.0
-        (subst (λ xs. IsOperand l.size (change_by l.size xs taken.tiles)) is.cells
-        (subst (λ (p : PatchState). IsOperand l.size (change_by l.size (patched l.size l.cells d.patch.tiles) p.tiles)) (sym taken_is)
-        (own_operand l.size l.cells d.patch.tiles whole.1.size whole.1.cells is.operand)));
-    met = is.met;
-  }
+      simp (find_put (entries_in m) d.name (source grid), source_back, put_put (entries_in m) d.name (source grid) (source (grid_of l)))
+      (put_same (entries_in m) d.name (source (grid_of l)) (source_def m d.name keeps l found))
 
   -- they take the repaint back, from a state with its parts
   pub tiles_back : (t : WholeState) → t.names.size ≡ m.extent → parts_of t ≡ after → TakesBack (seen m) t (touch_of e) (inverses.Tiles before)
   tiles_back t size parts =
-      let leads : back (inverses.Tiles before) (parts_of t) ≡ parts_of (seen m) = ap (back (inverses.Tiles before)) parts ∙ parts_back in
-      record {
-        size = size;
-        fits = record {
-          suits = subst (λ z. SuitsTiles z (parts_of t) before) (sym size) (subst (λ p. SuitsTiles m.extent p before) (sym parts) own_suits);
-          reached = subst (λ z. AreReached z (back (inverses.Tiles before) (parts_of t))) (sym size) (subst (AreReached m.extent) (sym leads) (kept_reached m keeps));
-        };
-        parts = leads;
-        touch_is = sym is.touch;
-      }
+      let suits : SuitsTiles m.extent after before = record {
+        plain = is.plain;
+        grid = grid;
+        there = find_put (entries_in m) d.name (source grid);
+        sized = is.grid_size;
+        patch_sized = ap (λ (p : PatchState). p.size) taken_is ∙ is.size ∙ whole.0;
+        operand = simp (← whole.0, ← is.cells, taken_is) (own_operand l.size l.cells d.patch.tiles whole.1.size whole.1.cells is.operand);
+        met = is.met;
+      } in
+      takes_back m keeps t after (touch_of e) (inverses.Tiles before) size parts suits (ap (λ es. record (parts_of (seen m)) { entries = es }) entries_back) (sym is.touch)
 
 -- ---- a repaint is taken back
-
-abbrev ok_of : WholeState → Result WholeState Refusal
-ok_of t = Ok t
 
 module _ (m : KeptMap) (keeps : IsKept m) (d : Repaint) (fits : Fits m.extent (parts_of (seen m)) (inverses.Tiles d)) where
   abbrev suits : SuitsTiles m.extent (parts_of (seen m)) d
@@ -199,12 +169,11 @@ module _ (m : KeptMap) (keeps : IsKept m) (d : Repaint) (fits : Fits m.extent (p
   lawful : IsLawful made
   lawful = subst IsLawful state_is (reached_lawful (seen m) past.parts fits.reached)
 
-  change : IsGoodChange (entries_in m) d.name made.names.entries
-  change = record { good = good_of made lawful; makings = put_makings (entries_in m) d.name (source now) keeps.lawful.groups keeps.lawful.apart suits.plain tt }
-
   only : ChangesOnly past.touch (names_in m) (with_entries (names_in m) past.parts.entries)
-  only = subst (λ es. ChangesOnly past.touch (names_in m) (with_entries (names_in m) es)) (sym entries_are)
-      (part_touched (names_in m) made.names d.name (rectangle_of d.rectangle) now refl change (find_put (entries_in m) d.name (source now)))
+  only =
+      let change : IsGoodChange (entries_in m) d.name made.names.entries =
+      record { good = good_of made lawful; makings = put_makings (entries_in m) d.name (source now) keeps.lawful.groups keeps.lawful.apart suits.plain tt } in
+      rw entries_are (part_touched (names_in m) made.names d.name (rectangle_of d.rectangle) now refl change (find_put (entries_in m) d.name (source now)))
 
   there : (i : ℕ) × (l : LayerState) × (position (bytes_eq d.name) m.sources.names.keys ≡ Some i) × (slice_get m.sources.layers.items i ≡ Some l)
   there =
@@ -217,11 +186,6 @@ module _ (m : KeptMap) (keeps : IsKept m) (d : Repaint) (fits : Fits m.extent (p
   own_grid : suits.grid ≡ grid_of layer
   own_grid = let both : Some (source suits.grid) ≡ Some (source (grid_of layer)) = sym suits.there ∙ source_def m d.name keeps layer (source_at m.sources d.name there.0 there.2 ∙ there.3) in cc
 
-  own_change : IsOperand layer.size (change_by layer.size layer.cells d.patch.tiles)
-  own_change =
-      subst (λ (g : Grid). IsOperand g.size (change_by g.size g.cells d.patch.tiles)) own_grid
-      (subst (λ z. IsOperand z (change_by z suits.grid.cells d.patch.tiles)) (sym suits.sized) suits.operand)
-
   pub back_repaint : (grid : Grid) × IsRepaintOf m (put_back past) grid d
   back_repaint = (
     now,
@@ -229,7 +193,7 @@ module _ (m : KeptMap) (keeps : IsKept m) (d : Repaint) (fits : Fits m.extent (p
       plain = suits.plain;
       said = reached_said (seen m) past fits.reached only;
       touch = refl;
-      attempt = ap ok_of state_is;
+      attempt = ap (λ (t : WholeState). Ok t) state_is;
       lawful = lawful;
       place = there.0;
       layer = layer;
@@ -238,7 +202,7 @@ module _ (m : KeptMap) (keeps : IsKept m) (d : Repaint) (fits : Fits m.extent (p
       grid_size = suits.sized;
       size = suits.patch_sized ∙ sym suits.sized ∙ ap (λ (g : Grid). g.size) own_grid;
       cells = ap (λ (g : Grid). patched g.size g.cells d.patch.tiles) (sym own_grid);
-      operand = own_change;
+      operand = subst (λ (g : Grid). IsOperand g.size (change_by g.size g.cells d.patch.tiles)) own_grid (rw suits.sized suits.operand);
       met = suits.met;
     },
   )

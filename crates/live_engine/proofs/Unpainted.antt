@@ -11,6 +11,7 @@ use Rattle.layer_tiles.specs.Layers.{LayerState}
 use Rattle.layer_tiles.specs.Patches.{PatchState, patched}
 use Rattle.layer_tiles.specs.Tallies.{TallyState, RisesBy}
 use Rattle.map_edits.specs.Entries.{Def, source, statement, Entry, find_def, put_entry}
+use Rattle.map_edits.specs.EditCounts.{Counts}
 use Rattle.map_edits.specs.EditForms.{Rectangle, paint}
 use Rattle.map_edits.specs.EntriesAfter.{paint_source}
 use Rattle.map_edits.specs.Painting.{is_within, painted}
@@ -36,7 +37,7 @@ use Rattle.live_engine.specs.Repainting.{IsRepaintOf, repainted_state}
 use Rattle.live_engine.specs.declared.painting.Rectangle as declared
 use Rattle.live_engine.specs.declared.repainting.Repaint.{Repaint}
 use Rattle.live_engine.proofs.Accepting.{reads_tried, reads_more}
-use Rattle.live_engine.proofs.PaintedMaps.{layer_size, repaint_damage, paint_damage}
+use Rattle.live_engine.proofs.PaintedMaps.{layer_size, repaint_counts, own_counts}
 
 module _ (m : KeptMap) (kept : IsKept m) (n : Name) (r : Rectangle) (cell : Option ℤ) where
   painting : (o : Option Def) → find_def (entries_in m) n ≡ o → attempted (seen m) (of_names (paint n r cell)) ≡ with_names (seen m) (paint n r cell) (paint_source (names_in m) n r cell o)
@@ -46,13 +47,10 @@ module _ (m : KeptMap) (kept : IsKept m) (n : Name) (r : Rectangle) (cell : Opti
   paint_unknown none = painting None (none_where (find_def (entries_in m) n) (λ d is. true≢false (sym (ap is_some is) ∙ none)))
 
   -- what is there and no source is a statement
-  pub paint_derived : position (bytes_eq n) m.sources.names.keys ≡ None → is_some (find_def (entries_in m) n) ≡ true → attempted (seen m) (of_names (paint n r cell)) ≡ Err (is_derived n)
-  paint_derived away there = go (find_def (entries_in m) n) refl there
-    where
-      go : (o : Option Def) → find_def (entries_in m) n ≡ o → is_some o ≡ true → attempted (seen m) (of_names (paint n r cell)) ≡ Err (is_derived n)
-      go None is h = absurd (false≢true h)
-      go (Some (source grid)) is h = absurd (false≢true (sym (ap is_some away) ∙ kept.sources.stand n ∙ ap is_source_node (source_node (entries_in m) n kept.lawful.groups kept.lawful.apart grid is)))
-      go (Some (statement written flats)) is h = painting (Some (statement written flats)) is
+  pub paint_derived : position (bytes_eq n) m.sources.names.keys ≡ None → (o : Option Def) → find_def (entries_in m) n ≡ o → is_some o ≡ true → attempted (seen m) (of_names (paint n r cell)) ≡ Err (is_derived n)
+  paint_derived away None is there = absurd (false≢true there)
+  paint_derived away (Some (source grid)) is there = absurd (false≢true (sym (ap is_some away) ∙ kept.sources.stand n ∙ ap is_source_node (source_node (entries_in m) n kept.lawful.groups kept.lawful.apart grid is)))
+  paint_derived away (Some (statement written flats)) is there = painting (Some (statement written flats)) is
 
   pub paint_outside : (l : LayerState) → source_in m.sources n ≡ Some l → is_within m.extent r ≡ false → attempted (seen m) (of_names (paint n r cell)) ≡ Err (wrong_size m.extent)
   paint_outside l there out =
@@ -94,13 +92,11 @@ module _ (m : KeptMap) (kept : IsKept m) (n : Name) (rectangle : declared.Rectan
       record { made = kept.lawful.made; groups = good.groups; apart = good.apart; none_looped = good.none_looped }
 
   -- the looks at its tiles are allowed
-  pub paint_looks : (x y : TallyState) → RisesBy (3 * length (met_tiles l.size r)) 0 x y → RisesBy (3 * length (met_tiles m.extent r)) 0 x y
-  paint_looks x y = subst (λ z. RisesBy (3 * length (met_tiles z r)) 0 x y) sized
-
-  pub paint_reads : (x y : TallyState) → RisesBy (3 * length (met_tiles l.size r)) 0 x y → ReadsWithin (seen m) (of_names (paint n r cell)) x y
+  pub paint_reads : (x y : TallyState) → RisesBy (3 * length (met_tiles l.size r)) 0 x y → ReadsWithin (seen m) (of_names (paint n r cell)) x y × RisesBy (3 * length (met_tiles m.extent r)) 0 x y
   paint_reads x y looks =
-      let damage = repaint_damage m n r grid lawful in
-      reads_tried (seen m) (repainted_state (seen m) n grid) (of_names (paint n r cell)) kept.lawful plain attempt (3 * length (met_tiles m.extent r)) x y (omega (arith, damage)) (paint_looks x y looks)
+      let own = subst (λ z. RisesBy (3 * length (met_tiles z r)) 0 x y) sized looks in
+      let damage = ap (λ (counts : Counts). counts.evaluated) (repaint_counts m n r grid lawful) in
+      (reads_tried (seen m) (repainted_state (seen m) n grid) (of_names (paint n r cell)) kept.lawful plain attempt (3 * length (met_tiles m.extent r)) x y (omega (arith, damage)) own, own)
 
   pub paint_draft : (patch : PatchState) (met : ℕ) → patch.size ≡ l.size → patched l.size l.cells patch.tiles ≡ (painted l.size r cell (grid_of l)).cells → IsOperand l.size (patched_change l patch) → met ≡ length (met_tiles l.size r)
       → IsRepaintOf m (of_names (paint n r cell)) grid (record { name = n; rectangle = rectangle; patch = patch; met = met })
@@ -126,8 +122,8 @@ module _ (m : KeptMap) (kept : IsKept m) (n : Name) (rectangle : declared.Rectan
 pub paint_reads_all : (m : KeptMap) → IsKept m → (n : Name) (r : Rectangle) (cell : Option ℤ) (grid : Grid) (d : Repaint) → IsRepaintOf m (of_names (paint n r cell)) grid d → (x y z : TallyState) → RisesBy (3 * length (met_tiles m.extent r)) 0 x y
     → RisesByRest m (of_names (paint n r cell)) (repainted_state (seen m) d.name grid) y z → ReadsWithin (seen m) (of_names (paint n r cell)) x z
 paint_reads_all m kept n r cell grid d is x y z looks rest =
-    let damage = paint_damage m kept (of_names (paint n r cell)) grid d is is.place is.placed in
+    let damage = ap (λ (counts : Counts). counts.evaluated) (own_counts kept is is.placed) in
     let touch : within n r ≡ within d.name (rectangle_of d.rectangle) = is.touch in
-    let same : r ≡ rectangle_of d.rectangle = cc in
-    let met = is.met ∙ ap (λ q. length (met_tiles m.extent q)) (sym same) in
+    let same : rectangle_of d.rectangle ≡ r = cc in
+    let met = is.met ∙ ap (λ q. length (met_tiles m.extent q)) same in
     reads_more m (of_names (paint n r cell)) (repainted_state (seen m) d.name grid) (3 * length (met_tiles m.extent r)) x y z (omega (arith, damage, met)) looks rest

@@ -2,10 +2,9 @@
 use Rattle.std.specs.Prelude.{◌≡◌, List}
 use Rattle.map_nums.specs.Grids.{Grid}
 use Rattle.map_defs.specs.Ops.{Name}
-use Rattle.map_edits.specs.EditForms.{Edit}
+use Rattle.map_edits.specs.EditForms.{Edit, edited}
 use Rattle.map_edits.specs.EntriesAfter.{add_source, entries_with}
 use Rattle.map_edits.specs.GroupLaws.{IsPlainEdit}
-use Rattle.map_edits.specs.Laws.{edited}
 use Rattle.map_edits.specs.Marks.{Mark}
 use Rattle.map_edits.specs.Attempts.{marks_after}
 use Rattle.map_edits.specs.Touches.{whole, touch_of_names}

@@ -1,5 +1,5 @@
 -- What takes an edit back: what it puts in place, and when it fits a state.
-use Rattle.std.specs.Prelude.{◌≡◌, ℕ, ◌-◌, ◌<◌, ◌≤◌, Bool, true, false, List, take, drop, length, count_by, Option, Some, None, unwrap_or, Result, Ok, Err, IsTrue}
+use Rattle.std.specs.Prelude.{◌≡◌, ◌≤◌, List, length, count_by, Option, Some, None, unwrap_or, Result, Ok, Err, IsTrue}
 use Rattle.map_nums.specs.Grids.{Size, Grid}
 use Rattle.map_words.specs.Names.{is_plain}
 use Rattle.map_defs.specs.Ops.{Name}
@@ -16,10 +16,10 @@ use Rattle.map_edits.specs.Pasts.{Parts, Past, parts_of}
 use Rattle.map_edits.specs.Touches.{Touch, nothing, whole, within, touch_of}
 use Rattle.map_edits.specs.WholeEdits.{WholeEdit, put_back}
 use Rattle.map_edits.specs.WholeStates.{WholeState}
-use Rattle.map_marks.specs.Taken.{given_back}
 use Rattle.kept_map.specs.Groups.{groups_of}
 use Rattle.live_engine.specs.Accepts.{Accepts, Refuses}
 use Rattle.live_engine.specs.Drafts.{entries_after, IsFit}
+use Rattle.live_engine.specs.Notes.{without_note, SuitsNote}
 use Rattle.live_engine.specs.Painting.{rectangle_of, met_tiles}
 use Rattle.live_engine.specs.declared.drafts.Draft.{Draft}
 use Rattle.live_engine.specs.declared.drafts.Left.{Left}
@@ -44,28 +44,16 @@ repainted es n p other = es
 abbrev pub back : Inverse → Parts → Parts
 back (inverses.Name d) s = record s { entries = entries_after s.entries d.name d.change; labels = unwrap_or d.labels s.labels; symbols = unwrap_or d.symbols s.symbols }
 back (inverses.Tiles t) s = record s { entries = repainted s.entries t.name t.patch (find_def s.entries t.name) }
-back inverses.Procedure s = record s { procedures = take (length s.procedures - 1) s.procedures }
-back (inverses.Label taken) s = record s { labels = given_back (drop 1 s.labels) taken.items }
-back (inverses.Symbol taken) s = record s { symbols = given_back (drop 1 s.symbols) taken.items }
+back (inverses.Note b) s = without_note b s
 
 -- what the edit touched
 abbrev pub touched : Inverse → Touch
 touched (inverses.Name d) = whole d.name
 touched (inverses.Tiles t) = within t.name (rectangle_of t.rectangle)
-touched inverses.Procedure = nothing
-touched (inverses.Label taken) = nothing
-touched (inverses.Symbol taken) = nothing
+touched (inverses.Note b) = nothing
 
 abbrev pub past_of : Inverse → Parts → Past
 past_of i s = record { parts = back i s; touch = touched i }
-
--- it touches no layer
-abbrev pub is_note : Inverse → Bool
-is_note (inverses.Name d) = false
-is_note (inverses.Tiles t) = false
-is_note inverses.Procedure = true
-is_note (inverses.Label taken) = true
-is_note (inverses.Symbol taken) = true
 
 -- ---- when it fits
 
@@ -98,9 +86,7 @@ pub record SuitsTiles (size : Size) (s : Parts) (t : Repaint) : Type 0 where
 abbrev pub Suits : Size → Parts → Inverse → Type 0
 Suits size s (inverses.Name d) = SuitsName size s d
 Suits size s (inverses.Tiles t) = SuitsTiles size s t
-Suits size s inverses.Procedure = 0 < length s.procedures
-Suits size s (inverses.Label taken) = 0 < length s.labels
-Suits size s (inverses.Symbol taken) = 0 < length s.symbols
+Suits size s (inverses.Note b) = SuitsNote s b
 
 -- the state is as the edit left it, and the one before was reached
 pub record Fits (size : Size) (s : Parts) (i : Inverse) : Type 0 where

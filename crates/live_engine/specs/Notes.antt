@@ -1,12 +1,11 @@
 -- What an edit notes beside the names: a procedure, a label or a symbol.
-use Rattle.std.specs.Prelude.{◌≡◌, ◌+◌, ◌≤◌, List, [], ◌∷◌, ◌++◌, drop, length, None, true, is_some, Result, Ok, Err}
+use Rattle.std.specs.Prelude.{◌≡◌, ◌+◌, ◌-◌, ◌<◌, ◌≤◌, List, [], ◌∷◌, ◌++◌, take, drop, length, None, true, is_some, Result, Ok, Err}
 use Rattle.map_defs.specs.Statements.{Procedure}
 use Rattle.map_defs.specs.Expansion.{find_procedure}
 use Rattle.map_defs.specs.Calls.{wrong_call}
 use Rattle.statement_parser.specs.Formed.{IsProcedure}
 use Rattle.statement_parser.specs.Procedures.{procedure_view}
 use Rattle.map_edits.specs.Entries.{find_def}
-use Rattle.map_edits.specs.Edits.{with_entries}
 use Rattle.map_edits.specs.Marks.{Mark, put_mark}
 use Rattle.map_edits.specs.Attempts.{most_marks, most_procedures}
 use Rattle.map_edits.specs.WholeStates.{WholeState}
@@ -16,11 +15,10 @@ use Rattle.map_marks.specs.Taken.{given_back}
 use Rattle.map_marks.specs.declared.taken.Taken.{Taken}
 use Rattle.kept_map.specs.Maps.{seen}
 use Rattle.kept_map.specs.declared.maps.KeptMap.{KeptMap}
-use Rattle.live_engine.specs.Inverses.{back}
-use Rattle.live_engine.specs.declared.inverses.Inverse.{Inverse}
-use Rattle.live_engine.specs.declared.inverses.Inverse.TheVariants as inverses
 use Rattle.live_engine.specs.declared.noting.Note.{Note}
 use Rattle.live_engine.specs.declared.noting.Note.TheVariants as notes
+use Rattle.live_engine.specs.declared.noting.NoteBack.{NoteBack}
+use Rattle.live_engine.specs.declared.noting.NoteBack.TheVariants as backs
 
 -- other procedures, labels and symbols beside the names
 abbrev pub with_beside : KeptMap → Parts → KeptMap
@@ -45,16 +43,6 @@ abbrev pub symbols_with : List Mark → Note → List Mark
 symbols_with marks (notes.Symbol n z sign) = put_mark marks n z (sign ∷ [])
 symbols_with marks note = marks
 
--- the state that the edit would make
-abbrev pub with_note : WholeState → Note → WholeState
-with_note s note = record {
-  names = with_entries s.names s.names.entries;
-  procedures = procedures_with s.procedures note;
-  labels = labels_with s.labels note;
-  symbols = symbols_with s.symbols note;
-  stamps = s.stamps;
-}
-
 -- ---- when it may be noted
 
 -- a procedure whose name is new and whose calls are right, and not too many
@@ -75,18 +63,42 @@ abbrev pub IsMarkBack : List Mark → List Mark → List Taken → Type 0
 IsMarkBack old new taken = given_back (drop 1 new) taken ≡ old
 
 -- what a note took the place of
-abbrev pub IsNoteBack : KeptMap → Note → Inverse → Type 0
-IsNoteBack old (notes.Procedure p) inverses.Procedure = Unit {0}
-IsNoteBack old (notes.Label n z text) (inverses.Label taken) = IsMarkBack old.labels (put_mark old.labels n z text) taken.items
-IsNoteBack old (notes.Symbol n z sign) (inverses.Symbol taken) = IsMarkBack old.symbols (put_mark old.symbols n z (sign ∷ [])) taken.items
-IsNoteBack old note inverse = ⊥
+abbrev pub IsNoteBack : KeptMap → Note → NoteBack → Type 0
+IsNoteBack old (notes.Procedure p) backs.Procedure = Unit {0}
+IsNoteBack old (notes.Label n z text) (backs.Label taken) = IsMarkBack old.labels (put_mark old.labels n z text) taken.items
+IsNoteBack old (notes.Symbol n z sign) (backs.Symbol taken) = IsMarkBack old.symbols (put_mark old.symbols n z (sign ∷ [])) taken.items
+IsNoteBack old note back = ⊥
 
 -- the map with it, or as before for want of memory
-abbrev pub IsNoted : {E : Type 0} → KeptMap → KeptMap → Note → Result Inverse E → Type 0
-IsNoted old new note (Ok inverse) = (new ≡ record old { procedures = procedures_with old.procedures note; labels = labels_with old.labels note; symbols = symbols_with old.symbols note }) × IsNoteBack old note inverse
+abbrev pub IsNoted : {E : Type 0} → KeptMap → KeptMap → Note → Result NoteBack E → Type 0
+IsNoted old new note (Ok back) = (new ≡ record old { procedures = procedures_with old.procedures note; labels = labels_with old.labels note; symbols = symbols_with old.symbols note }) × IsNoteBack old note back
 IsNoted old new note (Err _) = new ≡ old
 
--- the map without what was noted last, or as before for want of memory
-abbrev pub IsUnnoted : {V : Type 0} → KeptMap → KeptMap → Inverse → Result V Inverse → Type 0
-IsUnnoted old new i (Ok _) = new ≡ with_beside old (back i (parts_of (seen old)))
-IsUnnoted old new i (Err j) = (j ≡ i) × (new ≡ old)
+-- ---- what was noted last is taken back
+
+abbrev pub procedures_without : NoteBack → List Procedure → List Procedure
+procedures_without backs.Procedure ps = take (length ps - 1) ps
+procedures_without back ps = ps
+
+abbrev pub labels_without : NoteBack → List Mark → List Mark
+labels_without (backs.Label taken) marks = given_back (drop 1 marks) taken.items
+labels_without back marks = marks
+
+abbrev pub symbols_without : NoteBack → List Mark → List Mark
+symbols_without (backs.Symbol taken) marks = given_back (drop 1 marks) taken.items
+symbols_without back marks = marks
+
+-- the parts of the state before the note, from those after it
+abbrev pub without_note : NoteBack → Parts → Parts
+without_note back s = record s { procedures = procedures_without back s.procedures; labels = labels_without back s.labels; symbols = symbols_without back s.symbols }
+
+-- there is something to take out
+abbrev pub SuitsNote : Parts → NoteBack → Type 0
+SuitsNote s backs.Procedure = 0 < length s.procedures
+SuitsNote s (backs.Label taken) = 0 < length s.labels
+SuitsNote s (backs.Symbol taken) = 0 < length s.symbols
+
+-- the map without it, or as before for want of memory
+abbrev pub IsUnnoted : {V : Type 0} → KeptMap → KeptMap → NoteBack → Result V NoteBack → Type 0
+IsUnnoted old new back (Ok _) = new ≡ with_beside old (without_note back (parts_of (seen old)))
+IsUnnoted old new back (Err left) = (left ≡ back) × (new ≡ old)

@@ -31,5 +31,6 @@ pub use drafts::{Change, Draft};
 pub use edits::{Accepted, Edit, Refusal, Which};
 pub use engine::{Engine, Entry};
 pub use inverses::Inverse;
+pub use noting::NoteBack;
 pub use painting::Rectangle;
 pub use repainting::Repaint;

@@ -1,20 +1,21 @@
 //! What an edit notes beside the names of a map, which leaves every layer as it is.
 
-ghost use Rattle.std.specs.Prelude.{◌≡◌, IsTrue};
+ghost use Rattle.std.specs.Prelude.{◌≡◌};
 ghost use Rattle.map_nums.specs.Counts.{raised};
 ghost use Rattle.edit_plans.specs.SourceCounts.{no_counts};
 ghost use Rattle.kept_map.specs.Repairs.{counts_view};
 ghost use Rattle.map_edits.specs.Pasts.{parts_of};
 ghost use Rattle.kept_map.specs.Maps.{seen};
 ghost use Rattle.kept_map.specs.Keeps.{IsKept};
-ghost use Rattle.live_engine.specs.Inverses.{AcceptsBack, IsReverted, Fits, is_note};
-ghost use Rattle.live_engine.specs.Notes.{edit_of_note, MayNote, IsNoted, IsUnnoted};
+ghost use Rattle.live_engine.specs.Inverses.{AcceptsBack, IsReverted, Fits};
+ghost use Rattle.live_engine.specs.Notes.{edit_of_note, MayNote, IsNoted, SuitsNote, IsUnnoted};
+ghost use Rattle.live_engine.specs.declared.inverses.Inverse.TheVariants as inverses;
 
 use crate::edits::{Accepted, Refusal};
 use crate::inverses::Inverse;
 use kept_map::KeptMap;
 use layer_tiles::Text;
-use map_marks::Mark;
+use map_marks::{Mark, Taken};
 use map_nums::{NoMemory, Value};
 use map_waves::Counts;
 use map_words::Name;
@@ -29,47 +30,56 @@ pub(crate) enum Note {
     Symbol(Name, Value, u8),
 }
 
+/// What a note took the place of.
+#[derive(Drop)]
+pub enum NoteBack {
+    /// There was one procedure less.
+    Procedure,
+    /// The labels that one took the place of, with their places.
+    Label(Vec<Taken>),
+    /// The symbols, the same.
+    Symbol(Vec<Taken>),
+}
+
 /// Puts a note into a map, and answers what it takes the place of. Where memory is wanted the map is as before.
-fn put(map: &mut KeptMap, alloc: Global, note: Note) -> Result<Inverse, NoMemory>
+fn put(map: &mut KeptMap, alloc: Global, note: Note) -> Result<NoteBack, NoMemory>
     requires { MayNote (seen map.old) note }
     ensures { IsNoted map.old map.new note result }
 {
     match note {
         Note::Procedure(procedure) => {
             map.procedures.add(procedure)?;
-            Ok(Inverse::Procedure)
+            Ok(NoteBack::Procedure)
         }
         Note::Label(name, value, text) => {
             let before = map.labels.exchange(Mark { name, value, text })?;
-            Ok(Inverse::Label(before))
+            Ok(NoteBack::Label(before))
         }
         Note::Symbol(name, value, sign) => {
             let text = Text::of(alloc, &[sign])?;
             let before = map.symbols.exchange(Mark { name, value, text })?;
-            Ok(Inverse::Symbol(before))
+            Ok(NoteBack::Symbol(before))
         }
     }
 }
 
 /// Takes a note out of a map and gives back what it took the place of. Where memory is wanted the map is as before.
-fn put_out(map: &mut KeptMap, inverse: Inverse) -> Result<(), Inverse>
-    requires note { IsTrue (is_note inverse) }
-    requires fits { Fits map.old.extent (parts_of (seen map.old)) inverse }
-    ensures { IsUnnoted map.old map.new inverse result }
+fn put_out(map: &mut KeptMap, back: NoteBack) -> Result<(), NoteBack>
+    requires suits { SuitsNote (parts_of (seen map.old)) back }
+    ensures { IsUnnoted map.old map.new back result }
 {
-    match inverse {
-        Inverse::Procedure => map.procedures.drop_last(),
-        Inverse::Label(before) => {
+    match back {
+        NoteBack::Procedure => map.procedures.drop_last(),
+        NoteBack::Label(before) => {
             if let Err(before) = map.labels.give_back(before) {
-                return Err(Inverse::Label(before));
+                return Err(NoteBack::Label(before));
             }
         }
-        Inverse::Symbol(before) => {
+        NoteBack::Symbol(before) => {
             if let Err(before) = map.symbols.give_back(before) {
-                return Err(Inverse::Symbol(before));
+                return Err(NoteBack::Symbol(before));
             }
         }
-        Inverse::Name(_) | Inverse::Tiles(_) => unreachable!(),
     }
     Ok(())
 }
@@ -104,19 +114,18 @@ pub(crate) fn take_note(
     ensures kept { IsKept map.new }
 {
     let before = put(map, alloc, note)?;
-    Ok((count(map), before))
+    Ok((count(map), Inverse::Note(before)))
 }
 
 /// Takes back an edit that only noted something.
-pub(crate) fn take_back(map: &mut KeptMap, inverse: Inverse) -> Result<Accepted, Inverse>
+pub(crate) fn take_back(map: &mut KeptMap, back: NoteBack) -> Result<Accepted, Inverse>
     requires kept { IsKept map.old }
-    requires note { IsTrue (is_note inverse) }
-    requires fits { Fits map.old.extent (parts_of (seen map.old)) inverse }
-    ensures reverted { IsReverted (seen map.old) (seen map.new) inverse result }
+    requires fits { Fits map.old.extent (parts_of (seen map.old)) (inverses.Note back) }
+    ensures reverted { IsReverted (seen map.old) (seen map.new) (inverses.Note back) result }
     ensures kept { IsKept map.new }
 {
-    match put_out(map, inverse) {
+    match put_out(map, back) {
         Ok(()) => Ok(count(map)),
-        Err(inverse) => Err(inverse),
+        Err(back) => Err(Inverse::Note(back)),
     }
 }

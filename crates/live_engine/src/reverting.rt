@@ -80,6 +80,6 @@ pub(crate) fn revert<M: Tally + Send, G: Gate + Sync, R: Threads + Sync>(
     match inverse {
         Inverse::Name(draft) => name_back(map, crew, draft, tally),
         Inverse::Tiles(repaint) => tiles_back(map, crew, repaint, tally),
-        Inverse::Procedure | Inverse::Label(_) | Inverse::Symbol(_) => take_back(map, inverse),
+        Inverse::Note(back) => take_back(map, back),
     }
 }

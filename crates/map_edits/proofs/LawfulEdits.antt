@@ -1,7 +1,8 @@
 -- What each accepted edit keeps, though a statement may stand for several flat ones.
-use Rattle.std.proofs.Common.{◌≡◌, ℕ, ◌+◌, ◌≤◌, Bool, true, false, cond, nat_lt, List, [], ◌∷◌, ◌++◌, length, Option, Some, None, is_some, bytes_eq, Result, Ok, Err, refl, sym, ap, subst}
+use Rattle.std.proofs.Common.{◌≡◌, ℕ, ◌+◌, ◌≤◌, Bool, true, false, cond, nat_lt, List, [], ◌∷◌, length, Option, Some, None, is_some, bytes_eq, Result, Ok, Err, ◌⊎◌, inl, inr, refl, sym, ap, subst, arith}
 use Rattle.std.proofs.lemmas.Bool.{ltb-false}
-use Rattle.map_nums.specs.Grids.{Grid, constant}
+use Rattle.std.proofs.lemmas.List.{length-append}
+use Rattle.map_nums.specs.Grids.{Grid}
 use Rattle.map_defs.specs.Ops.{Name}
 use Rattle.map_defs.specs.Statements.{Procedure}
 use Rattle.map_defs.specs.MadeProcedures.{IsUndotted, AreMade}
@@ -14,22 +15,22 @@ use Rattle.map_edits.specs.LayerDefs.{layers, find_making, nodes_of}
 use Rattle.map_edits.specs.EngineStates.{EngineState}
 use Rattle.map_edits.specs.Faults.{Fault}
 use Rattle.map_edits.specs.Refusals.{Which, procedures, labels, symbols, Refusal, unknown, exists_already, beyond}
-use Rattle.map_edits.specs.Painting.{painted}
-use Rattle.map_edits.specs.EditForms.{Edit, load, new_layer, paint, define, drop_name}
+use Rattle.map_edits.specs.EditForms.{Edit, edited}
 use Rattle.map_edits.specs.EntriesAfter.{entries_with}
 use Rattle.map_edits.specs.Edits.{with_entries}
-use Rattle.map_edits.specs.Laws.{HasNoCycle, IsApart, edited}
+use Rattle.map_edits.specs.Laws.{HasNoCycle, IsApart}
 use Rattle.map_edits.specs.Marks.{put_mark}
 use Rattle.map_edits.specs.WholeStates.{WholeState}
-use Rattle.map_edits.specs.Pasts.{with_parts}
+use Rattle.map_edits.specs.Pasts.{Past, with_parts}
 use Rattle.map_edits.specs.WholeEdits.{WholeEdit, of_names, define_procedure, label, symbol, put_back}
-use Rattle.map_edits.specs.Attempts.{most_marks, most_procedures, unless_more, counted, marks_after, with_names, with_procedure, with_labels, with_symbols, attempted}
+use Rattle.map_edits.specs.Attempts.{most_marks, most_procedures, unless_more, marks_after, with_names, with_procedure, with_labels, with_symbols, attempted}
 use Rattle.map_edits.specs.StampsAfter.{stamped}
 use Rattle.map_edits.specs.Counted.{Accepted, fault_after, done, unless_fault, of_attempt, accept_counted}
-use Rattle.map_edits.specs.Touches.{touch_of}
+use Rattle.map_edits.specs.Touches.{nothing, touch_of}
 use Rattle.map_edits.specs.GroupLaws.{IsGroup, AreGroups, IsLawful, IsPlainEdit, IsSaid, LawfulStays}
 use Rattle.map_edits.proofs.Looks.{none_there}
-use Rattle.map_edits.proofs.Accepted.{cond_err, cond_ok, IsEdited, edited_is}
+use Rattle.map_edits.specs.LimitLaws.{AreFew}
+use Rattle.map_edits.proofs.Accepted.{cond_err, cond_ok, IsMade, edited_is}
 use Rattle.map_edits.proofs.Puts.{apart_put, apart_drop}
 use Rattle.map_edits.proofs.Heads.{head_of}
 use Rattle.map_edits.proofs.Groups.{groups_put, groups_drop}
@@ -60,17 +61,15 @@ module _ (es : List Entry) (n : Name) (good : AreGood es) where
   source_good grid new plain is = subst (IsGoodChange es n) (sym is) (put_good (source grid) plain tt (source_keeps_none es n good.groups good.apart good.none_looped plain grid))
 
 pub entries_good : (ps : List Procedure) (s : EngineState) (edit : Edit) (new : List Entry) → AreMade ps → AreGood s.entries → IsPlainEdit edit → entries_with ps s edit ≡ Ok new → IsGoodChange s.entries (edited edit) new
-entries_good ps s edit new made good plain e = by_edit edit plain (edited_is ps s edit new e)
+entries_good ps s edit new made good plain e = let r = edited_is ps s edit new e in by_made (edited edit) (r.plain plain) r.made
   where
-    by_edit : (edit : Edit) → IsPlainEdit edit → IsEdited ps s new edit → IsGoodChange s.entries (edited edit) new
-    by_edit (load n grid) plain added = source_good s.entries n good grid new plain added.is
-    by_edit (new_layer n cell) plain added = source_good s.entries n good (constant s.size cell) new plain added.is
-    by_edit (paint n r cell) plain put = source_good s.entries n good (painted s.size r cell put.grid) new plain put.is
-    by_edit (define n written) plain put =
-        let group = expansion_naming ps n written put.flats (made_bodies [] ps made) plain.1 put.expanded in
-        let none = statement_keeps_none s.entries n good.groups good.apart good.none_looped plain.0 written put.flats group put.alone in
-        subst (IsGoodChange s.entries n) (sym put.is) (put_good s.entries n good (statement written put.flats) plain.0 group none)
-    by_edit (drop_name n) plain is = subst (IsGoodChange s.entries n) (sym is) (record { good = drop_good s.entries n good; makings = making_stays s.entries n good.groups good.apart })
+    by_made : (n : Name) → IsUndotted n → IsMade ps s.entries new n (IsPlainEdit edit) → IsGoodChange s.entries n new
+    by_made n own (inl put) = source_good s.entries n good put.grid new own put.is
+    by_made n own (inr (inl put)) =
+        let group = expansion_naming ps n put.written put.flats (made_bodies [] ps made) (put.plain plain) put.expanded in
+        let none = statement_keeps_none s.entries n good.groups good.apart good.none_looped own put.written put.flats group put.alone in
+        subst (IsGoodChange s.entries n) (sym put.is) (put_good s.entries n good (statement put.written put.flats) own group none)
+    by_made n own (inr (inr is)) = subst (IsGoodChange s.entries n) (sym is) (record { good = drop_good s.entries n good; makings = making_stays s.entries n good.groups good.apart })
 
 -- ---- the whole state
 
@@ -88,68 +87,95 @@ within_limit most count which u t e = go (nat_lt most count) refl e
     go true h e = absurd cc
     go false h e = (cc, ltb-false most count h)
 
-pub within_is : (most count : ℕ) (which : Which) (u t : WholeState) → unless_more most count which u ≡ Ok t → u ≡ t
-within_is most count which u t e = (within_limit most count which u t e).0
+-- an edit of names that isn't refused
+pub record IsOfNames (s t : WholeState) (edit : Edit) : Type 0 where
+  pub entries : List Entry
+  pub made : entries_with s.procedures s.names edit ≡ Ok entries
+  pub is : t ≡ record s { names = with_entries s.names entries; labels = marks_after edit s.labels; symbols = marks_after edit s.symbols }
 
--- a test is passed
-pub known_is : (b : Bool) (r : Refusal) (o : Result WholeState Refusal) (t : WholeState) → cond b o (Err r) ≡ Ok t → o ≡ Ok t
-known_is b r o t e = cond_ok b r o t e
-
-pub new_is : (b : Bool) (r : Refusal) (o : Result WholeState Refusal) (t : WholeState) → cond b (Err r) o ≡ Ok t → (b ≡ false) × (o ≡ Ok t)
-new_is b r o t e = cond_err b r o t e
+-- an edit beside the names, which stay, and nothing of them is touched
+pub record LeavesNames (s t : WholeState) (e : WholeEdit) : Type 0 where
+  pub names : t.names ≡ with_entries s.names s.names.entries
+  pub touch : touch_of e ≡ nothing
+  pub made : IsSaid s e → AreMade s.procedures → AreMade t.procedures
+  pub few : AreFew s → AreFew t
 
 -- what an edit that isn't refused makes
 abbrev pub IsTried : WholeState → WholeState → WholeEdit → Type 0
-IsTried s t (of_names edit) =
-    (es : List Entry) × (entries_with s.procedures s.names edit ≡ Ok es) × (t ≡ record s { names = with_entries s.names es; labels = marks_after edit s.labels; symbols = marks_after edit s.symbols })
-IsTried s t (define_procedure p) =
-    (find_procedure s.procedures p.name ≡ None) × (wrong_call s.procedures p.body ≡ None) × (length s.procedures + 1 ≤ most_procedures) × (t ≡ record (counted s) { procedures = s.procedures ++ p ∷ [] })
-IsTried s t (label n z text) = (length (put_mark s.labels n z text) ≤ most_marks) × (t ≡ record (counted s) { labels = put_mark s.labels n z text })
-IsTried s t (symbol n z sign) = (length (put_mark s.symbols n z (sign ∷ [])) ≤ most_marks) × (t ≡ record (counted s) { symbols = put_mark s.symbols n z (sign ∷ []) })
-IsTried s t (put_back p) = t ≡ with_parts s p.parts
+IsTried s t e = ((edit : Edit) × (e ≡ of_names edit) × IsOfNames s t edit) ⊎ ((p : Past) × (e ≡ put_back p) × (t ≡ with_parts s p.parts)) ⊎ LeavesNames s t e
 
 module _ (s t : WholeState) where
-  names_tried : (edit : Edit) (o : Result (List Entry) Refusal) → entries_with s.procedures s.names edit ≡ o → with_names s edit o ≡ Ok t → IsTried s t (of_names edit)
+  names_tried : (edit : Edit) (o : Result (List Entry) Refusal) → entries_with s.procedures s.names edit ≡ o → with_names s edit o ≡ Ok t → IsOfNames s t edit
   names_tried edit (Err r) is e = absurd cc
-  names_tried edit (Ok es) is e = (es, is, cc)
+  names_tried edit (Ok es) is e = record { entries = es; made = is; is = cc }
 
-  procedure_tried : (p : Procedure) (o : Option WrongCall) → find_procedure s.procedures p.name ≡ None → wrong_call s.procedures p.body ≡ o → with_procedure s p o ≡ Ok t → IsTried s t (define_procedure p)
+  pub of_names_tried : (edit : Edit) → attempted s (of_names edit) ≡ Ok t → IsOfNames s t edit
+  of_names_tried edit e = names_tried edit (entries_with s.procedures s.names edit) refl e
+
+  procedure_tried : (p : Procedure) (o : Option WrongCall) → find_procedure s.procedures p.name ≡ None → wrong_call s.procedures p.body ≡ o → with_procedure s p o ≡ Ok t → LeavesNames s t (define_procedure p)
   procedure_tried p (Some (not_defined q)) new is e = absurd cc
   procedure_tried p (Some (wrong_count given wanted)) new is e = absurd cc
-  procedure_tried p None new is e = let r = within_limit most_procedures (length s.procedures + 1) procedures _ t e in (new, is, r.1, sym r.0)
+  procedure_tried p None new is e =
+      let r = within_limit most_procedures (length s.procedures + 1) procedures _ t e in
+      let longer = length-append s.procedures (p ∷ []) in let room = r.1 in
+      subst (λ u. LeavesNames s u (define_procedure p)) r.0 (record {
+        names = refl;
+        touch = refl;
+        made = λ said made. made_more s.procedures p made new is said;
+        few = λ few. record { sources = few.sources; flats = few.flats; procedures = omega arith; labels = few.labels; symbols = few.symbols };
+      })
 
   pub tried : (e : WholeEdit) → attempted s e ≡ Ok t → IsTried s t e
-  tried (of_names edit) e = names_tried edit (entries_with s.procedures s.names edit) refl e
+  tried (of_names edit) e = inl (edit, refl, of_names_tried edit e)
+  tried (put_back p) e = inr (inl (p, refl, cc))
   tried (define_procedure p) e =
-      let r = new_is (is_some (find_procedure s.procedures p.name)) (exists_already p.name) (with_procedure s p (wrong_call s.procedures p.body)) t e in
-      procedure_tried p (wrong_call s.procedures p.body) (none_there (find_procedure s.procedures p.name) r.0) refl r.1
+      let r = cond_err (is_some (find_procedure s.procedures p.name)) (exists_already p.name) (with_procedure s p (wrong_call s.procedures p.body)) t e in
+      inr (inr (procedure_tried p (wrong_call s.procedures p.body) (none_there (find_procedure s.procedures p.name) r.0) refl r.1))
   tried (label n z text) e =
-      let known = known_is (is_some (find_def s.names.entries n)) (unknown n) (with_labels s (put_mark s.labels n z text)) t e in
+      let known = cond_ok (is_some (find_def s.names.entries n)) (unknown n) (with_labels s (put_mark s.labels n z text)) t e in
       let r = within_limit most_marks (length (put_mark s.labels n z text)) labels _ t known in
-      (r.1, sym r.0)
+      inr (inr (subst (λ u. LeavesNames s u (label n z text)) r.0 (record {
+        names = refl;
+        touch = refl;
+        made = λ said made. made;
+        few = λ few. record { sources = few.sources; flats = few.flats; procedures = few.procedures; labels = r.1; symbols = few.symbols };
+      })))
   tried (symbol n z sign) e =
-      let known = known_is (is_some (find_def s.names.entries n)) (unknown n) (with_symbols s (put_mark s.symbols n z (sign ∷ []))) t e in
+      let known = cond_ok (is_some (find_def s.names.entries n)) (unknown n) (with_symbols s (put_mark s.symbols n z (sign ∷ []))) t e in
       let r = within_limit most_marks (length (put_mark s.symbols n z (sign ∷ []))) symbols _ t known in
-      (r.1, sym r.0)
-  tried (put_back p) e = cc
+      inr (inr (subst (λ u. LeavesNames s u (symbol n z sign)) r.0 (record {
+        names = refl;
+        touch = refl;
+        made = λ said made. made;
+        few = λ few. record { sources = few.sources; flats = few.flats; procedures = few.procedures; labels = few.labels; symbols = r.1 };
+      })))
+
+  -- the state has the size of the one before, and one edit more
+  pub attempt_counts : (e : WholeEdit) → attempted s e ≡ Ok t → t.names ≡ with_entries s.names t.names.entries
+  attempt_counts e is = by_kind (tried e is)
+    where
+      by_kind : IsTried s t e → t.names ≡ with_entries s.names t.names.entries
+      by_kind (inl r) = rw r.2.is
+      by_kind (inr (inl r)) = rw r.2
+      by_kind (inr (inr r)) = rw r.names
 
 module _ (s t : WholeState) (l : IsLawful s) where
   pub attempt_lawful : (e : WholeEdit) → IsSaid s e → attempted s e ≡ Ok t → IsLawful t
-  attempt_lawful e said is = by_edit e said (tried s t e is)
+  attempt_lawful e said is = by_kind (tried s t e is)
     where
-      by_edit : (e : WholeEdit) → IsSaid s e → IsTried s t e → IsLawful t
-      by_edit (of_names edit) said r = subst IsLawful (sym r.2) (lawful_by _ l.made (entries_good s.procedures s.names edit r.0 l.made (good_of s l) said r.1).good)
-      by_edit (define_procedure p) said r = subst IsLawful (sym r.3) (lawful_by _ (made_more s.procedures p l.made r.0 r.1 said) (good_of s l))
-      by_edit (label n z text) said r = subst IsLawful (sym r.1) (lawful_by _ l.made (good_of s l))
-      by_edit (symbol n z sign) said r = subst IsLawful (sym r.1) (lawful_by _ l.made (good_of s l))
-      by_edit (put_back p) said is = subst IsLawful (sym is) (record { made = said.made; groups = said.groups; apart = said.apart; none_looped = said.none_looped })
+      by_kind : IsTried s t e → IsLawful t
+      by_kind (inl (edit, same, r)) =
+          subst IsLawful (sym r.is) (lawful_by _ l.made (entries_good s.procedures s.names edit r.entries l.made (good_of s l) (subst (IsSaid s) same said) r.made).good)
+      by_kind (inr (inl (p, same, is))) =
+          let back : IsSaid s (put_back p) = subst (IsSaid s) same said in
+          subst IsLawful (sym is) (record { made = back.made; groups = back.groups; apart = back.apart; none_looped = back.none_looped })
+      by_kind (inr (inr r)) = lawful_by t (r.made said l.made) (subst (λ (u : EngineState). AreGood u.entries) (sym r.names) (good_of s l))
 
   -- an edit of names makes a good change
-  pub names_changed : (edit : Edit) → IsPlainEdit edit → attempted s (of_names edit) ≡ Ok t → (s.names.size ≡ t.names.size) × IsGoodChange s.names.entries (edited edit) t.names.entries
-  names_changed edit plain is =
-      let r = tried s t (of_names edit) is in
-      let change = entries_good s.procedures s.names edit r.0 l.made (good_of s l) plain r.1 in
-      (ap (λ (u : WholeState). u.names.size) (sym r.2), subst (λ (u : WholeState). IsGoodChange s.names.entries (edited edit) u.names.entries) (sym r.2) change)
+  pub names_changed : (edit : Edit) → IsPlainEdit edit → IsOfNames s t edit → (s.names.size ≡ t.names.size) × IsGoodChange s.names.entries (edited edit) t.names.entries
+  names_changed edit plain r =
+      let change = entries_good s.procedures s.names edit r.entries l.made (good_of s l) plain r.made in
+      (ap (λ (u : WholeState). u.names.size) (sym r.is), subst (λ (u : WholeState). IsGoodChange s.names.entries (edited edit) u.names.entries) (sym r.is) change)
 
 -- ---- what an accepted edit makes
 

@@ -1,6 +1,6 @@
 -- No accepted edit leaves a fault, though a statement may stand for several flat ones.
-use Rattle.std.proofs.Common.{◌≡◌, None, sym, ap, subst, ◌∙◌, ℕ, zero, suc, Bool, true, false, ◌&&◌, nat_lt, List, [], ◌∷◌, map, flat_map, length, Option, Some, is_some, option_map, unwrap_or, bytes_eq, if◌then◌else◌, refl, ◌⊎◌, inl, inr}
-use Rattle.std.proofs.lemmas.Bool.{true≢false, false≢true, or_left, or_right}
+use Rattle.std.proofs.Common.{◌≡◌, None, cond, sym, ap, subst, ◌∙◌, ℕ, zero, suc, Bool, true, false, ◌&&◌, nat_lt, List, [], ◌∷◌, map, flat_map, length, Option, Some, is_some, option_map, unwrap_or, bytes_eq, if◌then◌else◌, refl, ◌⊎◌, inl, inr}
+use Rattle.std.proofs.lemmas.Bool.{cases_Bool, true≢false, false≢true, or_left, or_right}
 use Rattle.std.proofs.lemmas.List.Folds.{list_any-append}
 use Rattle.std.proofs.lemmas.Option.{none-some}
 use Rattle.map_defs.specs.Ops.{Name, Term, layer_term, number_term, Op, term_names}
@@ -9,10 +9,10 @@ use Rattle.map_edits.specs.Entries.{drop_entry}
 use Rattle.map_edits.specs.LayerDefs.{layers, find_making, nodes_of, Making, given_grid, by_op}
 use Rattle.map_edits.specs.EngineStates.{EngineState, value_of, all_some, term_cells, made}
 use Rattle.map_edits.specs.Faults.{fault_of_layer, fault_of, Fault, too_many_viewers, viewers_of, wide_place, overflow_at}
-use Rattle.map_edits.specs.EditForms.{load, new_layer, paint, define, drop_name}
-use Rattle.map_edits.specs.Edits.{with_entries}
+use Rattle.map_edits.specs.EditForms.{edited}
+use Rattle.map_edits.specs.Edits.{may_fault, with_entries}
 use Rattle.map_edits.specs.WholeStates.{WholeState}
-use Rattle.map_edits.specs.WholeEdits.{WholeEdit, of_names, define_procedure, label, symbol, put_back}
+use Rattle.map_edits.specs.WholeEdits.{WholeEdit, put_back}
 use Rattle.map_edits.specs.Counted.{fault_after}
 use Rattle.map_edits.specs.GroupLaws.{IsLawful, IsSaid, PutsBackReached, NoFaultStays}
 use Rattle.map_nums.specs.Grids.{Size, Cells, Grid}
@@ -178,25 +178,22 @@ module _ (s t : WholeState) (l : IsLawful s) (none : fault_of s.names ≡ None) 
 
   -- what no test of faults is made for has none
   untested : (e : WholeEdit) → PutsBackReached s e → IsTried s t e → fault_after e t ≡ None → fault_of t.names ≡ None
-  untested (of_names (load n grid)) reached r fault = fault
-  untested (of_names (new_layer n cell)) reached r fault = fault
-  untested (of_names (paint n area cell)) reached r fault = fault
-  untested (of_names (define n written)) reached r fault = fault
-  untested (of_names (drop_name n)) reached r fault =
-      let names : t.names ≡ with_entries s.names r.0 = ap (λ (u : WholeState). u.names) r.2 in
-      drop_faultless s.names t.names n (ap (λ (u : EngineState). u.size) names) (ap (λ (u : EngineState). u.entries) names ∙ edited_is s.procedures s.names (drop_name n) r.0 r.1) (good_of s l) none
-  untested (define_procedure p) reached r fault = as_counted t.names (ap (λ (u : WholeState). u.names) r.3)
-  untested (label n z text) reached r fault = as_counted t.names (ap (λ (u : WholeState). u.names) r.1)
-  untested (symbol n z sign) reached r fault = as_counted t.names (ap (λ (u : WholeState). u.names) r.1)
-  untested (put_back p) reached is fault = subst (λ (u : WholeState). fault_of u.names ≡ None) (sym is) reached.faultless
+  untested e reached (inl (edit, same, r)) fault = elim (cases_Bool (may_fault edit)) [
+    | inl tested ↦ sym (ap (λ b. cond b (fault_of t.names) None) tested) ∙ subst (λ x. fault_after x t ≡ None) same fault
+    | inr free ↦
+        let names : t.names ≡ with_entries s.names r.entries = ap (λ (u : WholeState). u.names) r.is in
+        drop_faultless s.names t.names (edited edit) (ap (λ (u : EngineState). u.size) names)
+        (ap (λ (u : EngineState). u.entries) names ∙ (edited_is s.procedures s.names edit r.entries r.made).untested free) (good_of s l) none
+  ]
+  untested e reached (inr (inl (p, same, is))) fault =
+      let back : PutsBackReached s (put_back p) = subst (PutsBackReached s) same reached in
+      subst (λ (u : WholeState). fault_of u.names ≡ None) (sym is) back.faultless
+  untested e reached (inr (inr r)) fault = as_counted t.names r.names
 
 -- what a line can say puts nothing back, and what an undo puts back was reached
 pub said_puts_back : (s : WholeState) (e : WholeEdit) → IsSaid s e → PutsBackReached s e
 said_puts_back s (put_back p) said = said
-said_puts_back s (of_names edit) said = tt
-said_puts_back s (define_procedure p) said = tt
-said_puts_back s (label n z text) said = tt
-said_puts_back s (symbol n z sign) said = tt
+said_puts_back s e said = tt
 
 pub no_fault_stays : NoFaultStays
 no_fault_stays s e a l none reached is =

@@ -8,7 +8,8 @@ use Rattle.map_defs.specs.Nodes.{needs_in, Node}
 use Rattle.map_defs.specs.Depths.{reaches, is_looped}
 use Rattle.map_edits.specs.LayerDefs.{nodes_of, layers, find_making}
 use Rattle.map_edits.specs.EngineStates.{EngineState, value_of, made}
-use Rattle.map_edits.specs.Laws.{is_among, edited, HasNoCycle}
+use Rattle.map_edits.specs.EditForms.{edited}
+use Rattle.map_edits.specs.Laws.{is_among, HasNoCycle}
 use Rattle.map_edits.specs.WholeStates.{WholeState}
 use Rattle.map_edits.specs.WholeEdits.{of_names}
 use Rattle.map_edits.specs.ValueLaws.{OthersKeepValues, NoneIsLawful}
@@ -17,7 +18,7 @@ use Rattle.map_edits.proofs.Kept.{not_here}
 use Rattle.map_edits.proofs.Heads.{head_of}
 use Rattle.map_edits.proofs.Groups.{apart_from}
 use Rattle.map_edits.proofs.GroupsKept.{all_near}
-use Rattle.map_edits.proofs.LawfulEdits.{AreGood, good_of, IsGoodChange, names_changed, done_is}
+use Rattle.map_edits.proofs.LawfulEdits.{AreGood, good_of, IsGoodChange, of_names_tried, names_changed, done_is}
 use Rattle.map_edits.proofs.Chains.{goes_on, chains_end}
 use Rattle.map_edits.proofs.Looks.{needs_in-layers}
 use Rattle.map_edits.proofs.Unfolds.{made_agree, value_unfolds}
@@ -97,7 +98,7 @@ module _ (s t : EngineState) (n : Name) (good : AreGood s.entries) (size : s.siz
 pub others_keep_values : OthersKeepValues
 others_keep_values s edit a m l plain is outside free =
     let r = done_is s (of_names edit) a is in
-    let change = names_changed s r.state l edit plain r.is in
+    let change = names_changed s r.state l edit plain (of_names_tried s r.state edit r.is) in
     let good = good_of s l in
     let differs = not_here (length (nodes_of s.names.entries)) (nodes_of s.names.entries) (edited edit) m free in
     ap (λ (u : WholeState). value_of u.names m) (sym r.whole) ∙ sym (other_value s.names r.state.names (edited edit) good change.0 change.1 m (apart_by (edited edit) m outside differs, free))

@@ -4,7 +4,7 @@ use Rattle.map_edits.specs.Faults.{Fault, fault_of}
 use Rattle.map_edits.specs.Refusals.{Refusal, fault}
 use Rattle.map_edits.specs.Edits.{may_fault}
 use Rattle.map_edits.specs.WholeStates.{WholeState}
-use Rattle.map_edits.specs.WholeEdits.{WholeEdit, of_names, define_procedure, label, symbol, put_back}
+use Rattle.map_edits.specs.WholeEdits.{WholeEdit, of_names}
 use Rattle.map_edits.specs.Attempts.{attempted}
 use Rattle.map_edits.specs.Touches.{Touch, touch_of}
 use Rattle.map_edits.specs.EditCounts.{Counts, counts_of}
@@ -17,10 +17,7 @@ pub record Accepted : Type 0 where
 -- the rows of drops, procedures, labels and symbols have no fault, nor has what is put back
 abbrev pub has_fault_row : WholeEdit → Bool
 has_fault_row (of_names edit) = may_fault edit
-has_fault_row (define_procedure p) = false
-has_fault_row (label n z text) = false
-has_fault_row (symbol n z sign) = false
-has_fault_row (put_back p) = false
+has_fault_row e = false
 
 -- the fault for which an edit is refused, by the state that it would make
 abbrev pub fault_after : WholeEdit → WholeState → Option Fault

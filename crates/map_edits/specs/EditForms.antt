@@ -19,6 +19,14 @@ pub data Edit : Type 0 where
   define : Name → Written → Edit
   drop_name : Name → Edit
 
+-- the name that an edit puts or drops
+abbrev pub edited : Edit → Name
+edited (load n grid) = n
+edited (new_layer n cell) = n
+edited (paint n r cell) = n
+edited (define n written) = n
+edited (drop_name n) = n
+
 -- what an edit touches: all that stands for a name, or a rectangle of a source
 pub data Touch : Type 0 where
   nothing : Touch

@@ -6,11 +6,11 @@ use Rattle.map_defs.specs.MadeProcedures.{IsUndotted, written_names, IsBody, Are
 use Rattle.map_edits.specs.Entries.{Def, source, statement, Entry}
 use Rattle.map_edits.specs.LayerDefs.{nodes_of}
 use Rattle.map_edits.specs.Faults.{fault_of}
-use Rattle.map_edits.specs.EditForms.{Edit, load, new_layer, paint, define, drop_name}
+use Rattle.map_edits.specs.EditForms.{Edit, define, edited}
 use Rattle.map_edits.specs.Laws.{HasNoCycle, IsApart}
 use Rattle.map_edits.specs.WholeStates.{WholeState}
 use Rattle.map_edits.specs.Pasts.{Past}
-use Rattle.map_edits.specs.WholeEdits.{WholeEdit, of_names, define_procedure, label, symbol, put_back}
+use Rattle.map_edits.specs.WholeEdits.{WholeEdit, of_names, define_procedure, put_back}
 use Rattle.map_edits.specs.Edits.{with_entries}
 use Rattle.map_edits.specs.Touching.{ChangesOnly}
 use Rattle.map_edits.specs.Counted.{Accepted, accept_counted}
@@ -33,11 +33,8 @@ pub record IsLawful (s : WholeState) : Type 0 where
 
 -- names without a dot
 abbrev pub IsPlainEdit : Edit → Type 0
-IsPlainEdit (load n grid) = IsUndotted n
-IsPlainEdit (new_layer n cell) = IsUndotted n
-IsPlainEdit (paint n r cell) = IsUndotted n
 IsPlainEdit (define n written) = IsUndotted n × Each IsUndotted (written_names written)
-IsPlainEdit (drop_name n) = IsUndotted n
+IsPlainEdit edit = IsUndotted (edited edit)
 
 -- the parts of a state that was reached: they are lawful, have no fault, and differ from those of this state in what is touched alone
 pub record IsReached (s : WholeState) (p : Past) : Type 0 where
@@ -52,9 +49,8 @@ pub record IsReached (s : WholeState) (p : Past) : Type 0 where
 abbrev pub IsSaid : WholeState → WholeEdit → Type 0
 IsSaid s (of_names edit) = IsPlainEdit edit
 IsSaid s (define_procedure p) = IsBody p.body
-IsSaid s (label n z text) = ⊤
-IsSaid s (symbol n z sign) = ⊤
 IsSaid s (put_back p) = IsReached s p
+IsSaid s e = ⊤
 
 abbrev pub LawfulStays : Type 0
 LawfulStays = (s : WholeState) (e : WholeEdit) (a : Accepted) → IsLawful s → IsSaid s e → accept_counted s e ≡ Ok a → IsLawful a.state
@@ -62,10 +58,7 @@ LawfulStays = (s : WholeState) (e : WholeEdit) (a : Accepted) → IsLawful s →
 -- of what is put back alone this is asked
 abbrev pub PutsBackReached : WholeState → WholeEdit → Type 0
 PutsBackReached s (put_back p) = IsReached s p
-PutsBackReached s (of_names edit) = ⊤
-PutsBackReached s (define_procedure p) = ⊤
-PutsBackReached s (label n z text) = ⊤
-PutsBackReached s (symbol n z sign) = ⊤
+PutsBackReached s e = ⊤
 
 -- no accepted edit leaves a fault, though the rows of some have none
 abbrev pub NoFaultStays : Type 0

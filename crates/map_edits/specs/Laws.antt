@@ -5,7 +5,6 @@ use Rattle.map_defs.specs.Ops.{Name}
 use Rattle.map_defs.specs.Nodes.{Node}
 use Rattle.map_defs.specs.Depths.{is_looped}
 use Rattle.map_edits.specs.Entries.{Entry, find_def}
-use Rattle.map_edits.specs.EditForms.{Edit, load, new_layer, paint, define, drop_name}
 
 -- the name is one of these
 abbrev pub is_among : Name → List Name → Bool
@@ -23,11 +22,3 @@ HasNoCycle nodes = (n : Name) → is_looped nodes n ≡ false
 abbrev pub IsApart : List Entry → Type 0
 IsApart [] = ⊤
 IsApart (e ∷ es) = (find_def es e.name ≡ None) × IsApart es
-
--- the name that an edit puts or drops
-abbrev pub edited : Edit → Name
-edited (load n grid) = n
-edited (new_layer n cell) = n
-edited (paint n r cell) = n
-edited (define n written) = n
-edited (drop_name n) = n

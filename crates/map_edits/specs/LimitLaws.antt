@@ -4,7 +4,7 @@ use Rattle.map_edits.specs.LayerDefs.{layers}
 use Rattle.map_edits.specs.Limits.{most_sources, is_source, kinds, AreWithin}
 use Rattle.map_edits.specs.WholeStates.{WholeState}
 use Rattle.map_edits.specs.Pasts.{with_parts}
-use Rattle.map_edits.specs.WholeEdits.{WholeEdit, of_names, define_procedure, label, symbol, put_back}
+use Rattle.map_edits.specs.WholeEdits.{WholeEdit, put_back}
 use Rattle.map_edits.specs.Attempts.{most_marks, most_procedures}
 use Rattle.map_edits.specs.Counted.{Accepted, accept_counted}
 
@@ -18,10 +18,7 @@ pub record AreFew (s : WholeState) : Type 0 where
 -- of what is put back alone this is asked
 abbrev pub PutsBackFew : WholeState → WholeEdit → Type 0
 PutsBackFew s (put_back p) = AreFew (with_parts s p.parts)
-PutsBackFew s (of_names edit) = ⊤
-PutsBackFew s (define_procedure p) = ⊤
-PutsBackFew s (label n z text) = ⊤
-PutsBackFew s (symbol n z sign) = ⊤
+PutsBackFew s e = ⊤
 
 abbrev pub FewStay : Type 0
 FewStay = (s : WholeState) (e : WholeEdit) (a : Accepted) → AreFew s → PutsBackFew s e → accept_counted s e ≡ Ok a → AreFew a.state

@@ -8,24 +8,19 @@ use Rattle.map_defs.specs.Differences.{tile_has}
 use Rattle.map_edits.specs.Entries.{Entry}
 use Rattle.map_edits.specs.LayerDefs.{LayerDef, layers_of}
 pub use Rattle.map_edits.specs.EditForms.{Touch, nothing, whole, within}
-use Rattle.map_edits.specs.EditForms.{Edit, load, new_layer, paint, define, drop_name}
+use Rattle.map_edits.specs.EditForms.{Edit, paint, edited}
 use Rattle.map_edits.specs.Painting.{holds}
-use Rattle.map_edits.specs.WholeEdits.{WholeEdit, of_names, define_procedure, label, symbol, put_back}
+use Rattle.map_edits.specs.WholeEdits.{WholeEdit, of_names, put_back}
 
 abbrev pub touch_of_names : Edit → Touch
-touch_of_names (load n grid) = whole n
-touch_of_names (new_layer n cell) = whole n
 touch_of_names (paint n r cell) = within n r
-touch_of_names (define n written) = whole n
-touch_of_names (drop_name n) = whole n
+touch_of_names edit = whole (edited edit)
 
 -- an edit and its undoing touch the same; what isn't there afterwards doesn't count
 abbrev pub touch_of : WholeEdit → Touch
 touch_of (of_names edit) = touch_of_names edit
-touch_of (define_procedure p) = nothing
-touch_of (label n z text) = nothing
-touch_of (symbol n z sign) = nothing
 touch_of (put_back p) = p.touch
+touch_of e = nothing
 
 -- layer n is one of those that stand for name m
 abbrev pub stands_for : List Entry → Name → Name → Bool

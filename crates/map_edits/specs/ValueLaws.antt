@@ -7,8 +7,8 @@ use Rattle.map_defs.specs.Depths.{reaches}
 use Rattle.map_defs.specs.FlatNames.{IsInside}
 use Rattle.map_edits.specs.LayerDefs.{layers, find_making, nodes_of}
 use Rattle.map_edits.specs.EngineStates.{EngineState, made, value_of}
-use Rattle.map_edits.specs.EditForms.{Edit}
-use Rattle.map_edits.specs.Laws.{HasNoCycle, edited}
+use Rattle.map_edits.specs.EditForms.{Edit, edited}
+use Rattle.map_edits.specs.Laws.{HasNoCycle}
 use Rattle.map_edits.specs.WholeStates.{WholeState, no_names}
 use Rattle.map_edits.specs.WholeEdits.{of_names}
 use Rattle.map_edits.specs.Counted.{Accepted, accept_counted}

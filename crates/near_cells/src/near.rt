@@ -70,24 +70,6 @@ impl NearCells {
         NearCells::filled(cells, window, extent, tile, reach)
     }
 
-    /// The cells round another tile, in this buffer's memory.
-    pub fn refilled(
-        self,
-        window: &Window<'_>,
-        extent: Extent,
-        tile: u32,
-        reach: u32,
-    ) -> Result<NearCells, NoMemory>
-        requires window { window.now ≡ window_of extent window.now.cells tile reach }
-        requires within { tile < tiles_in extent }
-        requires reach { reach ≤ 64 }
-        ensures { IfOk result (IsNear extent window.now.cells tile reach) }
-    {
-        let NearCells { mut cells, .. } = self;
-        cells.clear();
-        NearCells::filled(cells, window, extent, tile, reach)
-    }
-
     /// Fills an empty list, row by row.
     fn filled(
         mut cells: Vec<Cell>,

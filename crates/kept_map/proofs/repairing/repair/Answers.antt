@@ -1,33 +1,21 @@
-use Rattle.std.proofs.Common.{◌≡◌, ℕ, ◌*◌, List, length, Option, sym, ap, subst, ◌∙◌, arith}
-use Rattle.layer_tiles.specs.Tallies.{RisesBy}
+use Rattle.std.proofs.Common.{◌≡◌, length, ap, ◌∙◌, arith}
 use Rattle.statement_parser.specs.Views.{op_view}
-use Rattle.statement_parser.specs.declared.op.Op.{Op as Given}
 use Rattle.map_waves.specs.Plans.{changed_to, evaluated_to, worked_to}
-use Rattle.map_waves.specs.Bases.{ArePlanned, AreRight, plan_of}
-use Rattle.map_waves.specs.Prepared.{ArePrepared}
-use Rattle.map_waves.specs.Phases.{IsStop, IsReachedAt}
-use Rattle.map_waves.specs.declared.keeping.Made.{Made}
-use Rattle.map_waves.specs.declared.plans.Step.{Step}
+use Rattle.map_waves.specs.Bases.{plan_of}
+use Rattle.map_waves.specs.Phases.{IsStop}
 use Rattle.map_waves.proofs.Phasing.{prepared_faultless}
 use Rattle.op_jobs.specs.Beside.{suits}
-use Rattle.op_jobs.specs.declared.beside.Beside.{Beside}
-use Rattle.op_jobs.specs.Ranges.{HasRanges}
 use Rattle.kept_map.proofs.Allowed.{told_is, reached_by}
 use Rattle.kept_map.proofs.repairing.repair.Goals as goal
 
 pub repair_all-requires-clause-planned : goal.repair_all-requires-clause-planned
-repair_all-requires-clause-planned g c κs within = subst (λ xs. ArePlanned op_view (λ o. HasRanges (op_view o)) c.args.base.now xs) (sym c.as_slice.ensures.value) c.requires.planned
+repair_all-requires-clause-planned g c κs within = rw c.as_slice.ensures.value c.requires.planned
 
 pub repair_all-requires-clause-right : goal.repair_all-requires-clause-right
-repair_all-requires-clause-right g c κs within = subst (λ xs. AreRight op_view suits c.args.base.now xs) (sym c.as_slice.ensures.value) c.requires.right
+repair_all-requires-clause-right g c κs within = rw c.as_slice.ensures.value c.requires.right
 
 pub count_all-counts-requires-clause-prepared : goal.count_all-counts-requires-clause-prepared
-count_all-counts-requires-clause-prepared g c κs =
-    let base = c.args.base.now in
-    let items = c.args.planned.now.steps.items in
-    let prepared : ArePrepared op_view suits base items 0 c.in-Ok.made.items = subst (λ xs. ArePrepared op_view suits base xs 0 c.in-Ok.made.items) c.as_slice.ensures.value c.in-Ok.ensures.all.1 in
-    subst (λ xs. ArePrepared op_view suits base xs 0 c.as_slice-in-Ok-2.result.now) (sym c.as_slice-in-Ok.ensures.value)
-    (subst (λ (rs : List (Option (Made Beside))). ArePrepared op_view suits base items 0 rs) (sym c.as_slice-in-Ok-2.ensures.value) prepared)
+count_all-counts-requires-clause-prepared g c κs = rw (c.as_slice-in-Ok.ensures.value, c.as_slice-in-Ok-2.ensures.value) (rw c.as_slice.ensures.value at c.in-Ok.ensures.all.1)
 
 pub returns-in-Ok : goal.returns-in-Ok
 returns-in-Ok g c =
@@ -35,7 +23,7 @@ returns-in-Ok g c =
     let items = c.args.planned.now.steps.items in
     let same = c.as_slice.ensures.value in
     let counted = c.as_slice-in-Ok.ensures.value in
-    let prepared : ArePrepared op_view suits base items 0 c.in-Ok.made.items = subst (λ xs. ArePrepared op_view suits base xs 0 c.in-Ok.made.items) same c.in-Ok.ensures.all.1 in
+    let prepared = rw same at c.in-Ok.ensures.all.1 in
     let slice : length c.as_slice.result.now ≡ length items = ap length same in
     let count : length c.in-Ok.made.items ≡ length items = omega (arith, c.in-Ok.ensures.all.0, slice) in
     record {
@@ -46,8 +34,7 @@ returns-in-Ok g c =
       worked = c.count_all-counts.ensures.worked ∙ ap (λ xs. worked_to (plan_of op_view base xs) (length xs)) counted;
       faultless = prepared_faultless op_view suits base items 0 (length items) c.in-Ok.made.items prepared (omega (arith, count)) (omega arith);
       halted = tt;
-      tally = subst (λ (xs : List (Step Given)). (end : ℕ) × (end ≡ length xs) × RisesBy (62 * evaluated_to (plan_of op_view base xs) end) (1000 * worked_to (plan_of op_view base xs) end) (g.M.Tally.counts c.args.tally.now) (g.M.Tally.counts c.repair_all.new.tally))
-          same c.in-Ok.ensures.tally;
+      tally = rw same at c.in-Ok.ensures.tally;
     }
 
 pub returns-in-Err : goal.returns-in-Err
@@ -57,10 +44,8 @@ returns-in-Err g c =
     let names = c.args.planned.now.names.keys in
     let plan = plan_of op_view base items in
     let same = c.as_slice.ensures.value in
-    let stop : IsStop plan 0 (length names) c.in-Err.stop = subst (λ n. IsStop plan 0 n c.in-Err.stop) (sym c.requires.named) (subst (λ xs. IsStop (plan_of op_view base xs) 0 (length xs) c.in-Err.stop) same c.in-Err.ensures.all) in
-    let phase : (end : ℕ) × IsReachedAt plan items c.in-Err.stop end × RisesBy (62 * evaluated_to plan end) (1000 * worked_to plan end) (g.M.Tally.counts c.args.tally.now) (g.M.Tally.counts c.repair_all.new.tally) =
-    subst (λ (xs : List (Step Given)). (end : ℕ) × IsReachedAt (plan_of op_view base xs) xs c.in-Err.stop end × RisesBy (62 * evaluated_to (plan_of op_view base xs) end) (1000 * worked_to (plan_of op_view base xs) end) (g.M.Tally.counts c.args.tally.now) (g.M.Tally.counts c.repair_all.new.tally))
-    same c.in-Err.ensures.tally in
+    let stop : IsStop plan 0 (length names) c.in-Err.stop = rw c.requires.named (rw same at c.in-Err.ensures.all) in
+    let phase = rw same at c.in-Err.ensures.tally in
     record {
       count = tt;
       made = tt;

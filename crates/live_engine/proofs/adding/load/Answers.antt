@@ -23,8 +23,8 @@ returns-then-not-same_size-clause-accepts g c =
 
 pub returns : goal.returns
 returns g c =
-    let size = size_is c.args.map.now c.args.layer c.extent.result c.same_size.result true c.extent.ensures.extent c.same_size.ensures c.if-not-same_size.false in
-    let adding = load_adding c.args.map.now c.reserve.new.self c.args.name c.reserve.ensures.seen c.requires.plain (sym c.has.ensures ∙ c.if-has.false) c.args.layer size in
+    let adding = load_adding c.args.map.now c.reserve.new.self c.args.name c.reserve.ensures.seen c.requires.plain (sym c.has.ensures ∙ c.if-has.false)
+    c.args.layer _ _ c.extent.ensures.extent c.same_size.ensures c.if-not-same_size.false in
     let own = load c.args.name (grid_of c.args.layer) in
     let drafted = c.drafted-drafted.ensures.drafted own adding in
     record {
@@ -35,8 +35,8 @@ returns g c =
 
 pub carry_out-requires-clause-drafted : goal.carry_out-requires-clause-drafted
 carry_out-requires-clause-drafted g c κs within =
-    let size = size_is c.args.map.now c.args.layer c.extent.result c.same_size.result true c.extent.ensures.extent c.same_size.ensures c.if-not-same_size.false in
-    let adding = load_adding c.args.map.now c.reserve.new.self c.args.name c.reserve.ensures.seen c.requires.plain (sym c.has.ensures ∙ c.if-has.false) c.args.layer size in
+    let adding = load_adding c.args.map.now c.reserve.new.self c.args.name c.reserve.ensures.seen c.requires.plain (sym c.has.ensures ∙ c.if-has.false)
+    c.args.layer _ _ c.extent.ensures.extent c.same_size.ensures c.if-not-same_size.false in
     (of_names (load c.args.name (grid_of c.args.layer)), c.drafted-drafted.ensures.drafted _ adding)
 
 pub drafted-drafted-requires-clause-size : goal.drafted-drafted-requires-clause-size

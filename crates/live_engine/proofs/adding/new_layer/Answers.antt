@@ -1,9 +1,8 @@
-use Rattle.std.proofs.Common.{refl, sym, ap, subst, ◌∙◌}
-use Rattle.layer_tiles.specs.Layers.{LayerState}
+use Rattle.std.proofs.Common.{refl, sym, subst, ◌∙◌}
 use Rattle.map_edits.specs.EditForms.{new_layer}
 use Rattle.map_edits.specs.Refusals.{exists_already}
 use Rattle.map_edits.specs.WholeEdits.{of_names}
-use Rattle.kept_map.specs.Maps.{grid_of, seen}
+use Rattle.kept_map.specs.Maps.{seen}
 use Rattle.live_engine.specs.Accepts.{ReadsWithin}
 use Rattle.live_engine.specs.Inverses.{AcceptsBack}
 use Rattle.live_engine.proofs.Drafting.{new_adding}
@@ -17,8 +16,7 @@ returns-then-has-clause-accepts g c =
 pub returns : goal.returns
 returns g c =
     let own = new_layer c.args.name c.args.cell in
-    let grid = ap (λ (l : LayerState). grid_of l) c.in_ok-layer.ensures in
-    let adding = new_adding c.args.map.now c.reserve.new.self c.args.name c.reserve.ensures.seen c.requires.plain (sym c.has.ensures ∙ c.if-has.false) c.args.cell (grid_of c.in_ok-layer.layer) grid in
+    let adding = new_adding c.args.map.now c.reserve.new.self c.args.name c.reserve.ensures.seen c.requires.plain (sym c.has.ensures ∙ c.if-has.false) c.args.cell c.in_ok-layer.layer _ c.in_ok-layer.ensures in
     let drafted = c.drafted-drafted.ensures.drafted own adding in
     record {
       accepts = subst (λ q. AcceptsBack q (seen c.carry_out.new.map) (of_names own) c.carry_out.result) c.reserve.ensures.seen (c.carry_out.ensures.accepts (of_names own) drafted);
@@ -28,7 +26,5 @@ returns g c =
 
 pub carry_out-requires-clause-drafted : goal.carry_out-requires-clause-drafted
 carry_out-requires-clause-drafted g c κs within =
-    let own = new_layer c.args.name c.args.cell in
-    let grid = ap (λ (l : LayerState). grid_of l) c.in_ok-layer.ensures in
-    let adding = new_adding c.args.map.now c.reserve.new.self c.args.name c.reserve.ensures.seen c.requires.plain (sym c.has.ensures ∙ c.if-has.false) c.args.cell (grid_of c.in_ok-layer.layer) grid in
-    (of_names own, c.drafted-drafted.ensures.drafted own adding)
+    let adding = new_adding c.args.map.now c.reserve.new.self c.args.name c.reserve.ensures.seen c.requires.plain (sym c.has.ensures ∙ c.if-has.false) c.args.cell c.in_ok-layer.layer _ c.in_ok-layer.ensures in
+    (of_names (new_layer c.args.name c.args.cell), c.drafted-drafted.ensures.drafted _ adding)

@@ -5,6 +5,7 @@ use Rattle.kept_map.specs.Maps.{seen}
 use Rattle.kept_map.specs.declared.maps.KeptMap.{KeptMap}
 use Rattle.live_engine.specs.Inverses.{TakesBack}
 use Rattle.live_engine.specs.Notes.{edit_of_note}
+use Rattle.live_engine.specs.declared.inverses.Inverse.TheVariants as inverses
 use Rattle.live_engine.proofs.Noted.{is_noted, count_kept, count_accepted, note_beside, note_back}
 use Rattle.live_engine.proofs.noting.take_note.Goals as goal
 
@@ -19,7 +20,7 @@ returns c =
     record {
       accepts = (
         count_accepted m _ _ kept is c.put.new.map c.count.new.map put.0 c.count.ensures.map c.count.result c.count.ensures.number c.count.ensures.counts,
-        subst (λ (x : KeptMap). TakesBack (seen m) (seen x) (touch_of (edit_of_note note)) c.in_ok-before.before) (sym new) (note_back m note c.in_ok-before.before (raised m.number 1) kept put.1),
+        subst (λ (x : KeptMap). TakesBack (seen m) (seen x) (touch_of (edit_of_note note)) (inverses.Note c.in_ok-before.before)) (sym new) (note_back m note c.in_ok-before.before (raised m.number 1) kept put.1),
       );
       kept = count_kept m _ _ kept is c.put.new.map c.count.new.map put.0 c.count.ensures.map;
     }

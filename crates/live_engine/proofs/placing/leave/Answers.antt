@@ -4,6 +4,7 @@ use Rattle.std.proofs.lemmas.Option.{none-some, same_Some, slice_get-map}
 use Rattle.indexmap.proofs.MapLemmas.{Found-position}
 use Rattle.map_defs.specs.Ops.{Name}
 use Rattle.layer_tiles.specs.Layers.{LayerState}
+use Rattle.map_edits.proofs.Looks.{none_there}
 use Rattle.edit_plans.proofs.Positions.{position_at}
 use Rattle.kept_map.specs.Maps.{source_in}
 use Rattle.kept_map.specs.declared.maps.Item.{Item}
@@ -11,7 +12,6 @@ use Rattle.kept_map.specs.declared.maps.Item.TheVariants.{Source, Statement}
 use Rattle.kept_map.specs.declared.maps.KeptMap.{KeptMap}
 use Rattle.kept_map.proofs.SourceLayers.{source_is_some}
 use Rattle.live_engine.specs.Puts.{stood_as, StoodFor}
-use Rattle.live_engine.proofs.Drafting.{none_where}
 use Rattle.live_engine.proofs.placing.leave.Goals as goal
 
 -- an item that is found stands at the place of its name
@@ -29,7 +29,7 @@ module _ (m : KeptMap) (n : Name) (count : length m.sources.layers.items ≡ len
       → option_map (λ (out : List ℕ × LayerState). out.1) taken ≡ source_in m.sources n → IfSome taken (λ (out : List ℕ × LayerState). out.0 ≡ n) → StoodFor m n (stood_as item taken k)
   stood_for (Statement written flats) taken k at found layer own = stands_at m.names.entries n k (Statement written flats) at found
   stood_for Source (Some (key, l)) k at found layer own = (stands_at m.names.entries n k Source at found, own, sym layer)
-  stood_for Source None k at found layer own = inr (none_where (position (bytes_eq n) m.sources.names.keys) (sym (source_is_some m.sources n count) ∙ ap is_some (sym layer)), found)
+  stood_for Source None k at found layer own = inr (none_there (position (bytes_eq n) m.sources.names.keys) (sym (source_is_some m.sources n count) ∙ ap is_some (sym layer)), found)
 
 pub returns-in-Some-clause-before : goal.returns-in-Some-clause-before
 returns-in-Some-clause-before c =

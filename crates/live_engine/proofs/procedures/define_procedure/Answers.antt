@@ -1,4 +1,4 @@
-use Rattle.std.proofs.Common.{◌≡◌, Option, Some, None, is_some, option_map, option_copied, Bor, refl, sym, ap, ◌∙◌}
+use Rattle.std.proofs.Common.{◌≡◌, Option, is_some, option_map, option_copied, Bor, refl, sym, ap, ◌∙◌, arith}
 use Rattle.statement_parser.specs.declared.procedure.Procedure.{Procedure}
 use Rattle.statement_parser.specs.Procedures.{procedure_view}
 use Rattle.kept_map.specs.Maps.{seen}
@@ -6,8 +6,7 @@ use Rattle.live_engine.proofs.Accepting.{accept_refused}
 use Rattle.live_engine.proofs.procedures.define_procedure.Goals as goal
 
 some_seen : (o : Option (Bor Procedure)) → is_some (option_map procedure_view (option_copied o)) ≡ is_some o
-some_seen None = refl
-some_seen (Some b) = refl
+some_seen o = grind arith
 
 pub returns-then-is_some-clause-accepts : goal.returns-then-is_some-clause-accepts
 returns-then-is_some-clause-accepts c =

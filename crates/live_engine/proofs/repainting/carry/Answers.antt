@@ -3,7 +3,7 @@ use Rattle.edit_plans.specs.SourceCounts.{joined}
 use Rattle.kept_map.specs.Maps.{seen}
 use Rattle.kept_map.specs.Repairs.{counts_view}
 use Rattle.live_engine.specs.Accepts.{Refuses}
-use Rattle.live_engine.proofs.PaintedMaps.{paint_tried, paint_gives, paint_few, paint_settles, paint_put, painted_done, paint_accepted, paint_taken_back}
+use Rattle.live_engine.proofs.PaintedMaps.{set_up, same_plan, paint_few, paint_settles, paint_put, painted_done, paint_accepted, paint_taken_back}
 use Rattle.live_engine.proofs.Accepting.{halted}
 use Rattle.live_engine.proofs.repainting.carry.Goals as goal
 
@@ -12,7 +12,8 @@ unreachable-requires g c = let is = c.requires.draft.2 in c.in_default.not-Some 
 
 pub prepare_kept-requires-clause-set_up : goal.prepare_kept-requires-clause-set_up
 prepare_kept-requires-clause-set_up g c κs within =
-    paint_tried c.args.map.now c.requires.kept _ _ c.args.repaint c.requires.draft.2 _ (sym c.get_index_of.ensures.index ∙ c.in-Some.is) _
+    let at = sym c.get_index_of.ensures.index ∙ c.in-Some.is in
+    (_, _, set_up c.requires.kept c.requires.draft.2 at _, same_plan c.requires.kept c.requires.draft.2 at)
 
 pub returns-in-Err : goal.returns-in-Err
 returns-in-Err g c =
@@ -20,35 +21,33 @@ returns-in-Err g c =
     let at = sym c.get_index_of.ensures.index ∙ c.in-Some.is in
     record {
       carried = λ e grid draft.
-          let halt = paint_gives m c.requires.kept _ _ c.args.repaint draft _ at _ c.in-Err.ensures.halted in
+          let halt = c.in-Err.ensures.halted _ _ (set_up c.requires.kept draft at _) (same_plan c.requires.kept draft at) in
           (refl, subst (Refuses (seen m) (seen m) e) (sym c.refused-refusal.ensures) (halted (seen m) _ e draft.attempt c.in-Err.halt halt));
       before = tt;
       kept = c.requires.kept;
-      reads = λ e grid draft. paint_gives m c.requires.kept _ _ c.args.repaint draft _ at _ c.prepare_kept.ensures.tally;
+      reads = λ e grid draft. c.prepare_kept.ensures.tally _ _ (set_up c.requires.kept draft at _) (same_plan c.requires.kept draft at);
     }
 
 pub joined-counts-requires : goal.joined-counts-requires
 joined-counts-requires g c =
-    let few = paint_few c.args.map.now c.requires.kept _ _ c.args.repaint c.requires.draft.2 _ (sym c.get_index_of.ensures.index ∙ c.in-Some.is) _ c.in-Ok.prepared c.in-Ok.ensures.prepared in
+    let few = paint_few c.requires.kept c.requires.draft.2 (sym c.get_index_of.ensures.index ∙ c.in-Some.is) _ c.in-Ok.prepared c.in-Ok.ensures.prepared in
     record { changed = few.0; evaluated = few.1 }
 
 pub settle-requires : goal.settle-requires
-settle-requires g c =
-    paint_settles c.args.map.now c.requires.kept _ _ c.args.repaint c.requires.draft.2 _ (sym c.get_index_of.ensures.index ∙ c.in-Some.is) _ c.in-Ok.prepared c.in-Ok.ensures.prepared
+settle-requires g c = paint_settles c.requires.kept c.requires.draft.2 (sym c.get_index_of.ensures.index ∙ c.in-Some.is) _ c.in-Ok.prepared c.in-Ok.ensures.prepared
 
 pub put-patch-requires : goal.put-patch-requires
 put-patch-requires g c =
-    paint_put c.args.map.now c.requires.kept _ _ c.args.repaint c.requires.draft.2 _ (sym c.get_index_of.ensures.index ∙ c.in-Some.is) _ c.in-Ok.prepared c.in-Ok.ensures.prepared c.settle.new.map c.settle.ensures
+    paint_put c.requires.kept c.requires.draft.2 (sym c.get_index_of.ensures.index ∙ c.in-Some.is) _ c.in-Ok.prepared c.in-Ok.ensures.prepared c.settle.new.map c.settle.ensures
 
 pub returns : goal.returns
 returns g c =
-    let m = c.args.map.now in
-    let is = c.requires.draft.2 in
+    let kept = c.requires.kept in
     let at = sym c.get_index_of.ensures.index ∙ c.in-Some.is in
     let sum = c.joined-counts.ensures ∙ ap (λ k. joined (record { changed = k; evaluated = c.args.repaint.met; worked = 0 }) (counts_view c.in-Ok.prepared.counts)) c.len.ensures.len in
     record {
-      carried = λ e grid draft. (paint_accepted m c.requires.kept _ _ c.args.repaint draft _ at _ c.in-Ok.prepared c.in-Ok.ensures.prepared _ c.settle.ensures _ c.put-patch.ensures.put c.joined-counts.result sum, refl);
-      before = λ e grid draft. paint_taken_back m c.requires.kept _ _ c.args.repaint draft _ at _ c.in-Ok.prepared c.in-Ok.ensures.prepared _ c.settle.ensures _ c.put-patch.ensures.put c.put-patch.result c.put-patch.ensures.before;
-      kept = (painted_done m c.requires.kept _ _ c.args.repaint is _ at _ c.in-Ok.prepared c.in-Ok.ensures.prepared _ c.settle.ensures _ c.put-patch.ensures.put).0;
-      reads = λ e grid draft. paint_gives m c.requires.kept _ _ c.args.repaint draft _ at _ c.prepare_kept.ensures.tally;
+      carried = λ e grid draft. (paint_accepted kept draft at _ c.in-Ok.prepared c.in-Ok.ensures.prepared _ c.settle.ensures _ c.put-patch.ensures.put c.joined-counts.result sum, refl);
+      before = λ e grid draft. paint_taken_back kept draft at _ c.in-Ok.prepared c.in-Ok.ensures.prepared _ c.settle.ensures _ c.put-patch.ensures.put c.put-patch.result c.put-patch.ensures.before;
+      kept = (painted_done kept c.requires.draft.2 at _ c.in-Ok.prepared c.in-Ok.ensures.prepared _ c.settle.ensures _ c.put-patch.ensures.put).0;
+      reads = λ e grid draft. c.prepare_kept.ensures.tally _ _ (set_up kept draft at _) (same_plan kept draft at);
     }

@@ -6,7 +6,7 @@ use Rattle.kept_map.proofs.SourceLayers.{layer_at, source_at}
 use Rattle.live_engine.specs.Painting.{rectangle_of}
 use Rattle.live_engine.proofs.Drafting.{size_refused}
 use Rattle.live_engine.proofs.Accepting.{accept_refused}
-use Rattle.live_engine.proofs.Unpainted.{paint_outside, paint_looks, paint_reads, paint_draft}
+use Rattle.live_engine.proofs.Unpainted.{paint_outside, paint_reads, paint_draft}
 use Rattle.live_engine.proofs.repainting.drafted.Goals as goal
 
 pub no_source-requires-clause-none : goal.no_source-requires-clause-none
@@ -30,7 +30,7 @@ pub returns-in_err-patch-clause-reads : goal.returns-in_err-patch-clause-reads
 returns-in_err-patch-clause-reads g c =
     let at = sym c.get_index_of.ensures.index ∙ c.in-Some.is in
     let on = sym c.is_within.ensures ∙ c.if-not-is_within.false in
-    paint_reads c.args.map.now c.requires.kept c.args.name c.args.rectangle c.args.cell c.requires.formed.0 c.in-Some.place at c.index-layer.result.now c.index-layer.ensures on _ _ c.changed_by_paint.ensures.tally
+    (paint_reads c.args.map.now c.requires.kept c.args.name c.args.rectangle c.args.cell c.requires.formed.0 _ at c.index-layer.result.now c.index-layer.ensures on _ _ c.changed_by_paint.ensures.tally).0
 
 pub returns : goal.returns
 returns g c =
@@ -39,11 +39,12 @@ returns g c =
     let on = sym c.is_within.ensures ∙ c.if-not-is_within.false in
     let l = c.index-layer.result.now in
     let p = c.in_ok-patch.ensures in
+    let read = paint_reads m c.requires.kept c.args.name c.args.rectangle c.args.cell c.requires.formed.0 _ at l c.index-layer.ensures on _ _ c.changed_by_paint.ensures.tally in
     record {
       drafted = (
         painted m.extent (rectangle_of c.args.rectangle) c.args.cell (grid_of l),
         paint_draft m c.requires.kept c.args.name c.args.rectangle c.args.cell c.requires.formed.0 c.in-Some.place at l c.index-layer.ensures on _ _ p.size p.cells p.operand p.met,
       );
-      reads = paint_reads m c.requires.kept c.args.name c.args.rectangle c.args.cell c.requires.formed.0 c.in-Some.place at l c.index-layer.ensures on _ _ c.changed_by_paint.ensures.tally;
-      looks = paint_looks m c.requires.kept c.args.name c.args.rectangle c.args.cell c.requires.formed.0 c.in-Some.place at l c.index-layer.ensures on _ _ c.changed_by_paint.ensures.tally;
+      reads = read.0;
+      looks = read.1;
     }

@@ -7,7 +7,7 @@ use Rattle.live_engine.proofs.repainting.no_source.Goals as goal
 pub returns-then-has : goal.returns-then-has
 returns-then-has c = λ r cell.
     let m = c.args.map.now in
-    (accept_refused (seen m) _ _ (paint_derived m c.requires.kept c.args.name r cell c.requires.none (sym c.has.ensures ∙ c.if-has.true)), refl)
+    (accept_refused (seen m) _ _ (paint_derived m c.requires.kept c.args.name r cell c.requires.none _ refl (sym c.has.ensures ∙ c.if-has.true)), refl)
 
 pub returns-else-has : goal.returns-else-has
 returns-else-has c = λ r cell.

@@ -1,4 +1,4 @@
-use Rattle.std.proofs.Common.{◌≡◌, Ok, sym, ap, subst, ◌∙◌}
+use Rattle.std.proofs.Common.{◌≡◌, Ok, ap, subst, ◌∙◌}
 use Rattle.map_edits.specs.Pasts.{parts_of}
 use Rattle.map_edits.specs.WholeEdits.{WholeEdit, put_back}
 use Rattle.map_edits.specs.WholeStates.{WholeState}
@@ -20,8 +20,7 @@ back_of m d = put_back (past_of (inverses.Name d) (parts_of (seen m)))
 -- a map that is seen the same takes the same draft
 same_draft : (m roomy : KeptMap) (d : Draft) → seen roomy ≡ seen m → IsKept roomy → Fits m.extent (parts_of (seen m)) (inverses.Name d) → IsDraft roomy (back_of m d) d
 same_draft m roomy d same keeps fits =
-    let there : Fits roomy.extent (parts_of (seen roomy)) (inverses.Name d) = subst (λ (s : WholeState). Fits s.names.size (parts_of s) (inverses.Name d)) (sym same) fits in
-    subst (λ (s : WholeState). IsDraft roomy (put_back (past_of (inverses.Name d) (parts_of s))) d) same (back_draft roomy keeps d there)
+    subst (λ (s : WholeState). Fits s.names.size (parts_of s) (inverses.Name d) → IsDraft roomy (put_back (past_of (inverses.Name d) (parts_of s))) d) same (back_draft roomy keeps d) fits
 
 pub carry-requires-clause-draft : goal.carry-requires-clause-draft
 carry-requires-clause-draft g c κs within =

@@ -2,7 +2,7 @@ use Rattle.std.proofs.Common.{List, sym, subst}
 use Rattle.map_defs.specs.Nodes.{Node}
 use Rattle.statement_graph.specs.Groups.{Group}
 use Rattle.statement_graph.specs.Puts.{FitsAs, flat_nodes}
-use Rattle.kept_map.proofs.Groupings.{graph_with, graph_without}
+use Rattle.kept_map.proofs.Given.{graph_with, graph_without}
 use Rattle.live_engine.proofs.statement_graphs.with_statement.Goals as goal
 
 pub put-requires : goal.put-requires

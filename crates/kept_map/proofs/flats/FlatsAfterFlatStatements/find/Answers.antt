@@ -19,30 +19,26 @@ returns-in-Some c =
 pub returns-in-Some-flat_of_item : goal.returns-in-Some-flat_of_item
 returns-in-Some-flat_of_item c =
     let all = c.args.self.now in
-    let n = c.args.name.now in
     let items = all.names.now.entries in
     let t = YieldsList-turn (YieldsList-from_rest {shows = deref_pair} items c.into_iter-other-iterator.ensures.into_iter_gives.0) c.loop-other.yielded _ c.loop-other.yielded_by _ _ (c.in-Some-2.other, c.in-Some-2.item) c.in-Some-2.is c.next.ensures.steps in
-    sym (found_here all.edited.now n items c.loop-other.yielded (c.in-Some-2.other, c.in-Some-2.item) (c.in-Some-2.other.now, c.in-Some-2.item.now) c.loop-other.invariant t.0 t.1 _
-    (brought_other all.edited.now n (c.in-Some-2.other.now, c.in-Some-2.item.now) (sym c.ne.ensures ∙ c.if-ne.true) ∙ sym c.flat_of_item.ensures ∙ ap (told false) c.in-Some-flat_of_item.is))
-    ∙ after_by all.edited.now n items all.written.now None (sym (ap (told true) (none_where c.flat_among.result c.in_default.not-Some)) ∙ c.flat_among.ensures true)
+    sym (found_here _ _ items c.loop-other.yielded (c.in-Some-2.other, c.in-Some-2.item) (c.in-Some-2.other.now, c.in-Some-2.item.now) c.loop-other.invariant t.0 t.1 _
+    (brought_other _ _ (c.in-Some-2.other.now, c.in-Some-2.item.now) (sym c.ne.ensures ∙ c.if-ne.true) ∙ sym c.flat_of_item.ensures ∙ ap (told false) c.in-Some-flat_of_item.is))
+    ∙ after_by all.edited.now _ items all.written.now None (sym (ap (told true) (none_where c.flat_among.result c.in_default.not-Some)) ∙ c.flat_among.ensures true)
 
 pub loop-other-preserved-in_default-flat_of_item : goal.loop-other-preserved-in_default-flat_of_item
 loop-other-preserved-in_default-flat_of_item c =
-    let all = c.args.self.now in
-    let n = c.args.name.now in
-    let items = all.names.now.entries in
+    let items = c.args.self.now.names.now.entries in
     let t = YieldsList-turn (YieldsList-from_rest {shows = deref_pair} items c.into_iter-other-iterator.ensures.into_iter_gives.0) c.loop-other.yielded _ c.loop-other.yielded_by _ _ (c.in-Some-2.other, c.in-Some-2.item) c.in-Some-2.is c.next.ensures.steps in
-    found_later all.edited.now n items c.loop-other.yielded (c.in-Some-2.other, c.in-Some-2.item) (c.in-Some-2.other.now, c.in-Some-2.item.now) c.loop-other.invariant t.0 t.1
-    (brought_other all.edited.now n (c.in-Some-2.other.now, c.in-Some-2.item.now) (sym c.ne.ensures ∙ c.if-ne.true) ∙ sym c.flat_of_item.ensures ∙ ap (told false) (none_where c.flat_of_item.result c.in_default-flat_of_item.not-Some))
+    found_later _ _ items c.loop-other.yielded (c.in-Some-2.other, c.in-Some-2.item) (c.in-Some-2.other.now, c.in-Some-2.item.now) c.loop-other.invariant t.0 t.1
+    (brought_other _ _ (c.in-Some-2.other.now, c.in-Some-2.item.now) (sym c.ne.ensures ∙ c.if-ne.true) ∙ sym c.flat_of_item.ensures
+    ∙ ap (told false) (none_where c.flat_of_item.result c.in_default-flat_of_item.not-Some))
 
 pub loop-other-preserved : goal.loop-other-preserved
 loop-other-preserved c =
-    let all = c.args.self.now in
-    let n = c.args.name.now in
-    let items = all.names.now.entries in
+    let items = c.args.self.now.names.now.entries in
     let t = YieldsList-turn (YieldsList-from_rest {shows = deref_pair} items c.into_iter-other-iterator.ensures.into_iter_gives.0) c.loop-other.yielded _ c.loop-other.yielded_by _ _ (c.in-Some-2.other, c.in-Some-2.item) c.in-Some-2.is c.next.ensures.steps in
-    found_later all.edited.now n items c.loop-other.yielded (c.in-Some-2.other, c.in-Some-2.item) (c.in-Some-2.other.now, c.in-Some-2.item.now) c.loop-other.invariant t.0 t.1
-    (brought_edited all.edited.now n (c.in-Some-2.other.now, c.in-Some-2.item.now) (sym c.ne.ensures ∙ c.if-ne.false))
+    found_later _ _ items c.loop-other.yielded (c.in-Some-2.other, c.in-Some-2.item) (c.in-Some-2.other.now, c.in-Some-2.item.now) c.loop-other.invariant t.0 t.1
+    (brought_edited _ _ (c.in-Some-2.other.now, c.in-Some-2.item.now) (sym c.ne.ensures ∙ c.if-ne.false))
 
 pub returns : goal.returns
 returns c =

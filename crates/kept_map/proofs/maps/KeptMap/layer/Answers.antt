@@ -2,7 +2,7 @@ use Rattle.std.proofs.Common.{◌≡◌, ◌<◌, length, None, Some, position, 
 use Rattle.std.proofs.lemmas.Option.{slice_get_read}
 use Rattle.map_defs.specs.Nodes.{missing}
 use Rattle.edit_plans.proofs.There.{none_where}
-use Rattle.kept_map.proofs.LayersByName.{source_told, statement_told, nothing_told, graph_nodes, copied_now}
+use Rattle.kept_map.proofs.LayersByName.{source_told, statement_told, nothing_told, graph_nodes}
 use Rattle.kept_map.proofs.maps.KeptMap.layer.Goals as goal
 
 pub returns-in-Some-clause-tells : goal.returns-in-Some-clause-tells
@@ -30,5 +30,5 @@ returns-in-None-clause-tells c =
     let absent : position (bytes_eq n) m.sources.names.keys ≡ None = sym c.get_index_of.ensures.index ∙ none_where c.get_index_of.result c.in_default.not-Some in
     let unplanned : position (bytes_eq n) m.planned.names.keys ≡ None = sym c.get_index_of-2.ensures.index ∙ c.in-None.is in (
       nothing_told m c.requires n absent unplanned,
-      ap (λ nodes. missing nodes n) (sym (graph_nodes m c.requires n)) ∙ sym c.missing.ensures ∙ copied_now c.missing.result,
+      ap (λ nodes. missing nodes n) (sym (graph_nodes m c.requires n)) ∙ sym c.missing.ensures,
     )
